@@ -1,0 +1,39 @@
+-- Reading and storing in an array.
+use Prim.Native.Nat.{ℕ, zero, suc, _<_, _≤_}
+use mathlib.Core.Path.{_≡_, refl, sym, subst, _∙_}
+use mathlib.Core.List.{List, [], _∷_, map}
+use native.Mathlib.Nat.{not-suc-le-zero, le-of-suc-le-suc}
+use native.Mathlib.Omega.{arith}
+use native.Mathlib.Decide.{ℕ-discrete}
+use borrow.Author.Needs.{needs}
+use lib.ListN.{length, getD, set, length-map, List·getD-eq-default}
+use lib.Seq.{getD-set-same, getD-set-other}
+
+module _ {A : Type 0} where
+  -- inside, what is read past the end does not matter
+  pub read-in : (l : List A) (i n : ℕ) (d e : A) → length l ≡ n → i < n → getD l i d ≡ getD l i e
+  read-in [] i n d e q b = absurd (let z : 0 ≡ n = q in omega arith)
+  read-in (x ∷ l) zero n d e q b = refl
+  read-in (x ∷ l) (suc i) zero d e q b = absurd (not-suc-le-zero b)
+  read-in (x ∷ l) (suc i) (suc n) d e q b = read-in l i n d e (let q′ : suc (length l) ≡ suc n = q in omega arith) (le-of-suc-le-suc b)
+
+  -- past the end it is what is said to stand there
+  pub read-past : (l : List A) (i n : ℕ) (d : A) → length l ≡ n → n ≤ i → d ≡ getD l i d
+  read-past l i n d q b = sym (List·getD-eq-default l d (omega arith))
+
+  stored-at : (P : A → Type 0) (l : List A) (i : ℕ) (v d : A) (k : ℕ) → Dec (k ≡ i) → i < length l → (k < i → P (getD l k d)) → P v → k < suc i
+      → P (getD (set l i v) k d)
+  stored-at P l i v d k (yes e) h f p q = subst (λ (j : ℕ). P (getD (set l i v) j d)) (sym e) (subst P (sym (getD-set-same l i v d h)) p)
+  stored-at P l i v d k (no e) h f p q = subst P (sym (getD-set-other l i k v d e)) (f (omega arith))
+
+  -- what holds of each entry below i holds of each up to i once such a one is stored there
+  pub stored : (P : A → Type 0) (l : List A) (i : ℕ) (v d : A) → i < length l → ((k : ℕ) → k < i → P (getD l k d)) → P v
+      → (k : ℕ) → k < suc i → P (getD (set l i v) k d)
+  stored P l i v d h f p k q = stored-at P l i v d k (ℕ-discrete k i) h (f k) p q
+
+-- the length of an array of structs, as the rule for the array has it
+pub length-mapped : (X Y : Type 0) (f : X → Y) (l : List X) (n : ℕ) → length (map f l) ≡ n → length l ≡ n
+length-mapped X Y f l n e = sym (length-map l f) ∙ e
+
+-- for reads that ask nothing
+pub ruleset totals = (needs, length-mapped, read-in, read-past)

@@ -1,0 +1,38 @@
+-- A choice, by the test that decides it.
+use Prim.Native.Nat.{ℕ, _<_, _≤_}
+use mathlib.Core.Path.{_≡_, refl, sym, _∙_}
+use mathlib.Core.Bool.{Bool, true, false}
+use lib.Dec.{eqb, ltb, leb}
+use borrow.Author.Needs.{needs}
+use borrow.Author.Tests.{lt-ltb, le-ltb, le-leb, lt-leb, eq-eqb, ne-eqb}
+use Rattle.laws.specs.Choice.{if_then_else_}
+
+module _ {A : Type 0} where
+  pub if-true : (t : Bool) (x y r : A) → t ≡ true → r ≡ x → r ≡ if t then x else y
+  unfolding if_then_else_
+  if-true t x y r e q = rw e q
+
+  pub if-false : (t : Bool) (x y r : A) → t ≡ false → r ≡ y → r ≡ if t then x else y
+  unfolding if_then_else_
+  if-false t x y r e q = rw e q
+
+  pub if-eq : (m n : ℕ) (x y r : A) → m ≡ n → r ≡ x → r ≡ if eqb m n then x else y
+  if-eq m n x y r e q = if-true (eqb m n) x y r (eq-eqb m n e) q
+
+  pub if-ne : (m n : ℕ) (x y r : A) → (m ≡ n → ⊥) → r ≡ y → r ≡ if eqb m n then x else y
+  if-ne m n x y r e q = if-false (eqb m n) x y r (ne-eqb m n e) q
+
+  pub if-lt : (m n : ℕ) (x y r : A) → m < n → r ≡ x → r ≡ if ltb m n then x else y
+  if-lt m n x y r e q = if-true (ltb m n) x y r (lt-ltb m n e) q
+
+  pub if-ge : (m n : ℕ) (x y r : A) → n ≤ m → r ≡ y → r ≡ if ltb m n then x else y
+  if-ge m n x y r e q = if-false (ltb m n) x y r (le-ltb m n e) q
+
+  -- what holds of x and of y, each where the test chooses it, holds of the choice
+  pub if-both : (P : A → Type 0) (t : Bool) {x y : A} → (t ≡ true → P x) → (t ≡ false → P y) → P (if t then x else y)
+  unfolding if_then_else_
+  if-both P true f g = f refl
+  if-both P false f g = g refl
+
+-- for chains of tests with early returns
+pub ruleset choices = (needs, if-true, if-false, if-eq, if-ne, if-lt, if-ge)

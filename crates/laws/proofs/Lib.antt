@@ -1,0 +1,6 @@
+pub mod Choice
+pub mod Tests
+pub mod Loops
+pub mod Tables
+pub mod Arrays
+pub mod Only

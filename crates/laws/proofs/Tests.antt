@@ -1,0 +1,136 @@
+-- What a test says of its parts, and what the parts say of the test.
+use Prim.Native.Nat.{ℕ, zero, suc, _+_, _<_, _≤_}
+use mathlib.Core.Path.{_≡_, refl, sym, ap, ap₂, subst, _∙_}
+use mathlib.Core.Bool.{Bool, true, false, not, _&&_, _||_, true≢false, false≢true}
+use mathlib.Core.List.{List, [], _∷_}
+use mathlib.Core.Logic.{_⊎_, inl, inr, ⊎-elim}
+use native.Mathlib.Nat.{not-suc-le-zero}
+use native.Mathlib.Omega.{arith}
+use native.Mathlib.Decide.{ℕ-discrete}
+use lib.ListN.{getD}
+use Rattle.laws.specs.Tests.{_and_, _or_, implies, every, all, any}
+
+-- ---- two tests
+
+pub and-left : (a b : Bool) → a and b ≡ true → a ≡ true
+unfolding _and_
+and-left true b e = refl
+and-left false b e = e
+
+pub and-right : (a b : Bool) → a and b ≡ true → b ≡ true
+unfolding _and_
+and-right true b e = e
+and-right false b e = absurd (false≢true e)
+
+pub and-both : (a b : Bool) → a ≡ true → b ≡ true → a and b ≡ true
+unfolding _and_
+and-both a b p q = rw (p, q)
+
+pub or-cases : (a b : Bool) → a or b ≡ true → (a ≡ true) ⊎ (b ≡ true)
+unfolding _or_
+or-cases true b e = inl refl
+or-cases false b e = inr e
+
+pub or-left : (a b : Bool) → a ≡ true → a or b ≡ true
+unfolding _or_
+or-left a b p = rw p
+
+pub or-right : (a b : Bool) → b ≡ true → a or b ≡ true
+unfolding _or_
+or-right true b p = refl
+or-right false b p = p
+
+pub implied : (a b : Bool) → implies a b ≡ true → a ≡ true → b ≡ true
+unfolding implies
+implied true b e p = e
+implied false b e p = absurd (false≢true p)
+
+pub implies-from : (a b : Bool) → (a ≡ true → b ≡ true) → implies a b ≡ true
+unfolding implies
+implies-from true b f = f refl
+implies-from false b f = refl
+
+-- a test and its opposite do not both hold
+pub not-both {ℓ} : {A : Type ℓ} {b : Bool} → b ≡ true → b ≡ false → A
+not-both p q = absurd (true≢false (sym p ∙ q))
+
+-- a test that cannot hold fails
+pub fails-from : (b : Bool) → (b ≡ true → ⊥) → b ≡ false
+fails-from true f = absurd (f refl)
+fails-from false f = refl
+
+pub fails-not : (b : Bool) → b ≡ false → not b ≡ true
+fails-not b e = ap not e
+
+-- two tests of which each holds where the other does are one
+pub same-test : (a b : Bool) → (a ≡ true → b ≡ true) → (b ≡ true → a ≡ true) → a ≡ b
+same-test true b f g = sym (f refl)
+same-test false true f g = g refl
+same-test false false f g = refl
+
+-- ---- a list of tests
+
+pub every-at : (bs : List Bool) → every bs ≡ true → (k : ℕ) → getD bs k true ≡ true
+unfolding every
+every-at [] e k = refl
+every-at (true ∷ bs) e zero = refl
+every-at (false ∷ bs) e zero = e
+every-at (true ∷ bs) e (suc k) = every-at bs e k
+every-at (false ∷ bs) e (suc k) = absurd (false≢true e)
+
+pub every-none : every [] ≡ true
+unfolding every
+every-none = refl
+
+pub every-more : (b : Bool) (bs : List Bool) → b ≡ true → every bs ≡ true → every (b ∷ bs) ≡ true
+unfolding every
+every-more b bs p q = rw (p, q)
+
+-- ---- tests over 0 .. n - 1
+
+-- what holds at n, and at k where that is below n, holds at each k up to n
+up-to : (P : ℕ → Type 0) (n k : ℕ) → Dec (k ≡ n) → P n → (k < n → P k) → k < suc n → P k
+up-to P n k (yes q) p h l = subst P (sym q) p
+up-to P n k (no q) p h l = h (omega arith)
+
+pub all-at : (n : ℕ) (p : ℕ → Bool) → all n p ≡ true → (k : ℕ) → k < n → p k ≡ true
+unfolding all _and_
+all-at zero p e k l = absurd (not-suc-le-zero l)
+all-at (suc n) p e k l =
+    up-to (λ j. p j ≡ true) n k (ℕ-discrete k n) (and-right (all n p) (p n) e) (all-at n p (and-left (all n p) (p n) e) k) l
+
+pub all-from : (n : ℕ) (p : ℕ → Bool) → ((k : ℕ) → k < n → p k ≡ true) → all n p ≡ true
+unfolding all
+all-from zero p h = refl
+all-from (suc n) p h = rw (all-from n p (λ k l. h k (omega arith)), h n (omega arith))
+
+pub any-at : (n : ℕ) (p : ℕ → Bool) (k : ℕ) → k < n → p k ≡ true → any n p ≡ true
+unfolding any _or_
+any-at zero p k l e = absurd (not-suc-le-zero l)
+any-at (suc n) p k l e =
+    up-to (λ j. p j ≡ true → any n p or p n ≡ true) n k (ℕ-discrete k n) (or-right (any n p) (p n))
+    (λ b s. or-left (any n p) (p n) (any-at n p k b s)) l e
+
+pub any-none : (n : ℕ) (p : ℕ → Bool) → any n p ≡ false → (k : ℕ) → k < n → p k ≡ false
+any-none n p e k l = fails-from (p k) (λ t. not-both (any-at n p k l t) e)
+
+pub any-some : (n : ℕ) (p : ℕ → Bool) → any n p ≡ true → (k : ℕ) × (k < n) × (p k ≡ true)
+unfolding any _or_
+any-some zero p e = absurd (false≢true e)
+any-some (suc n) p e =
+    ⊎-elim (λ (t : any n p ≡ true). let f = any-some n p t in (f .0, omega arith, f .2)) (λ (t : p n ≡ true). (n, omega arith, t)) (or-cases (any n p) (p n) e)
+
+-- where none holds, the test fails
+pub any-fails : (n : ℕ) (p : ℕ → Bool) → ((k : ℕ) → k < n → p k ≡ true → ⊥) → any n p ≡ false
+any-fails n p h = fails-from (any n p) (λ e. let f = any-some n p e in h (f .0) (f .1) (f .2))
+
+-- two tests that agree at each of 0 .. n - 1
+pub any-same : (n : ℕ) (p q : ℕ → Bool) → ((k : ℕ) → k < n → p k ≡ q k) → any n p ≡ any n q
+unfolding any
+any-same zero p q h = refl
+any-same (suc n) p q h = rw (any-same n p q (λ k l. h k (omega arith)), h n (omega arith))
+
+pub all-same : (n : ℕ) (p q : ℕ → Bool) → ((k : ℕ) → k < n → p k ≡ q k) → all n p ≡ all n q
+unfolding all
+all-same zero p q h = refl
+all-same (suc n) p q h = rw (all-same n p q (λ k l. h k (omega arith)), h n (omega arith))
