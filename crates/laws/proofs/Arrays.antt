@@ -18,8 +18,8 @@ module _ {A : Type 0} where
   read-in (x ∷ l) (suc i) (suc n) d e q b = read-in l i n d e (let q′ : suc (length l) ≡ suc n = q in omega arith) (le-of-suc-le-suc b)
 
   -- past the end it is what is said to stand there
-  pub read-past : (l : List A) (i n : ℕ) (d : A) → length l ≡ n → n ≤ i → d ≡ getD l i d
-  read-past l i n d q b = sym (List·getD-eq-default l d (omega arith))
+  pub read-past : (l : List A) (i n : ℕ) (d r : A) → length l ≡ n → n ≤ i → r ≡ d → r ≡ getD l i d
+  read-past l i n d r q b e = e ∙ sym (List·getD-eq-default l d (omega arith))
 
   stored-at : (P : A → Type 0) (l : List A) (i : ℕ) (v d : A) (k : ℕ) → Dec (k ≡ i) → i < length l → (k < i → P (getD l k d)) → P v → k < suc i
       → P (getD (set l i v) k d)

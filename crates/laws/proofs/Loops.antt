@@ -25,8 +25,8 @@ module _ (n : ℕ) (p : ℕ → Bool) where
   unfolding Held all
   held-on i h l e q = (omega arith, rw (add-one, h .1, ← e) (not-false _ q))
 
-  pub all-stops : (i : ℕ) {b : Bool} → i < n → b ≡ p i → not b ≡ true → false ≡ all n p
-  all-stops i l e q = sym (fails-from (all n p) (λ t. not-both (all-at n p t i l) (sym e ∙ not-true _ q)))
+  pub all-stops : (i : ℕ) {b : Bool} → Held n p i → i < n → b ≡ p i → not b ≡ true → false ≡ all n p
+  all-stops i h l e q = sym (fails-from (all n p) (λ t. not-both (all-at n p t i l) (sym e ∙ not-true _ q)))
 
   pub all-done : (i : ℕ) → Held n p i → n ≤ i → true ≡ all n p
   unfolding Held
@@ -46,8 +46,8 @@ module _ (n : ℕ) (p : ℕ → Bool) where
   unfolding Failed any
   failed-on i h l e q = (omega arith, rw (add-one, h .1, ← e) q)
 
-  pub any-stops : (i : ℕ) {b : Bool} → i < n → b ≡ p i → b ≡ true → true ≡ any n p
-  any-stops i l e q = sym (any-at n p i l (sym e ∙ q))
+  pub any-stops : (i : ℕ) {b : Bool} → Failed n p i → i < n → b ≡ p i → b ≡ true → true ≡ any n p
+  any-stops i h l e q = sym (any-at n p i l (sym e ∙ q))
 
   pub any-done : (i : ℕ) → Failed n p i → n ≤ i → false ≡ any n p
   unfolding Failed

@@ -71,20 +71,20 @@ same-test false false f g = refl
 -- ---- a list of tests
 
 pub every-at : (bs : List Bool) → every bs ≡ true → (k : ℕ) → getD bs k true ≡ true
-unfolding every
+unfolding every _and_
 every-at [] e k = refl
-every-at (true ∷ bs) e zero = refl
-every-at (false ∷ bs) e zero = e
-every-at (true ∷ bs) e (suc k) = every-at bs e k
-every-at (false ∷ bs) e (suc k) = absurd (false≢true e)
+every-at (b ∷ []) e zero = e
+every-at (b ∷ []) e (suc k) = refl
+every-at (b ∷ c ∷ bs) e zero = and-left b (every (c ∷ bs)) e
+every-at (b ∷ c ∷ bs) e (suc k) = every-at (c ∷ bs) (and-right b (every (c ∷ bs)) e) k
 
-pub every-none : every [] ≡ true
+pub every-one : (b : Bool) → b ≡ true → every (b ∷ []) ≡ true
 unfolding every
-every-none = refl
+every-one b p = p
 
-pub every-more : (b : Bool) (bs : List Bool) → b ≡ true → every bs ≡ true → every (b ∷ bs) ≡ true
+pub every-more : (b c : Bool) (bs : List Bool) → b ≡ true → every (c ∷ bs) ≡ true → every (b ∷ c ∷ bs) ≡ true
 unfolding every
-every-more b bs p q = rw (p, q)
+every-more b c bs p q = rw (p, q)
 
 -- ---- tests over 0 .. n - 1
 

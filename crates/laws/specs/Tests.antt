@@ -20,7 +20,8 @@ implies a b = not a || b
 -- all of a list hold
 unfoldable pub every : List Bool → Bool
 every [] = true
-every (b ∷ bs) = b && every bs
+every (b ∷ []) = b
+every (b ∷ c ∷ bs) = b && every (c ∷ bs)
 
 -- p holds at each of 0 .. n - 1
 unfoldable pub all : ℕ → (ℕ → Bool) → Bool

@@ -1,0 +1,18 @@
+-- Each before i refers to an object.
+use Prim.Native.Nat.{_-_}
+use lib.Dec.{ltb}
+use lib.ListN.{getD}
+use Rattle.laws.proofs.Loops.{Held, alls}
+use Rattle.track.specs.Lists.{referring}
+use Rattle.track.proofs.all_refer.Statement.{statement}
+use Rattle.track.proofs.all_refer.Tie as tie
+
+abbrev Inv-loop : tie.InvT-loop
+Inv-loop xs n objects i₀ i = Held n (λ k. ltb (getD xs k 0) objects) i
+
+abbrev μ-loop : tie.MeasureT-loop
+μ-loop xs n objects i₀ i = n - i
+
+pub all-refer-spec : {M : Type 1} → statement M
+unfolding referring
+all-refer-spec = tie.close (tie.spec Inv-loop μ-loop (λ c. search alls) (λ c κs. search alls) (λ c. search alls) (λ c. search alls) (λ c. search alls) (λ c. search alls) (λ c. search alls))

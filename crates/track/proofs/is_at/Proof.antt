@@ -1,0 +1,7 @@
+-- The result is the test itself, on the entry read.
+use borrow.Author.Needs.{needs}
+use Rattle.track.proofs.is_at.Statement.{statement}
+use Rattle.track.proofs.is_at.Tie as tie
+
+pub is-at-spec : {M : Type 1} → statement M
+is-at-spec = tie.close (tie.spec (λ c κs. search needs) (λ c. cc))

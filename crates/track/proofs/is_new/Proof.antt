@@ -1,0 +1,7 @@
+-- The search's answer, turned round.
+use borrow.Author.Needs.{needs}
+use Rattle.track.proofs.is_new.Statement.{statement}
+use Rattle.track.proofs.is_new.Tie as tie
+
+pub is-new-spec : {M : Type 1} → statement M
+is-new-spec = tie.close (tie.spec (λ c κs. search needs) (λ c κs. search needs) (λ c. cc))

@@ -1,0 +1,49 @@
+-- Lines and routes by their numbers (section 2).
+use Prim.Native.Nat.{ℕ}
+use mathlib.Core.List.{List}
+use lib.ListN.{getD, replicate}
+use lib.Dec.{eqb}
+use Rattle.laws.specs.Choice.{if_then_else_}
+use Rattle.track.specs.declared.Line.{Line}
+use Rattle.track.specs.declared.Route.{Route}
+
+-- a list of eight with nothing in it
+abbrev none8 : List ℕ
+none8 = replicate 8 0
+
+-- a line of nothing
+unfoldable pub noLine : Line
+noLine = record { blocks = 0; block = none8; innera = 0; innerb = 0; entrancea = 0; entranceb = 0; points = 0; point = none8; position = none8 }
+
+-- a route of nothing
+unfoldable pub noRoute : Route
+noRoute = record {
+  entry = 0;
+  kind = 0;
+  line = 0;
+  end = 0;
+  diverging = 0;
+  paths = 0;
+  path = none8;
+  overlaps = 0;
+  overlap = none8;
+  points = 0;
+  point = none8;
+  position = none8;
+}
+
+-- the line l
+unfoldable pub line : List Line → ℕ → Line
+line ls l = getD ls l noLine
+
+-- the route r
+unfoldable pub route : List Route → ℕ → Route
+route rs r = getD rs r noRoute
+
+-- a line's inner section at an end: 0 is A, 1 is B
+unfoldable pub inner : Line → ℕ → ℕ
+inner a e = if eqb e 0 then a .innera else a .innerb
+
+-- a line's entrance signal at an end
+unfoldable pub entrance : Line → ℕ → ℕ
+entrance a e = if eqb e 0 then a .entrancea else a .entranceb
