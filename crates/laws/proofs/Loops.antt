@@ -59,9 +59,9 @@ unfoldable pub Turned : {A : Type 0} → ℕ → (ℕ → A → A) → A → A �
 Turned n f a b i = (i ≤ n) × (b ≡ iter f i a)
 
 module _ {A : Type 0} (n : ℕ) (f : ℕ → A → A) (a : A) where
-  pub turn-start : Turned n f a a 0
+  pub turn-start : (b : A) → b ≡ a → Turned n f a b 0
   unfolding Turned iter
-  turn-start = (omega arith, refl)
+  turn-start b e = (omega arith, e)
 
   pub turn-on : (b c : A) (i : ℕ) → Turned n f a b i → i < n → c ≡ f i b → Turned n f a c (i + 1)
   unfolding Turned iter

@@ -1,0 +1,56 @@
+-- The cases of a reading, each from the facts that choose it.
+use Prim.Native.Nat.{ℕ, _+_, _<_, _≤_}
+use mathlib.Core.Path.{_≡_, refl, sym, ap, subst, _∙_}
+use mathlib.Core.Bool.{Bool, true, false}
+use mathlib.Core.List.{List}
+use native.Mathlib.Omega.{arith}
+use borrow.Author.Needs.{needs}
+use borrow.Author.Tests.{ltb-true, ltb-false, eqb-true, eqb-false}
+use lib.Dec.{ltb, eqb}
+use lib.ListN.{length, set}
+use lib.Seq.{set-out}
+use Rattle.laws.proofs.Choice.{if-eq, if-ne, if-lt, if-ge, if-both}
+use Rattle.numbers.specs.declared.Number.{Number}
+use Rattle.numbers.specs.declared.Number.the-variants.{Value, Fault}
+use Rattle.numbers.specs.Number.{numberAt}
+use Rattle.fields.specs.declared.Cursor.{Cursor}
+use Rattle.fields.specs.Fields.{failed, judge, field, code, reference}
+
+-- ---- what was read, by cases
+
+module _ (n : Number) (at low limit fault : ℕ) (r : Cursor) where
+  pub judge-low : {v next : ℕ} → n ≡ Value v next → v < low → r ≡ failed at fault → r ≡ judge n at low limit fault
+  unfolding judge
+  judge-low e h q = rw e (if-lt _ _ _ _ r h q)
+
+  pub judge-in : {v next : ℕ} → n ≡ Value v next → low ≤ v → v < limit → r ≡ record { at = next; fault = 0; value = v } → r ≡ judge n at low limit fault
+  unfolding judge
+  judge-in e h l q = rw e (if-ge _ _ _ _ r h (if-lt _ _ _ _ r l q))
+
+  pub judge-high : {v next : ℕ} → n ≡ Value v next → low ≤ v → limit ≤ v → r ≡ failed at fault → r ≡ judge n at low limit fault
+  unfolding judge
+  judge-high e h l q = rw e (if-ge _ _ _ _ r h (if-ge _ _ _ _ r l q))
+
+  pub judge-fault : {number place : ℕ} → n ≡ Fault number place → r ≡ failed place number → r ≡ judge n at low limit fault
+  unfolding judge
+  judge-fault e q = rw e q
+
+pub ruleset judges = (needs, judge-low, judge-in, judge-high, judge-fault)
+
+-- ---- the next number, by cases
+
+module _ (s : List ℕ) (c : Cursor) (low limit fault : ℕ) (r : Cursor) where
+  pub field-kept : (c .fault ≡ 0 → ⊥) → r ≡ failed (c .at) (c .fault) → r ≡ field s c low limit fault
+  unfolding field
+  field-kept h q = if-ne _ _ _ _ r h q
+
+  pub field-read : (n : Number) → c .fault ≡ 0 → n ≡ numberAt s (c .at) → r ≡ judge n (c .at) low limit fault → r ≡ field s c low limit fault
+  unfolding field
+  field-read n h e q = if-eq _ _ _ _ r h (rw (← e) q)
+
+pub ruleset readings = (needs, field-kept, field-read)
+
+-- ---- a store that asks nothing
+
+pub put-past : {A : Type 0} (l : List A) (i n : ℕ) (x : A) → length l ≡ n → n ≤ i → l ≡ set l i x
+put-past l i n x q b = sym (set-out l i x (omega arith))

@@ -1,0 +1,9 @@
+-- One read and one store.
+use borrow.Author.Needs.{needs}
+use Rattle.fields.specs.Lists.{itemTurn}
+use Rattle.fields.proofs.item.Statement.{statement}
+use Rattle.fields.proofs.item.Tie as tie
+
+pub item-spec : {M : Type 1} → statement M
+unfolding itemTurn
+item-spec = tie.close (tie.spec (λ c κs. search needs) (λ c κs. search needs) (λ c. cc))

@@ -1,0 +1,79 @@
+-- The cases of the number form, each from the facts that choose it.
+use Prim.Native.Nat.{ℕ, zero, suc, _+_, _-_, _*_, _<_, _≤_}
+use mathlib.Core.Path.{_≡_, refl, sym, _∙_}
+use mathlib.Core.List.{List}
+use native.Mathlib.Nat.{not-suc-le-zero}
+use native.Mathlib.Numerals.{sub-one}
+use native.Mathlib.Omega.{arith}
+use lib.ListN.{length, getD}
+use borrow.Author.Needs.{needs}
+use Rattle.laws.proofs.Choice.{choices, if-eq, if-ne, if-lt, if-ge}
+use Rattle.numbers.specs.declared.Number.{Number}
+use Rattle.numbers.specs.declared.Number.the-variants.{Value, Fault}
+use Rattle.numbers.specs.Number.{joined, groupsAt, atMost, numberAt, largest, maxGroups}
+
+module _ (first low : ℕ) (n : Number) where
+  -- the groups after a group are 0
+  pub joined-zero : {v next : ℕ} → n ≡ Value v next → v ≡ 0 → Fault 22 first ≡ joined first low n
+  unfolding joined
+  joined-zero e z = rw e (search choices)
+
+  -- the groups after a group are a number
+  pub joined-value : {v next : ℕ} → n ≡ Value v next → (v ≡ 0 → ⊥) → Value (low + 128 * v) next ≡ joined first low n
+  unfolding joined
+  joined-value e z = rw e (search choices)
+
+  -- the groups after a group have a fault
+  pub joined-fault : {m at : ℕ} → n ≡ Fault m at → Fault m at ≡ joined first low n
+  unfolding joined
+  joined-fault e = rw e
+
+module _ (limit first : ℕ) (n : Number) where
+  -- a number that is too large
+  pub most-over : {v next : ℕ} → n ≡ Value v next → limit < v → Fault 22 first ≡ atMost limit first n
+  unfolding atMost
+  most-over e l = rw e (search choices)
+
+  -- a number that is not
+  pub most-within : {v next : ℕ} → n ≡ Value v next → v ≤ limit → Value v next ≡ atMost limit first n
+  unfolding atMost
+  most-within e l = rw e (search choices)
+
+  -- a fault stays
+  pub most-fault : {m at : ℕ} → n ≡ Fault m at → Fault m at ≡ atMost limit first n
+  unfolding atMost
+  most-fault e = rw e
+
+module _ (s : List ℕ) (first at : ℕ) where
+  -- no more bytes may be taken
+  pub groups-none : (k : ℕ) → k ≡ 0 → Fault 22 first ≡ groupsAt k s first at
+  unfolding groupsAt
+  groups-none k e = rw e
+
+  -- the string ends
+  pub groups-end : (k : ℕ) → (k ≡ 0 → ⊥) → length s ≤ at → Fault 21 first ≡ groupsAt k s first at
+  unfolding groupsAt
+  groups-end zero h l = absurd (h refl)
+  groups-end (suc k) h l = search choices
+
+  -- a last byte
+  pub groups-last : (k byte : ℕ) → (k ≡ 0 → ⊥) → at < length s → byte ≡ getD s at 0 → getD s at 0 < 128
+      → Value byte (at + 1) ≡ groupsAt k s first at
+  unfolding groupsAt
+  groups-last zero byte h l e b = absurd (h refl)
+  groups-last (suc k) byte h l e b = rw e (search choices)
+
+  -- a byte that is not the last
+  pub groups-more : (k low : ℕ) (rest n : Number) → (k ≡ 0 → ⊥) → at < length s → 128 ≤ getD s at 0 → low ≡ getD s at 0 - 128
+      → rest ≡ groupsAt (k - 1) s first (at + 1) → n ≡ joined first low rest → n ≡ groupsAt k s first at
+  unfolding groupsAt
+  groups-more zero low rest n h l b e f g = absurd (h refl)
+  groups-more (suc k) low rest n h l b e f g = rw (g, e, f, sub-one) (search choices)
+
+-- a number of one byte
+pub number-short : (s : List ℕ) (at byte : ℕ) → at < length s → byte ≡ getD s at 0 → getD s at 0 < 128 → Value byte (at + 1) ≡ numberAt s at
+unfolding numberAt
+number-short s at byte l e b = most-within largest at _ (sym (groups-last s at at maxGroups byte (omega arith) l e b)) (omega arith)
+
+pub ruleset cases =
+    (needs, joined-zero, joined-value, joined-fault, most-over, most-within, most-fault, groups-none, groups-end, groups-last, groups-more, number-short)

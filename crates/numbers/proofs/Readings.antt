@@ -1,0 +1,137 @@
+-- What a reading says: a number lies in the string and is the form that is written for it, and a fault is 21 or 22 at the number's first place.
+use Prim.Native.Nat.{ℕ, zero, suc, _+_, _-_, _*_, _/_, _%_, _^_, _<_, _≤_, zero-le}
+use native.Mathlib.Nat.{eq-or-lt-of-le, pow-suc, pow-le-pow-right}
+use native.Mathlib.Numerals.{add-one}
+use native.Mathlib.Omega.{arith}
+use mathlib.Core.Path.{_≡_, refl, sym, ap, subst, _∙_}
+use mathlib.Core.Logic.{_⊎_, inl, inr, ⊎-elim}
+use mathlib.Core.Bool.{false}
+use mathlib.Core.List.{List, [], _∷_, _++_}
+use lib.ListN.{length, getD, drop}
+use lib.Seq.{drop-cons}
+use lib.Dec.{ltb, eqb, lit<}
+use borrow.Author.Tests.{ltb-true, ltb-false, eqb-false}
+use Rattle.laws.proofs.Choice.{choices, if-both}
+use Rattle.numbers.specs.declared.Number.{Number}
+use Rattle.numbers.specs.declared.Number.the-variants.{Value, Fault}
+use Rattle.numbers.specs.Number.{maxGroups, largest, joined, groupsAt, atMost, numberAt}
+use Rattle.numbers.specs.Form.{encodeIn, encode, Bytes, Cut}
+
+-- a number of one group
+encode-last : (k n : ℕ) → n < 128 → n ∷ [] ≡ encodeIn (suc k) n
+unfolding encodeIn
+encode-last k n h = search choices
+
+-- a number of more groups
+encode-more : (k n : ℕ) → 128 ≤ n → (128 + n % 128) ∷ encodeIn k (n / 128) ≡ encodeIn (suc k) n
+unfolding encodeIn
+encode-more k n h = search choices
+
+module _ (s : List ℕ) (first : ℕ) where
+  -- what a reading of at most k bytes from a place on says
+  abbrev Reading : ℕ → ℕ → Number → Type 0
+  Reading k at (Value v next) =
+      (at < next) × (next ≤ length s) × (Bytes s → (v < 128 ^ k) × (drop at s ≡ encodeIn k v ++ drop next s))
+  Reading k at (Fault n place) = (place ≡ first) × ((n ≡ 22) ⊎ ((n ≡ 21) × Cut k s at))
+
+  -- the string from a place inside it on
+  from-place : (at : ℕ) → at < length s → drop at s ≡ getD s at 0 ∷ drop (at + 1) s
+  from-place at l = rw add-one (drop-cons s at 0 l)
+
+  -- a last byte
+  reading-last : (k at : ℕ) → at < length s → getD s at 0 < 128 → Reading (suc k) at (Value (getD s at 0) (at + 1))
+  reading-last k at l b = (
+    omega arith,
+    omega arith,
+    λ h. (
+      omega (arith, pow-suc 128 k, pow-le-pow-right {n = 128} (lit< tt) {i = 0} {j = k} zero-le),
+      rw (← encode-last k (getD s at 0) b) (from-place at l),
+    ),
+  )
+
+  -- a byte that is not the last, and the number after it
+  reading-value : (k at w next : ℕ) → at < length s → 128 ≤ getD s at 0 → eqb w 0 ≡ false → Reading k (at + 1) (Value w next)
+      → Reading (suc k) at (Value (getD s at 0 - 128 + 128 * w) next)
+  reading-value k at w next l b e f = (omega arith, f .1, bytes)
+    where
+      bytes : Bytes s → (getD s at 0 - 128 + 128 * w < 128 ^ suc k) × (drop at s ≡ encodeIn (suc k) (getD s at 0 - 128 + 128 * w) ++ drop next s)
+      bytes h =
+          let v : ℕ = getD s at 0 - 128 + 128 * w in
+          let small = h at in
+          let z : w ≡ 0 → ⊥ = eqb-false w 0 e in
+          let p : 128 ≤ v = omega arith in
+          let q : 128 + v % 128 ≡ getD s at 0 = omega arith in
+          let r : v / 128 ≡ w = omega arith in
+          (omega (arith, pow-suc 128 k, f .2 h .0), rw (← encode-more k v p, q, r) (from-place at l ∙ ap (λ x. getD s at 0 ∷ x) (f .2 h .1)))
+
+  -- the string ends early too from a byte on that is not the last
+  cut-before : (k at : ℕ) → at < length s → 128 ≤ getD s at 0 → Cut k s (at + 1) → Cut (suc k) s at
+  cut-before k at l b c = record {
+    few = omega arith;
+    more = λ i a h. ⊎-elim (λ e. rw (← e) b) (λ m. c .more i (omega arith) h) (eq-or-lt-of-le a);
+  }
+
+  -- a byte that is not the last, and what is read after it
+  reading-joined : (k at : ℕ) (n : Number) → at < length s → 128 ≤ getD s at 0 → Reading k (at + 1) n
+      → Reading (suc k) at (joined first (getD s at 0 - 128) n)
+  unfolding joined
+  reading-joined k at (Value w next) l b f =
+      if-both (Reading (suc k) at) (eqb w 0) (λ e. (refl, inl refl)) (λ e. reading-value k at w next l b e f)
+  reading-joined k at (Fault n place) l b f = (f .0, ⊎-elim (λ e. inl e) (λ e. inr (e .0, cut-before k at l b (e .1))) (f .1))
+
+  -- whatever `groupsAt` answers is a reading
+  pub reads : (k at : ℕ) → Reading k at (groupsAt k s first at)
+  unfolding groupsAt
+  reads zero at = (refl, inl refl)
+  reads (suc k) at =
+      if-both (Reading (suc k) at) (ltb at (length s))
+      (λ l. if-both (Reading (suc k) at) (ltb (getD s at 0) 128)
+      (λ b. reading-last k at (ltb-true at (length s) l) (ltb-true (getD s at 0) 128 b))
+      (λ b. reading-joined k at (groupsAt k s first (at + 1)) (ltb-true at (length s) l) (ltb-false (getD s at 0) 128 b) (reads k (at + 1))))
+      (λ l. (refl, inr (refl, record { few = omega (arith, ltb-false at (length s) l); more = λ i a b. absurd (omega (arith, ltb-false at (length s) l)) })))
+
+-- a number of at most eight groups can be multiplied by 128
+pub groups-small : (k : ℕ) (s : List ℕ) (first at v next : ℕ) → Bytes s → k ≤ 8 → groupsAt k s first at ≡ Value v next → v < 2 ^ 56
+groups-small k s first at v next h l e =
+    omega (arith, subst (Reading s first k at) e (reads s first k at) .2 h .0, pow-le-pow-right {n = 128} (lit< tt) {i = k} {j = 8} l)
+
+-- what holds of a number and of the fault holds of the limited number
+most-keeps : (P : Number → Type 0) (limit first : ℕ) (n : Number) → P (Fault 22 first) → P n → P (atMost limit first n)
+unfolding atMost
+most-keeps P limit first (Value v next) f p = if-both P (ltb limit v) (λ e. f) (λ e. p)
+most-keeps P limit first (Fault n place) f p = p
+
+-- what stands at a place is a reading
+number-reading : (s : List ℕ) (at : ℕ) → Reading s at maxGroups at (numberAt s at)
+unfolding numberAt
+number-reading s at =
+    most-keeps (Reading s at maxGroups at) largest at (groupsAt maxGroups s at at) (refl, inl refl) (reads s at maxGroups at)
+
+-- the place after a number is past its first place, and not past the string's end
+pub number-inside : (s : List ℕ) (at v next : ℕ) → numberAt s at ≡ Value v next → (at < next) × (next ≤ length s)
+number-inside s at v next e = let r = subst (Reading s at maxGroups at) e (number-reading s at) in (r .0, r .1)
+
+-- a fault is 22, or 21 where the file ends early, at the number's first place
+pub number-fault : (s : List ℕ) (at n place : ℕ) → numberAt s at ≡ Fault n place → (place ≡ at) × ((n ≡ 22) ⊎ ((n ≡ 21) × Cut maxGroups s at))
+number-fault s at n place e = subst (Reading s at maxGroups at) e (number-reading s at)
+
+-- a number is the form that is written for it
+pub number-written : (s : List ℕ) (at v next : ℕ) → Bytes s → numberAt s at ≡ Value v next → drop at s ≡ encode v ++ drop next s
+unfolding encode
+number-written s at v next h e = subst (Reading s at maxGroups at) e (number-reading s at) .2 h .1
+
+-- a value is at most the limit
+abbrev Most : ℕ → Number → Type 0
+Most limit (Value v next) = v ≤ limit
+Most limit (Fault n place) = Unit {0}
+
+-- the limited number is
+most-holds : (limit first : ℕ) (n : Number) → Most limit (atMost limit first n)
+unfolding atMost
+most-holds limit first (Value v next) = if-both (Most limit) (ltb limit v) (λ e. tt) (λ e. ltb-false limit v e)
+most-holds limit first (Fault n place) = tt
+
+-- a number is at most the largest
+pub number-most : (s : List ℕ) (at v next : ℕ) → numberAt s at ≡ Value v next → v ≤ largest
+unfolding numberAt
+number-most s at v next e = subst (Most largest) e (most-holds largest at (groupsAt maxGroups s at at))

@@ -1,0 +1,15 @@
+use borrow.Author.Needs.{needs}
+use Rattle.numbers.proofs.Cases.{cases}
+use Rattle.numbers.proofs.read.Statement.{statement}
+use Rattle.numbers.proofs.read.Tie as tie
+
+pub read-spec : {M : Type 1} → statement M
+read-spec =
+    tie.close
+    (tie.spec
+    (λ c. search needs)
+    (λ c κs. search needs)
+    (λ c. search needs)
+    (λ c. search cases)
+    (λ c κs. search needs)
+    (λ c. search needs))

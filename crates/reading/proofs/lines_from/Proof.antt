@@ -1,0 +1,19 @@
+-- i lines are read.
+use Prim.Native.Nat.{_-_}
+use borrow.Author.Needs.{needs}
+use Rattle.laws.proofs.Arrays.{length-mapped}
+use Rattle.laws.proofs.Loops.{Turned, iters}
+use Rattle.reading.proofs.Laws.{line-turned, lines-read}
+use Rattle.reading.specs.Lines.{lineTurn}
+use Rattle.track.specs.Objects.{line}
+use Rattle.reading.proofs.lines_from.Statement.{statement}
+use Rattle.reading.proofs.lines_from.Tie as tie
+
+abbrev Inv-loop : tie.InvT-loop
+Inv-loop s n count line₀ cur₀ i₀ line cur i = Turned count (lineTurn s n) (record { cur = cur₀; count = count; line = line₀ }) (record { cur = cur; count = count; line = line }) i
+
+abbrev μ-loop : tie.MeasureT-loop
+μ-loop s n count line₀ cur₀ i₀ line cur i = count - i
+
+pub lines-from-spec : {M : Type 1} → statement M
+lines-from-spec = tie.close (tie.spec Inv-loop μ-loop (λ c κs. search (iters, length-mapped)) (λ c. search (iters, length-mapped)) (λ c κs. search (iters, length-mapped)) (λ c. search (iters, length-mapped)) (λ c. search (iters, length-mapped)) (λ c. search (iters, length-mapped)) (λ c. search (iters, length-mapped)) (λ c. search (iters, length-mapped)) (λ c. search (iters, line-turned)) (λ c. search (needs, lines-read)))

@@ -1,0 +1,10 @@
+-- The count, then the turns.
+use borrow.Author.Needs.{needs}
+use Rattle.fields.proofs.Ranges.{code-most}
+use Rattle.reading.specs.Lines.{lines}
+use Rattle.reading.proofs.read_lines.Statement.{statement}
+use Rattle.reading.proofs.read_lines.Tie as tie
+
+pub read-lines-spec : {M : Type 1} → statement M
+unfolding lines
+read-lines-spec = tie.close (tie.spec (λ c κs. search needs) (λ c κs. search (needs, code-most)) (λ c. cc))

@@ -1,0 +1,10 @@
+-- The count, then the turns.
+use borrow.Author.Needs.{needs}
+use Rattle.fields.proofs.Ranges.{code-most}
+use Rattle.reading.specs.Routes.{routes}
+use Rattle.reading.proofs.read_routes.Statement.{statement}
+use Rattle.reading.proofs.read_routes.Tie as tie
+
+pub read-routes-spec : {M : Type 1} → statement M
+unfolding routes
+read-routes-spec = tie.close (tie.spec (λ c κs. search needs) (λ c κs. search (needs, code-most)) (λ c. cc))

@@ -1,0 +1,10 @@
+-- The count, then the turns.
+use borrow.Author.Needs.{needs}
+use Rattle.fields.proofs.Ranges.{code-most}
+use Rattle.reading.specs.Sections.{sections}
+use Rattle.reading.proofs.read_sections.Statement.{statement}
+use Rattle.reading.proofs.read_sections.Tie as tie
+
+pub read-sections-spec : {M : Type 1} → statement M
+unfolding sections
+read-sections-spec = tie.close (tie.spec (λ c κs. search needs) (λ c κs. search needs) (λ c κs. search (needs, code-most)) (λ c. cc))
