@@ -1,13 +1,12 @@
 -- The cases of the number form, each from the facts that choose it.
 use Prim.Native.Nat.{ℕ, zero, suc, _+_, _-_, _*_, _<_, _≤_}
-use mathlib.Core.Path.{_≡_, refl, sym, _∙_}
+use mathlib.Core.Path.{_≡_, refl, sym}
 use mathlib.Core.List.{List}
-use native.Mathlib.Nat.{not-suc-le-zero}
 use native.Mathlib.Numerals.{sub-one}
 use native.Mathlib.Omega.{arith}
 use lib.ListN.{length, getD}
 use borrow.Author.Needs.{needs}
-use Rattle.laws.proofs.Choice.{choices, if-eq, if-ne, if-lt, if-ge}
+use Rattle.laws.proofs.Choice.{choices}
 use Rattle.numbers.specs.declared.Number.{Number}
 use Rattle.numbers.specs.declared.Number.the-variants.{Value, Fault}
 use Rattle.numbers.specs.Number.{joined, groupsAt, atMost, numberAt, largest, maxGroups}
@@ -28,19 +27,19 @@ module _ (first low : ℕ) (n : Number) where
   unfolding joined
   joined-fault e = rw e
 
-module _ (limit first : ℕ) (n : Number) where
+module _ (first limit : ℕ) (n : Number) where
   -- a number that is too large
-  pub most-over : {v next : ℕ} → n ≡ Value v next → limit < v → Fault 22 first ≡ atMost limit first n
+  pub most-over : {v next : ℕ} → n ≡ Value v next → limit < v → Fault 22 first ≡ atMost first limit n
   unfolding atMost
   most-over e l = rw e (search choices)
 
   -- a number that is not
-  pub most-within : {v next : ℕ} → n ≡ Value v next → v ≤ limit → Value v next ≡ atMost limit first n
+  pub most-within : {v next : ℕ} → n ≡ Value v next → v ≤ limit → Value v next ≡ atMost first limit n
   unfolding atMost
   most-within e l = rw e (search choices)
 
   -- a fault stays
-  pub most-fault : {m at : ℕ} → n ≡ Fault m at → Fault m at ≡ atMost limit first n
+  pub most-fault : {m at : ℕ} → n ≡ Fault m at → Fault m at ≡ atMost first limit n
   unfolding atMost
   most-fault e = rw e
 
@@ -73,7 +72,8 @@ module _ (s : List ℕ) (first at : ℕ) where
 -- a number of one byte
 pub number-short : (s : List ℕ) (at byte : ℕ) → at < length s → byte ≡ getD s at 0 → getD s at 0 < 128 → Value byte (at + 1) ≡ numberAt s at
 unfolding numberAt
-number-short s at byte l e b = most-within largest at _ (sym (groups-last s at at maxGroups byte (omega arith) l e b)) (omega arith)
+number-short s at byte l e b = most-within at largest _ (sym (groups-last s at at maxGroups byte (omega arith) l e b)) (omega arith)
 
+-- for the functions, a case at each return
 pub ruleset cases =
     (needs, joined-zero, joined-value, joined-fault, most-over, most-within, most-fault, groups-none, groups-end, groups-last, groups-more, number-short)

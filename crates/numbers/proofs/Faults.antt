@@ -38,10 +38,10 @@ module _ (s : List ℕ) (first : ℕ) where
 -- the file ends early
 pub number-cut : (s : List ℕ) (at : ℕ) → Cut maxGroups s at → numberAt s at ≡ Fault 21 at
 unfolding numberAt
-number-cut s at c = sym (most-fault largest at (groupsAt maxGroups s at at) (groups-cut s at maxGroups at c))
+number-cut s at c = sym (most-fault at largest (groupsAt maxGroups s at at) (groups-cut s at maxGroups at c))
 
 -- as many bytes as a number may take have their top bit set, also at the file's end
 pub number-long : (s : List ℕ) (at : ℕ) → at + maxGroups ≤ length s → ((i : ℕ) → at ≤ i → i < at + maxGroups → 128 ≤ getD s i 0)
     → numberAt s at ≡ Fault 22 at
 unfolding numberAt
-number-long s at l t = sym (most-fault largest at (groupsAt maxGroups s at at) (groups-long s at maxGroups at l t))
+number-long s at l t = sym (most-fault at largest (groupsAt maxGroups s at at) (groups-long s at maxGroups at l t))

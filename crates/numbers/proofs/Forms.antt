@@ -11,7 +11,7 @@ use lib.Dec.{ltb}
 use borrow.Author.Tests.{ltb-true, ltb-false}
 use Rattle.laws.proofs.Choice.{if-both}
 use Rattle.numbers.specs.declared.Number.the-variants.{Value}
-use Rattle.numbers.specs.Number.{maxGroups, largest, joined, groupsAt, numberAt}
+use Rattle.numbers.specs.Number.{maxGroups, largest, groupsAt, numberAt}
 use Rattle.numbers.specs.Form.{encodeIn, encode, Bytes, OneForm}
 use Rattle.numbers.proofs.Cases.{joined-value, groups-last, groups-more, most-within}
 use Rattle.numbers.proofs.Readings.{number-written, number-most}
@@ -66,14 +66,14 @@ module _ (s : List ℕ) (first : ℕ) (post : List ℕ) where
 pub accepts : (s : List ℕ) (at n : ℕ) (post : List ℕ) → n ≤ largest → drop at s ≡ encode n ++ post → numberAt s at ≡ Value n (at + length (encode n))
 unfolding numberAt encode
 accepts s at n post h e =
-    sym (most-within largest at (groupsAt maxGroups s at at) (decodes s at post (maxGroups - 1) n at (omega arith) e) h)
+    sym (most-within at largest (groupsAt maxGroups s at at) (decodes s at post (maxGroups - 1) n at (omega arith) e) h)
 
 -- what is accepted is at most the largest, and is what is written for it
 pub exact : (s : List ℕ) (at v next : ℕ) → Bytes s → numberAt s at ≡ Value v next
     → (v ≤ largest) × (next ≡ at + length (encode v)) × (drop at s ≡ encode v ++ drop next s)
 exact s at v next h e =
-    let most = number-most s at v next e in
-    let form = number-written s at v next h e in
+    let most = number-most s at refl e in
+    let form = number-written s at h refl e in
     let again = accepts s at v (drop next s) most form in
     (most, cc, form)
 

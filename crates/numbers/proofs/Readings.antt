@@ -3,7 +3,7 @@ use Prim.Native.Nat.{ℕ, zero, suc, _+_, _-_, _*_, _/_, _%_, _^_, _<_, _≤_, z
 use native.Mathlib.Nat.{eq-or-lt-of-le, pow-suc, pow-le-pow-right}
 use native.Mathlib.Numerals.{add-one}
 use native.Mathlib.Omega.{arith}
-use mathlib.Core.Path.{_≡_, refl, sym, ap, subst, _∙_}
+use mathlib.Core.Path.{_≡_, refl, ap, subst, _∙_}
 use mathlib.Core.Logic.{_⊎_, inl, inr, ⊎-elim}
 use mathlib.Core.Bool.{false}
 use mathlib.Core.List.{List, [], _∷_, _++_}
@@ -64,6 +64,10 @@ module _ (s : List ℕ) (first : ℕ) where
           let r : v / 128 ≡ w = omega arith in
           (omega (arith, pow-suc 128 k, f .2 h .0), rw (← encode-more k v p, q, r) (from-place at l ∙ ap (λ x. getD s at 0 ∷ x) (f .2 h .1)))
 
+  -- the string ends at a place
+  cut-here : (k at : ℕ) → length s ≤ at → Cut (suc k) s at
+  cut-here k at l = record { few = omega arith; more = λ i a b. absurd (omega arith) }
+
   -- the string ends early too from a byte on that is not the last
   cut-before : (k at : ℕ) → at < length s → 128 ≤ getD s at 0 → Cut k s (at + 1) → Cut (suc k) s at
   cut-before k at l b c = record {
@@ -80,7 +84,7 @@ module _ (s : List ℕ) (first : ℕ) where
   reading-joined k at (Fault n place) l b f = (f .0, ⊎-elim (λ e. inl e) (λ e. inr (e .0, cut-before k at l b (e .1))) (f .1))
 
   -- whatever `groupsAt` answers is a reading
-  pub reads : (k at : ℕ) → Reading k at (groupsAt k s first at)
+  reads : (k at : ℕ) → Reading k at (groupsAt k s first at)
   unfolding groupsAt
   reads zero at = (refl, inl refl)
   reads (suc k) at =
@@ -88,7 +92,7 @@ module _ (s : List ℕ) (first : ℕ) where
       (λ l. if-both (Reading (suc k) at) (ltb (getD s at 0) 128)
       (λ b. reading-last k at (ltb-true at (length s) l) (ltb-true (getD s at 0) 128 b))
       (λ b. reading-joined k at (groupsAt k s first (at + 1)) (ltb-true at (length s) l) (ltb-false (getD s at 0) 128 b) (reads k (at + 1))))
-      (λ l. (refl, inr (refl, record { few = omega (arith, ltb-false at (length s) l); more = λ i a b. absurd (omega (arith, ltb-false at (length s) l)) })))
+      (λ l. (refl, inr (refl, cut-here k at (ltb-false at (length s) l))))
 
 -- a number of at most eight groups can be multiplied by 128
 pub groups-small : (k : ℕ) (s : List ℕ) (first at v next : ℕ) → Bytes s → k ≤ 8 → groupsAt k s first at ≡ Value v next → v < 2 ^ 56
@@ -96,42 +100,55 @@ groups-small k s first at v next h l e =
     omega (arith, subst (Reading s first k at) e (reads s first k at) .2 h .0, pow-le-pow-right {n = 128} (lit< tt) {i = k} {j = 8} l)
 
 -- what holds of a number and of the fault holds of the limited number
-most-keeps : (P : Number → Type 0) (limit first : ℕ) (n : Number) → P (Fault 22 first) → P n → P (atMost limit first n)
+most-keeps : (P : Number → Type 0) (first limit : ℕ) (n : Number) → P (Fault 22 first) → P n → P (atMost first limit n)
 unfolding atMost
-most-keeps P limit first (Value v next) f p = if-both P (ltb limit v) (λ e. f) (λ e. p)
-most-keeps P limit first (Fault n place) f p = p
+most-keeps P first limit (Value v next) f p = if-both P (ltb limit v) (λ e. f) (λ e. p)
+most-keeps P first limit (Fault m place) f p = p
 
--- what stands at a place is a reading
-number-reading : (s : List ℕ) (at : ℕ) → Reading s at maxGroups at (numberAt s at)
-unfolding numberAt
-number-reading s at =
-    most-keeps (Reading s at maxGroups at) largest at (groupsAt maxGroups s at at) (refl, inl refl) (reads s at maxGroups at)
-
--- the place after a number is past its first place, and not past the string's end
-pub number-inside : (s : List ℕ) (at v next : ℕ) → numberAt s at ≡ Value v next → (at < next) × (next ≤ length s)
-number-inside s at v next e = let r = subst (Reading s at maxGroups at) e (number-reading s at) in (r .0, r .1)
-
--- a fault is 22, or 21 where the file ends early, at the number's first place
-pub number-fault : (s : List ℕ) (at n place : ℕ) → numberAt s at ≡ Fault n place → (place ≡ at) × ((n ≡ 22) ⊎ ((n ≡ 21) × Cut maxGroups s at))
-number-fault s at n place e = subst (Reading s at maxGroups at) e (number-reading s at)
-
--- a number is the form that is written for it
-pub number-written : (s : List ℕ) (at v next : ℕ) → Bytes s → numberAt s at ≡ Value v next → drop at s ≡ encode v ++ drop next s
-unfolding encode
-number-written s at v next h e = subst (Reading s at maxGroups at) e (number-reading s at) .2 h .1
-
--- a value is at most the limit
+-- a number, where it is one, is at most the limit
 abbrev Most : ℕ → Number → Type 0
 Most limit (Value v next) = v ≤ limit
-Most limit (Fault n place) = Unit {0}
+Most limit (Fault m place) = Unit {0}
 
--- the limited number is
-most-holds : (limit first : ℕ) (n : Number) → Most limit (atMost limit first n)
+-- the limited number is at most the limit
+most-holds : (first limit : ℕ) (n : Number) → Most limit (atMost first limit n)
 unfolding atMost
-most-holds limit first (Value v next) = if-both (Most limit) (ltb limit v) (λ e. tt) (λ e. ltb-false limit v e)
-most-holds limit first (Fault n place) = tt
+most-holds first limit (Value v next) = if-both (Most limit) (ltb limit v) (λ e. tt) (λ e. ltb-false limit v e)
+most-holds first limit (Fault m place) = tt
 
--- a number is at most the largest
-pub number-most : (s : List ℕ) (at v next : ℕ) → numberAt s at ≡ Value v next → v ≤ largest
-unfolding numberAt
-number-most s at v next e = subst (Most largest) e (most-holds largest at (groupsAt maxGroups s at at))
+-- ---- what stands at a place of the file
+
+module _ (s : List ℕ) (at : ℕ) where
+  -- it is a reading
+  number-reading : {n : Number} → n ≡ numberAt s at → Reading s at maxGroups at n
+  unfolding numberAt
+  number-reading e =
+      rw e (most-keeps (Reading s at maxGroups at) at largest (groupsAt maxGroups s at at) (refl, inl refl) (reads s at maxGroups at))
+
+  module _ {n : Number} {v next : ℕ} where
+    -- the place after a number is past its first place
+    pub number-after : n ≡ numberAt s at → n ≡ Value v next → at < next
+    number-after e f = subst (Reading s at maxGroups at) f (number-reading e) .0
+
+    -- the place after a number is not past the string's end
+    pub number-inside : n ≡ numberAt s at → n ≡ Value v next → next ≤ length s
+    number-inside e f = subst (Reading s at maxGroups at) f (number-reading e) .1
+
+    -- a number is the form that is written for it
+    pub number-written : Bytes s → n ≡ numberAt s at → n ≡ Value v next → drop at s ≡ encode v ++ drop next s
+    unfolding encode
+    number-written h e f = subst (Reading s at maxGroups at) f (number-reading e) .2 h .1
+
+    -- a number is at most the largest
+    pub number-most : n ≡ numberAt s at → n ≡ Value v next → v ≤ largest
+    unfolding numberAt
+    number-most e f = subst (Most largest) f (rw e (most-holds at largest (groupsAt maxGroups s at at)))
+
+  module _ {n : Number} {m place : ℕ} where
+    -- a fault is at the number's first place
+    pub fault-place : n ≡ numberAt s at → n ≡ Fault m place → place ≡ at
+    fault-place e f = subst (Reading s at maxGroups at) f (number-reading e) .0
+
+    -- a fault is 22, or 21 where the file ends early
+    pub fault-number : n ≡ numberAt s at → n ≡ Fault m place → (m ≡ 22) ⊎ ((m ≡ 21) × Cut maxGroups s at)
+    fault-number e f = subst (Reading s at maxGroups at) f (number-reading e) .1

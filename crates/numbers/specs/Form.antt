@@ -8,16 +8,16 @@ use Rattle.laws.specs.Choice.{if_then_else_}
 use Rattle.numbers.specs.declared.Number.the-variants.{Value}
 use Rattle.numbers.specs.Number.{maxGroups, numberAt}
 
--- section 2, lowest group first, top bit set on every byte but the last: a number in at most so many groups
+-- section 2, lowest group first, top bit set on every byte but the last: a number in so many groups at most
 unfoldable pub encodeIn : ℕ → ℕ → List ℕ
 encodeIn zero n = []
-encodeIn (suc k) n = if ltb n 128 then n ∷ [] else (128 + n % 128) ∷ encodeIn k (n / 128)
+encodeIn (suc left) n = if ltb n 128 then n ∷ [] else (128 + n % 128) ∷ encodeIn left (n / 128)
 
 -- section 2, the form that is written for a number
 unfoldable pub encode : ℕ → List ℕ
 encode n = encodeIn maxGroups n
 
--- a string of bytes
+-- section 2, the file: each entry of a string is a byte
 abbrev pub Bytes : List ℕ → Type 0
 Bytes s = (i : ℕ) → getD s i 0 < 256
 
@@ -27,6 +27,6 @@ pub record OneForm (n : ℕ) : Type 0 where
   pub only : (form : List ℕ) → Bytes form → numberAt form 0 ≡ Value n (length form) → form ≡ encode n
 
 -- section 2, the file ends early: fewer than so many bytes are left from a place on, and each has its top bit set
-pub record Cut (k : ℕ) (s : List ℕ) (at : ℕ) : Type 0 where
-  pub few : length s - at < k
+pub record Cut (left : ℕ) (s : List ℕ) (at : ℕ) : Type 0 where
+  pub few : length s - at < left
   pub more : (i : ℕ) → at ≤ i → i < length s → 128 ≤ getD s i 0

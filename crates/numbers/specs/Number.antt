@@ -17,22 +17,22 @@ largest = 65535
 
 -- section 2, lowest group first: a group below the number in the groups after it; where that is 0, the form is not the shortest
 unfoldable pub joined : ℕ → ℕ → Number → Number
-joined first low (Value v next) = if eqb v 0 then Fault 22 first else Value (low + 128 * v) next
-joined first low (Fault n at) = Fault n at
+joined first low (Value value next) = if eqb value 0 then Fault 22 first else Value (low + 128 * value) next
+joined first low (Fault number at) = Fault number at
 
--- section 2, top bit set on every byte but the last: the number from a place on, in at most so many bytes
+-- section 2, top bit set on every byte but the last: the number from a place on in so many bytes at most; 21 where the file ends, 22 where they are too few
 unfoldable pub groupsAt : ℕ → List ℕ → ℕ → ℕ → Number
 groupsAt zero s first at = Fault 22 first
-groupsAt (suc k) s first at =
+groupsAt (suc left) s first at =
     if ltb at (length s) then
-    (if ltb (getD s at 0) 128 then Value (getD s at 0) (at + 1) else joined first (getD s at 0 - 128) (groupsAt k s first (at + 1)))
+    (if ltb (getD s at 0) 128 then Value (getD s at 0) (at + 1) else joined first (getD s at 0 - 128) (groupsAt left s first (at + 1)))
     else Fault 21 first
 
 -- section 2, a number that is too large is badly formed too
 unfoldable pub atMost : ℕ → ℕ → Number → Number
-atMost limit first (Value v next) = if ltb limit v then Fault 22 first else Value v next
-atMost limit first (Fault n at) = Fault n at
+atMost first limit (Value value next) = if ltb limit value then Fault 22 first else Value value next
+atMost first limit (Fault number at) = Fault number at
 
 -- section 2, what stands at a place: a number with the place after it, or a fault with the number's first place
 unfoldable pub numberAt : List ℕ → ℕ → Number
-numberAt s at = atMost largest at (groupsAt maxGroups s at at)
+numberAt s at = atMost at largest (groupsAt maxGroups s at at)

@@ -76,7 +76,7 @@ fn groups(s: &[u8], first: usize, at: usize, left: usize) -> Number
 
 // A number that is too large is badly formed too.
 fn limited(first: usize, n: Number) -> Number
-    ensures { λ r. ⌜ r ≡ atMost largest first n ⌝ }
+    ensures { λ r. ⌜ r ≡ atMost first largest n ⌝ }
 {
     match n {
         Number::Value { value, next } => {

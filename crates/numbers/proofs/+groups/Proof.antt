@@ -1,3 +1,4 @@
+-- `groups` meets its contract, by the bytes that are left.
 use Prim.Native.Nat.{ℕ, _<_}
 use mathlib.Core.Path.{sym, _∙_}
 use borrow.Author.Needs.{needs}
@@ -19,12 +20,15 @@ abbrev μ-groups : Measures 1 groups-kinds.ps ℕ
 μ-groups κs a = a .1 .1 .1 .0
 
 module _ (t : ℕ) where
+  -- a call with t bytes left
   abbrev groups-at : In 1 groups-kinds.ps
   groups-at = and 1 groups-kinds.ps (is 1 groups-kinds.ps μ-groups t) groups.Pre
 
+  -- a call with fewer
   abbrev groups-below : In 1 groups-kinds.ps
   groups-below = and 1 groups-kinds.ps (falls 1 groups-kinds.ps _<_ μ-groups t) groups.Pre
 
+  -- what each callee asks and answers
   abbrev claims : groups-lts.Claims
   claims = (wide-reads.Asked, wide-reads.Learnt, groups-below, groups.Post, join-reads.Asked, join-reads.Learnt)
 
@@ -32,7 +36,8 @@ module _ (t : ℕ) where
   join-requires : groups-lts.Need-join-requires claims groups-at groups.Post
   join-requires c κs =
       let byte = c .before .before .before .shared-slice-known2 .given in
-      (omega (arith, byte (c .before .before .before .before .before .before .before .args .at)), λ v next e. groups-small _ _ _ _ v next (λ i. byte i .fits) (omega arith) (sym (c .before .groups .ensures) ∙ e))
+      let at = c .before .before .before .before .before .before .before .args .at in
+      (omega (arith, byte at), λ v next e. groups-small _ _ _ _ v next (λ i. byte i .fits) (omega arith) (sym (c .before .groups .ensures) ∙ e))
 
 pub +groups-spec : {M : Type 1} → statement M
 +groups-spec =

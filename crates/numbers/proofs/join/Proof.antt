@@ -1,12 +1,15 @@
+-- `join` meets its contract.
 use borrow.Author.Needs.{needs}
 use native.Mathlib.Omega.{arith}
 use Rattle.numbers.proofs.Cases.{cases}
 use Rattle.numbers.proofs.join.Statement.{statement}
 use Rattle.numbers.proofs.join.Tie as tie
 
+-- the product fits
 mul-t10 : tie.Need-mul-t10
 mul-t10 c = omega (arith, c .before .before .before .before .pre .1 _ _ (c .before .before .rest .given .1))
 
+-- the sum fits
 add-t11 : tie.Need-add-t11
 add-t11 c = omega (arith, c .before .before .before .before .pre .1 _ _ (c .before .before .rest .given .1))
 

@@ -1,3 +1,4 @@
+-- `limited` meets its contract.
 use borrow.Author.Needs.{needs}
 use Rattle.numbers.proofs.Cases.{cases}
 use Rattle.numbers.proofs.limited.Statement.{statement}

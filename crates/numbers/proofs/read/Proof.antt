@@ -1,3 +1,4 @@
+-- `read` meets its contract.
 use borrow.Author.Needs.{needs}
 use Rattle.numbers.proofs.Cases.{cases}
 use Rattle.numbers.proofs.read.Statement.{statement}

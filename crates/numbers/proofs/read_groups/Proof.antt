@@ -1,8 +1,10 @@
+-- `read_groups` meets its contract.
 use borrow.Author.Needs.{needs}
 use Rattle.numbers.specs.Number.{numberAt}
 use Rattle.numbers.proofs.read_groups.Statement.{statement}
 use Rattle.numbers.proofs.read_groups.Tie as tie
 
+-- it is what stands at the place
 returns : tie.Need-returns
 unfolding numberAt
 returns c = cc

@@ -1,0 +1,102 @@
+-- The cases of the number of pairs and of a pair's order, and a turn put together from what was read.
+use Prim.Native.Nat.{ℕ, _+_, _*_, _<_, _≤_}
+use mathlib.Core.Path.{_≡_, refl}
+use mathlib.Core.List.{List}
+use native.Mathlib.Omega.{arith}
+use borrow.Author.Needs.{needs}
+use borrow.Author.Tests.{ltb-true, le-leb, lt-leb}
+use lib.Dec.{ltb}
+use lib.ListN.{set}
+use Rattle.laws.proofs.Choice.{if-true, if-false, if-eq, if-ne, if-lt, if-ge, if-both}
+use Rattle.laws.proofs.Loops.{Turned, turn-done}
+use Rattle.numbers.specs.declared.Number.{Number}
+use Rattle.numbers.specs.declared.Number.the-variants.{Value, Fault}
+use Rattle.numbers.specs.Number.{numberAt}
+use Rattle.fields.specs.declared.Cursor.{Cursor}
+use Rattle.fields.specs.Fields.{failed, reference}
+use Rattle.fields.proofs.Ranges.{reference-below}
+use Rattle.pairs.specs.declared.Count.{Count}
+use Rattle.pairs.specs.declared.Pair.{Pair}
+use Rattle.pairs.specs.declared.Pairs.{Pairs}
+use Rattle.pairs.specs.Pairs.{placeOf, noPairs, noCount, judgeCount, pairCount, ordered, aPair, pairTurn, pairsFrom, named}
+
+-- ---- the number of pairs, by cases
+
+module _ (n : Number) (at : ℕ) (r : Count) where
+  pub count-large : {v next : ℕ} → n ≡ Value v next → 1128 < v → r ≡ noCount at 23 → r ≡ judgeCount n at
+  unfolding judgeCount
+  count-large e h q = rw e (if-lt _ _ _ _ r h q)
+
+  pub count-in : {v next : ℕ} → n ≡ Value v next → v ≤ 1128 → r ≡ record { cur = record { at = next; fault = 0; value = 0 }; pairs = v } → r ≡ judgeCount n at
+  unfolding judgeCount
+  count-in e h q = rw e (if-ge _ _ _ _ r h q)
+
+  pub count-fault : {number place : ℕ} → n ≡ Fault number place → r ≡ noCount place number → r ≡ judgeCount n at
+  unfolding judgeCount
+  count-fault e q = rw e q
+
+module _ (s : List ℕ) (c : Cursor) (r : Count) where
+  pub count-kept : (c .fault ≡ 0 → ⊥) → r ≡ noCount (c .at) (c .fault) → r ≡ pairCount s c
+  unfolding pairCount
+  count-kept h q = if-ne _ _ _ _ r h q
+
+  pub count-read : (n : Number) → c .fault ≡ 0 → n ≡ numberAt s (c .at) → r ≡ judgeCount n (c .at) → r ≡ pairCount s c
+  unfolding pairCount
+  count-read n h e q = if-eq _ _ _ _ r h (rw (← e) q)
+
+pub ruleset counts = (needs, count-large, count-in, count-fault, count-kept, count-read)
+
+-- ---- a pair's order, by cases
+
+module _ (a b : Cursor) (last : ℕ) (r : Cursor) where
+  pub ordered-kept : (b .fault ≡ 0 → ⊥) → r ≡ b → r ≡ ordered a b last
+  unfolding ordered
+  ordered-kept h q = if-ne _ _ _ _ r h q
+
+  pub ordered-larger : b .fault ≡ 0 → b .value ≤ a .value → r ≡ failed (a .at) 23 → r ≡ ordered a b last
+  unfolding ordered
+  ordered-larger h l q = if-eq _ _ _ _ r h (if-true _ _ _ r (le-leb _ _ l) q)
+
+  pub ordered-before : (p : ℕ) → b .fault ≡ 0 → a .value < b .value → p ≡ placeOf (a .value) (b .value) → p ≤ last → r ≡ failed (a .at) 23 → r ≡ ordered a b last
+  unfolding ordered
+  ordered-before p h l e k q = if-eq _ _ _ _ r h (if-false _ _ _ r (lt-leb _ _ l) (if-true _ _ _ r (le-leb _ _ (rw e at k)) q))
+
+  pub ordered-after : (p : ℕ) → b .fault ≡ 0 → a .value < b .value → p ≡ placeOf (a .value) (b .value) → last < p → r ≡ b → r ≡ ordered a b last
+  unfolding ordered
+  ordered-after p h l e k q = if-eq _ _ _ _ r h (if-false _ _ _ r (lt-leb _ _ l) (if-false _ _ _ r (lt-leb _ _ (rw e at k)) q))
+
+pub ruleset orders = (needs, ordered-kept, ordered-larger, ordered-before, ordered-after)
+
+-- ---- the turns
+
+-- no more than 48 routes are named
+pub named-few : (routes : ℕ) {r : ℕ} → r ≡ named routes → r ≤ 48
+unfolding named
+named-few routes e = rw e (if-both (λ r. r ≤ 48) (ltb routes 48) (λ t. omega (arith, ltb-true routes 48 t)) (λ f. omega arith))
+
+-- both places of a pair lie in the table
+pub place-inside : (i j : ℕ) → i < 48 → j < 48 → placeOf i j < 2304
+unfolding placeOf
+place-inside i j h k = omega arith
+
+module _ (s : List ℕ) (routes : ℕ) (c : Cursor) (last : ℕ) (one : Pair) (few : routes ≤ 48) (e : one ≡ aPair s routes c last) where
+  pub pair-place : one .place < 2304
+  unfolding aPair
+  pair-place = rw e (place-inside _ _ (reference-below s c routes 48 refl few (omega arith)) (reference-below s (reference s c routes) routes 48 refl few (omega arith)))
+
+  pub pair-mirror : one .mirror < 2304
+  unfolding aPair
+  pair-mirror = rw e (place-inside _ _ (reference-below s (reference s c routes) routes 48 refl few (omega arith)) (reference-below s c routes 48 refl few (omega arith)))
+
+-- one pair more
+pub pair-turned : (s : List ℕ) (routes i : ℕ) (cur : Cursor) (last : ℕ) (conflict : List ℕ) (one : Pair) → one ≡ aPair s routes cur last
+    → record { cur = one .cur; last = one .place; conflict = set (set conflict (one .place) 1) (one .mirror) 1 }
+    ≡ pairTurn s routes i (record { cur = cur; last = last; conflict = conflict })
+unfolding pairTurn
+pair-turned s routes i cur last conflict one e = rw e
+
+-- the last pair is read
+pub pairs-read : (s : List ℕ) (routes : ℕ) (n : Count) (none : List ℕ) (t : Pairs) (i : ℕ)
+    → Turned (n .pairs) (pairTurn s routes) (record { cur = n .cur; last = 0; conflict = none }) t i → n .pairs ≤ i → none ≡ noPairs → t ≡ pairsFrom s routes n
+unfolding pairsFrom
+pairs-read s routes n none t i h l e = rw (← e) (turn-done _ _ _ t i h l)

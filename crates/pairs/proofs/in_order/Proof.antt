@@ -1,0 +1,9 @@
+-- Each return is a case of the order.
+use Rattle.fields.specs.Fields.{failed}
+use Rattle.pairs.proofs.Laws.{orders}
+use Rattle.pairs.proofs.in_order.Statement.{statement}
+use Rattle.pairs.proofs.in_order.Tie as tie
+
+pub in-order-spec : {M : Type 1} → statement M
+unfolding failed
+in-order-spec = tie.close (tie.spec (λ c. search orders) (λ c. search orders) (λ c κs. search orders) (λ c. search orders) (λ c. search orders))

@@ -1,0 +1,7 @@
+-- Each return is a case of what was read.
+use Rattle.pairs.proofs.Laws.{counts}
+use Rattle.pairs.proofs.judged_count.Statement.{statement}
+use Rattle.pairs.proofs.judged_count.Tie as tie
+
+pub judged-count-spec : {M : Type 1} → statement M
+judged-count-spec = tie.close (tie.spec (λ c. search counts) (λ c κs. search counts) (λ c. search counts) (λ c. search counts) (λ c κs. search counts) (λ c. search counts) (λ c. search counts))

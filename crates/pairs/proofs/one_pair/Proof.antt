@@ -1,0 +1,9 @@
+-- Two reads, their order and their places.
+use borrow.Author.Needs.{needs}
+use Rattle.pairs.specs.Pairs.{aPair}
+use Rattle.pairs.proofs.one_pair.Statement.{statement}
+use Rattle.pairs.proofs.one_pair.Tie as tie
+
+pub one-pair-spec : {M : Type 1} → statement M
+unfolding aPair
+one-pair-spec = tie.close (tie.spec (λ c κs. search needs) (λ c κs. search needs) (λ c κs. search needs) (λ c κs. search needs) (λ c κs. search needs) (λ c. cc))
