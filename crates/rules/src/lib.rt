@@ -6,12 +6,10 @@ use track::all_differ;
 use track::line_at;
 ghost use mathlib.Core.Path.{_≡_};
 ghost use mathlib.Core.Bool.{not};
-ghost use Rattle.laws.specs.Tests.{_and_, _or_, implies, any};
-ghost use Rattle.laws.specs.Tables.{iter};
+ghost use lib.Dec.{eqb};
 ghost use Rattle.track.specs.Objects.{inner, entrance};
-ghost use Rattle.rules.specs.Sections.{blockSet, blockTurn, innerSet, innerTurn, pathSet, sideSet, sideTurn};
-ghost use Rattle.rules.specs.Rules.{hasEntrance, isEntrance, line1, line2, line3, pathApart, innerApart, enters, leaves, route3, route4, route5, clash};
-ghost use Rattle.rules.specs.Reach.{Reaches, reachOf, clashing};
+ghost use Rattle.rules.specs.Rules.{hasEntrance, isEntrance, once, lineEnds, linePoints, routeLists, routeLength, endSection, routeEnds};
+ghost use Rattle.rules.specs.Sets.{lineBlocks, blockSet, innerTurn, innerSet, offBlocks, sideTurn, sideSet, reachOf, clashing};
 
 // What rule 6 asks of a route: its entry signal, the set of its path sections, of its points to the left, of those to the right.
 pub struct Reach {
@@ -19,4 +17,231 @@ pub struct Reach {
     pub path: u64,
     pub left: u64,
     pub right: u64,
+}
+
+// A set of sections with the blocks of line l in it too.
+fn with_blocks(ls: [Line; 8], l: u8, set: u64) -> u64
+    ensures { λ r. ⌜ r ≡ lineBlocks ls l set ⌝ }
+{
+    let a = line_at(ls, l);
+    let block = a.block;
+    let own = sets::of_list(block, a.blocks);
+    sets::merged(set, own)
+}
+
+// The blocks of the first n lines.
+pub fn block_set(ls: [Line; 8], n: u8) -> u64
+    ensures { λ r. ⌜ r ≡ blockSet n ls ⌝ }
+{
+    let mut set: u64 = 0;
+    let mut l: u8 = 0;
+    while l < n {
+        set = with_blocks(ls, l, set);
+        l += 1;
+    }
+    set
+}
+
+// A set of sections with the inner sections of line l in it too.
+fn with_inner(ls: [Line; 8], l: u8, set: u64) -> u64
+    ensures { λ r. ⌜ r ≡ innerTurn ls l set ⌝ }
+{
+    let a = line_at(ls, l);
+    let at_a = sets::with(set, a.innera);
+    sets::with(at_a, a.innerb)
+}
+
+// The inner sections of the first n lines.
+pub fn inner_set(ls: [Line; 8], n: u8) -> u64
+    ensures { λ r. ⌜ r ≡ innerSet n ls ⌝ }
+{
+    let mut set: u64 = 0;
+    let mut l: u8 = 0;
+    while l < n {
+        set = with_inner(ls, l, set);
+        l += 1;
+    }
+    set
+}
+
+// Rule 1: the blocks of line l differ, and none is a block of a line before it.
+pub fn blocks_once(ls: [Line; 8], l: u8) -> bool
+    ensures { λ r. ⌜ r ≡ once ls l ⌝ }
+{
+    let a = line_at(ls, l);
+    let block = a.block;
+    let differ = all_differ(block, a.blocks);
+    let own = sets::of_list(block, a.blocks);
+    let before = block_set(ls, l);
+    let again = sets::share(own, before);
+    differ & !again
+}
+
+// Rule 1: no section of a route's path is in a set of blocks.
+pub fn path_off_blocks(blocks: u64, a: Route) -> bool
+    ensures { λ r. ⌜ r ≡ offBlocks blocks a ⌝ }
+{
+    let path = a.path;
+    let own = sets::of_list(path, a.paths);
+    !sets::share(blocks, own)
+}
+
+// The signal x is an entrance signal of line l.
+fn is_entrance_of(ls: [Line; 8], l: u8, x: u8) -> bool
+    ensures { λ r. ⌜ r ≡ hasEntrance ls x l ⌝ }
+{
+    let a = line_at(ls, l);
+    (a.entrancea == x) | (a.entranceb == x)
+}
+
+// The signal x is an entrance signal of one of the first n lines.
+fn is_entrance(ls: [Line; 8], n: u8, x: u8) -> bool
+    ensures { λ r. ⌜ r ≡ isEntrance n ls x ⌝ }
+{
+    let mut l: u8 = 0;
+    while l < n {
+        if is_entrance_of(ls, l, x) {
+            return true;
+        }
+        l += 1;
+    }
+    false
+}
+
+// Rule 2: the two inner sections of line l differ, and so do its entrance signals from each other and from those of the lines before.
+pub fn line_ends(ls: [Line; 8], l: u8) -> bool
+    ensures { λ r. ⌜ r ≡ lineEnds ls l ⌝ }
+{
+    let a = line_at(ls, l);
+    let inner = !(a.innera == a.innerb);
+    let own = !(a.entrancea == a.entranceb);
+    let at_a = is_entrance(ls, l, a.entrancea);
+    let at_b = is_entrance(ls, l, a.entranceb);
+    inner & (own & (!at_a & !at_b))
+}
+
+// Rule 3: the points of line l differ.
+pub fn line_points(ls: [Line; 8], l: u8) -> bool
+    ensures { λ r. ⌜ r ≡ linePoints ls l ⌝ }
+{
+    let a = line_at(ls, l);
+    let point = a.point;
+    all_differ(point, a.points)
+}
+
+// Rule 3: the sections of a route's path differ, and so do its points.
+pub fn route_lists(a: Route) -> bool
+    ensures { λ r. ⌜ r ≡ routeLists a ⌝ }
+{
+    let path = a.path;
+    let point = a.point;
+    let sections = all_differ(path, a.paths);
+    let points = all_differ(point, a.points);
+    sections & points
+}
+
+// Rule 4: kinds 0 and 1 have at least two path sections.
+pub fn route_length(a: Route) -> bool
+    ensures { λ r. ⌜ r ≡ routeLength a ⌝ }
+{
+    (a.kind == 2) | (2 <= a.paths)
+}
+
+// A line's inner section at an end.
+fn inner_at(a: Line, end: u8) -> u8
+    ensures { λ r. ⌜ r ≡ inner a end ⌝ }
+{
+    if end == 0 {
+        return a.innera;
+    }
+    a.innerb
+}
+
+// A line's entrance signal at an end.
+fn entrance_at(a: Line, end: u8) -> u8
+    ensures { λ r. ⌜ r ≡ entrance a end ⌝ }
+{
+    if end == 0 {
+        return a.entrancea;
+    }
+    a.entranceb
+}
+
+// The last section of a route's path.
+fn last_section(a: Route) -> u8
+    ensures { λ r. ⌜ r ≡ endSection a ⌝ }
+{
+    let path = a.path;
+    if a.paths == 0 {
+        return at8(path, 0);
+    }
+    at8(path, a.paths - 1)
+}
+
+// Rule 5: where a route starts and ends, by its kind, among the first n lines.
+pub fn route_ends(ls: [Line; 8], n: u8, a: Route) -> bool
+    ensures { λ r. ⌜ r ≡ routeEnds n ls a ⌝ }
+{
+    let path = a.path;
+    let b = line_at(ls, a.line);
+    let section = inner_at(b, a.end);
+    let signal = entrance_at(b, a.end);
+    let first = at8(path, 0);
+    let last = last_section(a);
+    let elsewhere = is_entrance(ls, n, a.entry);
+    let enters = !(a.kind == 1) | ((a.entry == signal) & (first == section));
+    let leaves = !(a.kind == 2) | (last == section);
+    enters & (leaves & ((a.kind == 1) | !elsewhere))
+}
+
+// A set of points with the i-th point of a route in it too, if it lies that way.
+fn with_point(a: Route, way: u8, i: u8, set: u64) -> u64
+    ensures { λ r. ⌜ r ≡ sideTurn way a i set ⌝ }
+{
+    let point = a.point;
+    let position = a.position;
+    if at8(position, i) == way {
+        return sets::with(set, at8(point, i));
+    }
+    set
+}
+
+// A route's points that lie that way.
+fn side_set(a: Route, way: u8) -> u64
+    ensures { λ r. ⌜ r ≡ sideSet way a ⌝ }
+{
+    let n = a.points;
+    let mut set: u64 = 0;
+    let mut i: u8 = 0;
+    while i < n {
+        set = with_point(a, way, i, set);
+        i += 1;
+    }
+    set
+}
+
+// What rule 6 asks of a route.
+pub fn route_reach(a: Route) -> Reach
+    ensures { λ r. ⌜ r ≡ reachOf a ⌝ }
+{
+    let own = a.path;
+    let path = sets::of_list(own, a.paths);
+    let left = side_set(a, 1);
+    let right = side_set(a, 2);
+    Reach {
+        entry: a.entry,
+        path,
+        left,
+        right,
+    }
+}
+
+// Rule 6: the same entry signal, a common path section, or a common point in different positions.
+pub fn clash(a: Reach, b: Reach) -> bool
+    ensures { λ r. ⌜ r ≡ clashing a b ⌝ }
+{
+    let path = sets::share(a.path, b.path);
+    let one = sets::share(a.left, b.right);
+    let other = sets::share(a.right, b.left);
+    (a.entry == b.entry) | (path | (one | other))
 }

@@ -1,0 +1,9 @@
+-- By the end.
+use Rattle.laws.proofs.Choice.{choices}
+use Rattle.track.specs.Objects.{entrance}
+use Rattle.rules.proofs.entrance_at.Statement.{statement}
+use Rattle.rules.proofs.entrance_at.Tie as tie
+
+pub entrance-at-spec : {M : Type 1} → statement M
+unfolding entrance
+entrance-at-spec = tie.close (tie.spec (λ c. search choices) (λ c. search choices))

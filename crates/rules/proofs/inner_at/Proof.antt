@@ -1,0 +1,9 @@
+-- By the end.
+use Rattle.laws.proofs.Choice.{choices}
+use Rattle.track.specs.Objects.{inner}
+use Rattle.rules.proofs.inner_at.Statement.{statement}
+use Rattle.rules.proofs.inner_at.Tie as tie
+
+pub inner-at-spec : {M : Type 1} → statement M
+unfolding inner
+inner-at-spec = tie.close (tie.spec (λ c. search choices) (λ c. search choices))

@@ -1,0 +1,9 @@
+-- What the two sets share, turned round.
+use borrow.Author.Needs.{needs}
+use Rattle.rules.specs.Sets.{offBlocks}
+use Rattle.rules.proofs.path_off_blocks.Statement.{statement}
+use Rattle.rules.proofs.path_off_blocks.Tie as tie
+
+pub path-off-blocks-spec : {M : Type 1} → statement M
+unfolding offBlocks
+path-off-blocks-spec = tie.close (tie.spec (λ c κs. search needs) (λ c κs. search needs) (λ c. cc))

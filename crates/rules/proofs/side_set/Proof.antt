@@ -1,0 +1,16 @@
+-- i points are looked at.
+use Prim.Native.Nat.{_-_}
+use Rattle.laws.proofs.Loops.{Turned, iters}
+use Rattle.rules.specs.Sets.{sideTurn, sideSet}
+use Rattle.rules.proofs.side_set.Statement.{statement}
+use Rattle.rules.proofs.side_set.Tie as tie
+
+abbrev Inv-loop : tie.InvT-loop
+Inv-loop a way n set₀ i₀ set i = Turned n (sideTurn way a) 0 set i
+
+abbrev μ-loop : tie.MeasureT-loop
+μ-loop a way n set₀ i₀ set i = n - i
+
+pub side-set-spec : {M : Type 1} → statement M
+unfolding sideSet
+side-set-spec = tie.close (tie.spec Inv-loop μ-loop (λ c. search iters) (λ c κs. search iters) (λ c. search iters) (λ c. search iters) (λ c. search iters) (λ c. search iters))

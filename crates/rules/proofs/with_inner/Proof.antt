@@ -1,0 +1,9 @@
+-- One after the other.
+use borrow.Author.Needs.{needs}
+use Rattle.rules.specs.Sets.{innerTurn}
+use Rattle.rules.proofs.with_inner.Statement.{statement}
+use Rattle.rules.proofs.with_inner.Tie as tie
+
+pub with-inner-spec : {M : Type 1} → statement M
+unfolding innerTurn
+with-inner-spec = tie.close (tie.spec (λ c κs. search needs) (λ c κs. search needs) (λ c κs. search needs) (λ c. cc))

@@ -1,0 +1,48 @@
+-- The sets of sections and points that the code tests the rules with. What the rules say stands in Rules; here is only how it is kept in 64 bits.
+use Prim.Native.Nat.{ℕ}
+use mathlib.Core.Bool.{Bool, not}
+use mathlib.Core.List.{List}
+use lib.Dec.{eqb}
+use lib.ListN.{getD}
+use Rattle.laws.specs.Choice.{if_then_else_}
+use Rattle.laws.specs.Tests.{_or_}
+use Rattle.laws.specs.Tables.{iter}
+use Rattle.sets.specs.Sets.{joined, union, setOf, common}
+use Rattle.track.specs.declared.Line.{Line}
+use Rattle.track.specs.declared.Route.{Route}
+use Rattle.track.specs.Objects.{line}
+use Rattle.rules.specs.declared.Reach.{Reach}
+
+-- the blocks of line l with those before it; the blocks of the first n lines
+unfoldable pub lineBlocks : List Line → ℕ → ℕ → ℕ
+lineBlocks ls l set = union set (setOf (line ls l .blocks) (line ls l .block))
+
+unfoldable pub blockSet : ℕ → List Line → ℕ
+blockSet n ls = iter (lineBlocks ls) n 0
+
+-- the inner sections of line l with those before it; those of the first n lines
+unfoldable pub innerTurn : List Line → ℕ → ℕ → ℕ
+innerTurn ls l set = joined (joined set (line ls l .innera)) (line ls l .innerb)
+
+unfoldable pub innerSet : ℕ → List Line → ℕ
+innerSet n ls = iter (innerTurn ls) n 0
+
+-- no path section of the route is in the set
+unfoldable pub offBlocks : ℕ → Route → Bool
+offBlocks blocks a = not (common blocks (setOf (a .paths) (a .path)))
+
+-- the route's i-th point with those before it, if it lies that way; all its points that do
+unfoldable pub sideTurn : ℕ → Route → ℕ → ℕ → ℕ
+sideTurn w a i set = if eqb (getD (a .position) i 0) w then joined set (getD (a .point) i 0) else set
+
+unfoldable pub sideSet : ℕ → Route → ℕ
+sideSet w a = iter (sideTurn w a) (a .points) 0
+
+-- what rule 6 asks of a route
+unfoldable pub reachOf : Route → Reach
+reachOf a = record { entry = a .entry; path = setOf (a .paths) (a .path); left = sideSet 1 a; right = sideSet 2 a }
+
+-- and of two
+unfoldable pub clashing : Reach → Reach → Bool
+clashing a b =
+    eqb (a .entry) (b .entry) or (common (a .path) (b .path) or (common (a .left) (b .right) or common (a .right) (b .left)))
