@@ -1,10 +1,10 @@
 -- A choice, by the test that decides it.
 use Prim.Native.Nat.{ℕ, _<_, _≤_}
 use mathlib.Core.Path.{_≡_, refl, sym, _∙_}
-use mathlib.Core.Bool.{Bool, true, false}
-use lib.Dec.{eqb, ltb, leb}
+use mathlib.Core.Bool.{Bool, true, false, not}
+use lib.Dec.{eqb, ltb}
 use borrow.Author.Needs.{needs}
-use borrow.Author.Tests.{lt-ltb, le-ltb, le-leb, lt-leb, eq-eqb, ne-eqb}
+use borrow.Author.Tests.{lt-ltb, le-ltb, eq-eqb, ne-eqb, not-true, not-false}
 use Rattle.laws.specs.Choice.{if_then_else_}
 
 module _ {A : Type 0} where
@@ -28,6 +28,13 @@ module _ {A : Type 0} where
   pub if-ge : (m n : ℕ) (x y r : A) → n ≤ m → r ≡ y → r ≡ if ltb m n then x else y
   if-ge m n x y r e q = if-false (ltb m n) x y r (le-ltb m n e) q
 
+  -- the same where the code tested v, which says what t says, and went on or left
+  pub if-passed : (v t : Bool) (x y r : A) → v ≡ t → not v ≡ false → r ≡ x → r ≡ if t then x else y
+  if-passed v t x y r d e q = if-true t x y r (sym d ∙ not-false v e) q
+
+  pub if-left : (v t : Bool) (x y r : A) → v ≡ t → not v ≡ true → r ≡ y → r ≡ if t then x else y
+  if-left v t x y r d e q = if-false t x y r (sym d ∙ not-true v e) q
+
   -- what holds of x and of y, each where the test chooses it, holds of the choice
   pub if-both : (P : A → Type 0) (t : Bool) {x y : A} → (t ≡ true → P x) → (t ≡ false → P y) → P (if t then x else y)
   unfolding if_then_else_
@@ -36,3 +43,5 @@ module _ {A : Type 0} where
 
 -- for chains of tests with early returns
 pub ruleset choices = (needs, if-true, if-false, if-eq, if-ne, if-lt, if-ge)
+
+pub ruleset chains = (needs, if-passed, if-left)

@@ -7,6 +7,7 @@ use mathlib.Core.Logic.{_⊎_, inl, inr, ⊎-elim}
 use native.Mathlib.Nat.{not-suc-le-zero}
 use native.Mathlib.Omega.{arith}
 use native.Mathlib.Decide.{ℕ-discrete}
+use borrow.Author.Tests.{not-true, not-false}
 use lib.ListN.{getD}
 use Rattle.laws.specs.Tests.{_and_, _or_, implies, every, all, any}
 
@@ -85,6 +86,23 @@ every-one b p = p
 pub every-more : (b c : Bool) (bs : List Bool) → b ≡ true → every (c ∷ bs) ≡ true → every (b ∷ c ∷ bs) ≡ true
 unfolding every
 every-more b c bs p q = rw (p, q)
+
+-- for tests one after the other, of which the code leaves at the first that fails
+module _ (t : Bool) (ts : List Bool) (v : Bool) where
+  pub every-stops : v ≡ t → not v ≡ true → false ≡ every (t ∷ ts)
+  every-stops d e = sym (fails-from (every (t ∷ ts)) (λ p. not-both (every-at (t ∷ ts) p 0) (sym d ∙ not-true v e)))
+
+  pub every-passes : (u r : Bool) → v ≡ t → not v ≡ false → r ≡ every (u ∷ ts) → r ≡ every (t ∷ u ∷ ts)
+  unfolding every
+  every-passes u r d e q = rw (← d, not-false v e) q
+
+-- a test of the list that fails, whichever
+pub every-fails : (ts : List Bool) (k : ℕ) → getD ts k true ≡ false → false ≡ every ts
+every-fails ts k e = sym (fails-from (every ts) (λ p. not-both (every-at ts p k) e))
+
+pub every-last : (t r : Bool) → r ≡ t → r ≡ every (t ∷ [])
+unfolding every
+every-last t r q = q
 
 -- ---- tests over 0 .. n - 1
 

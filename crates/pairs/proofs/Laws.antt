@@ -75,18 +75,18 @@ unfolding named
 named-few routes e = rw e (if-both (λ r. r ≤ 48) (ltb routes 48) (λ t. omega (arith, ltb-true routes 48 t)) (λ f. omega arith))
 
 -- both places of a pair lie in the table
-pub place-inside : (i j : ℕ) → i < 48 → j < 48 → placeOf i j < 2304
+pub place-inside : (i j : ℕ) {p : ℕ} → p ≡ placeOf i j → i < 48 → j < 48 → p < 2304
 unfolding placeOf
-place-inside i j h k = omega arith
+place-inside i j e h k = omega arith
 
 module _ (s : List ℕ) (routes : ℕ) (c : Cursor) (last : ℕ) (one : Pair) (few : routes ≤ 48) (e : one ≡ aPair s routes c last) where
   pub pair-place : one .place < 2304
   unfolding aPair
-  pair-place = rw e (place-inside _ _ (reference-below s c routes 48 refl few (omega arith)) (reference-below s (reference s c routes) routes 48 refl few (omega arith)))
+  pair-place = rw e (place-inside _ _ refl (reference-below s c routes 48 refl few (omega arith)) (reference-below s (reference s c routes) routes 48 refl few (omega arith)))
 
   pub pair-mirror : one .mirror < 2304
   unfolding aPair
-  pair-mirror = rw e (place-inside _ _ (reference-below s (reference s c routes) routes 48 refl few (omega arith)) (reference-below s c routes 48 refl few (omega arith)))
+  pair-mirror = rw e (place-inside _ _ refl (reference-below s (reference s c routes) routes 48 refl few (omega arith)) (reference-below s c routes 48 refl few (omega arith)))
 
 -- one pair more
 pub pair-turned : (s : List ℕ) (routes i : ℕ) (cur : Cursor) (last : ℕ) (conflict : List ℕ) (one : Pair) → one ≡ aPair s routes cur last

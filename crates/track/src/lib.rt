@@ -157,7 +157,7 @@ fn all_refer(xs: [u8; 8], n: u8, objects: u8) -> bool
 }
 
 // From low to high.
-fn is_between(low: u8, high: u8, x: u8) -> bool
+pub fn is_between(low: u8, high: u8, x: u8) -> bool
     ensures { λ r. ⌜ r ≡ between low high x ⌝ }
 {
     (low <= x) & (x <= high)

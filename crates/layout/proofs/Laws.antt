@@ -1,0 +1,119 @@
+-- Loading, put together from what was read, and its cases.
+use Prim.Native.Nat.{ℕ, _<_, _≤_}
+use mathlib.Core.Path.{_≡_, refl, sym, ap, _∙_}
+use mathlib.Core.Bool.{Bool, true, false, not}
+use mathlib.Core.List.{List, [], _∷_}
+use native.Mathlib.Omega.{arith}
+use borrow.Author.Needs.{needs}
+use borrow.Author.Tests.{not-false, leb-true}
+use lib.Dec.{eqb}
+use Rattle.laws.specs.Choice.{if_then_else_}
+use Rattle.laws.proofs.Choice.{if-eq, if-ne}
+use Rattle.laws.specs.Tests.{all}
+use Rattle.laws.proofs.Tests.{every-at, every-stops, every-passes, every-last}
+use Rattle.laws.proofs.Loops.{iter-keeps}
+use Rattle.fields.specs.declared.Cursor.{Cursor}
+use Rattle.fields.specs.Fields.{code}
+use Rattle.fields.proofs.Ranges.{code-most}
+use Rattle.track.specs.declared.Counts.{Counts}
+use Rattle.reading.specs.declared.Owned.{Owned}
+use Rattle.reading.specs.declared.Lines.{Lines}
+use Rattle.reading.specs.declared.Routes.{Routes}
+use Rattle.reading.specs.Sections.{sections}
+use Rattle.reading.specs.Lines.{lines}
+use Rattle.reading.specs.Routes.{routes, routesFrom, routeTurn}
+use Rattle.pairs.specs.declared.Pairs.{Pairs}
+use Rattle.pairs.specs.Pairs.{pairs}
+use Rattle.layout.specs.declared.Layout.{Layout}
+use Rattle.layout.specs.declared.Loaded.{Loaded}
+use Rattle.layout.specs.declared.file.Heading.{Heading}
+use Rattle.layout.specs.declared.file.Whole.{Whole}
+use Rattle.layout.specs.Rules.{rule1, rule2, rule3, rule4, rule5, rule6, firstFailed, broken}
+use Rattle.layout.specs.Sound.{fits, rowMirrors, mirrored, sound}
+use Rattle.layout.specs.Load.{start, heading, countsOf, wholeOf, whole, refused, finished, load}
+
+-- the file from its parts
+pub whole-made : (s : List ℕ) (h : Heading) (a b : Counts) (l : Lines) (r : Routes) (p : Pairs)
+    → h ≡ heading s → a ≡ countsOf h 0 → l ≡ lines s a (h .cur) → b ≡ countsOf h (l .count) → r ≡ routes s b (l .cur) → p ≡ pairs s (r .count) (r .cur)
+    → wholeOf h l r p ≡ whole s
+unfolding whole
+whole-made s h a b l r p e₁ e₂ e₃ e₄ e₅ e₆ = rw (e₆, e₅, e₄, e₃, e₂, e₁)
+
+-- there are at most 48 routes, in a file and in a record that is in range
+routes-few : (s : List ℕ) (n : Counts) (c : Cursor) → routes s n c .count ≤ 48
+unfolding routes routesFrom routeTurn
+routes-few s n c =
+    iter-keeps (λ i (t : Routes). t .count ≤ 48) (routeTurn s n) _ _ (code-most s c 0 48 refl) (λ i b l p. p)
+
+pub whole-few : (s : List ℕ) {w : Whole} → w ≡ whole s → w .layout .routes ≤ 48
+unfolding whole
+whole-few s e = rw e (routes-few s _ _)
+
+pub fits-few : (L : Layout) (v : Bool) → v ≡ fits L → not v ≡ false → L .routes ≤ 48
+unfolding fits
+fits-few L v e q = leb-true _ _ (every-at _ (sym e ∙ not-false v q) 6)
+
+-- ---- the first broken rule: of the first three, else of the last three
+
+early : (a b c d e f : Bool) (k : ℕ) → k ≡ firstFailed 1 (a ∷ b ∷ c ∷ []) → (k ≡ 0 → ⊥) → k ≡ firstFailed 1 (a ∷ b ∷ c ∷ d ∷ e ∷ f ∷ [])
+unfolding firstFailed if_then_else_
+early false b c d e f k p q = p
+early true false c d e f k p q = p
+early true true false d e f k p q = p
+early true true true d e f k p q = absurd (q p)
+
+late : (a b c d e f : Bool) (k r : ℕ) → k ≡ firstFailed 1 (a ∷ b ∷ c ∷ []) → k ≡ 0 → r ≡ firstFailed 4 (d ∷ e ∷ f ∷ [])
+    → r ≡ firstFailed 1 (a ∷ b ∷ c ∷ d ∷ e ∷ f ∷ [])
+unfolding firstFailed if_then_else_
+late false b c d e f k r p q s = absurd (omega arith)
+late true false c d e f k r p q s = absurd (omega arith)
+late true true false d e f k r p q s = absurd (omega arith)
+late true true true d e f k r p q s = s
+
+pub broken-first : (L : Layout) (k : ℕ) → k ≡ firstFailed 1 (rule1 L ∷ rule2 L ∷ rule3 L ∷ []) → (k ≡ 0 → ⊥) → k ≡ broken L
+unfolding broken
+broken-first L k p q = early _ _ _ (rule4 L) (rule5 L) (rule6 L) k p q
+
+pub broken-last : (L : Layout) (k r : ℕ) → k ≡ firstFailed 1 (rule1 L ∷ rule2 L ∷ rule3 L ∷ []) → k ≡ 0
+    → r ≡ firstFailed 4 (rule4 L ∷ rule5 L ∷ rule6 L ∷ []) → r ≡ broken L
+unfolding broken
+broken-last L k r p q s = late _ _ _ _ _ _ k r p q s
+
+-- ---- soundness, by cases
+
+module _ (L : Layout) (a : Bool) (p : a ≡ fits L) where
+  pub sound-range : not a ≡ true → false ≡ sound L
+  unfolding sound
+  sound-range q = every-stops _ _ a p q
+
+  pub sound-mirror : (b : Bool) → not a ≡ false → b ≡ all (L .routes) (rowMirrors (L .conflict)) → not b ≡ true → false ≡ sound L
+  unfolding sound mirrored
+  sound-mirror b q r s = every-passes _ _ a _ _ p q (every-stops _ _ b r s)
+
+  pub sound-rules : (b : Bool) (k : ℕ) → not a ≡ false → b ≡ all (L .routes) (rowMirrors (L .conflict)) → not b ≡ false → k ≡ broken L → eqb k 0 ≡ sound L
+  unfolding sound mirrored
+  sound-rules b k q r s e = every-passes _ _ a _ _ p q (every-passes _ _ b _ _ r s (every-last _ _ (ap (λ n. eqb n 0) e)))
+
+pub ruleset sounds = (needs, sound-range, sound-mirror, sound-rules)
+
+-- ---- what loading answers, by cases
+
+module _ (w : Whole) (n : ℕ) (r : Loaded) where
+  pub finished-fault : (w .cur .fault ≡ 0 → ⊥) → r ≡ refused (w .cur .fault) (w .cur .at) → r ≡ finished w n
+  unfolding finished
+  finished-fault h q = if-ne _ _ _ _ r h q
+
+  pub finished-left : w .cur .fault ≡ 0 → (w .cur .at ≡ n → ⊥) → r ≡ refused 26 (w .cur .at) → r ≡ finished w n
+  unfolding finished
+  finished-left h k q = if-eq _ _ _ _ r h (if-ne _ _ _ _ r k q)
+
+  pub finished-rule : (b : ℕ) → w .cur .fault ≡ 0 → w .cur .at ≡ n → b ≡ broken (w .layout) → (b ≡ 0 → ⊥) → r ≡ refused 25 b → r ≡ finished w n
+  unfolding finished
+  finished-rule b h k e m q = if-eq _ _ _ _ r h (if-eq _ _ _ _ r k (if-ne _ _ _ _ r (λ z. m (e ∙ z)) (q ∙ ap (refused 25) e)))
+
+  pub finished-well : (b : ℕ) → w .cur .fault ≡ 0 → w .cur .at ≡ n → b ≡ broken (w .layout) → b ≡ 0
+      → r ≡ record { number = 0; detail = 0; layout = w .layout } → r ≡ finished w n
+  unfolding finished
+  finished-well b h k e m q = if-eq _ _ _ _ r h (if-eq _ _ _ _ r k (if-eq _ _ _ _ r (sym e ∙ m) q))
+
+pub ruleset endings = (needs, finished-fault, finished-left, finished-rule, finished-well)

@@ -1,0 +1,8 @@
+-- In range, both ways, no rule broken.
+use borrow.Author.Needs.{needs}
+use Rattle.layout.proofs.Laws.{fits-few, sounds}
+use Rattle.layout.proofs.Layout.sound.Statement.{statement}
+use Rattle.layout.proofs.Layout.sound.Tie as tie
+
+pub sound-spec : {M : Type 1} → statement M
+sound-spec = tie.close (tie.spec (λ c κs. search sounds) (λ c. search sounds) (λ c κs. search (needs, fits-few)) (λ c. search sounds) (λ c κs. search (needs, fits-few)) (λ c. search sounds))

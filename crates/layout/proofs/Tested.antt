@@ -1,0 +1,101 @@
+-- The walks of the code test just what the rules say.
+use Prim.Native.Nat.{ℕ, _<_, _≤_}
+use mathlib.Core.Path.{_≡_, refl, sym, ap, ap₂, _∙_}
+use mathlib.Core.Bool.{Bool, not, _&&_}
+use mathlib.Core.List.{List, [], _∷_}
+use native.Mathlib.Omega.{arith}
+use lib.Dec.{eqb, leb}
+use lib.ListN.{length, getD}
+use Rattle.laws.specs.Choice.{if_then_else_}
+use Rattle.laws.specs.Tests.{_and_, implies, every, all}
+use Rattle.laws.proofs.Tests.{all-same}
+use Rattle.laws.proofs.Tables.{table-at}
+use Rattle.laws.proofs.Arrays.{read-in}
+use Rattle.sets.specs.Sets.{common}
+use Rattle.track.specs.declared.Counts.{Counts}
+use Rattle.track.specs.declared.Line.{Line}
+use Rattle.track.specs.declared.Route.{Route}
+use Rattle.track.specs.Objects.{line, route, noRoute}
+use Rattle.track.specs.Lists.{between}
+use Rattle.track.specs.Ranges.{lineFits, routeFits}
+use Rattle.rules.specs.declared.Reach.{Reach}
+use Rattle.rules.specs.Rules.{share, isBlock, isInner, inPath, once, lineEnds, linePoints, routeLists, routeLength, routeEnds, clashes}
+use Rattle.rules.specs.Sets.{blockSet, innerSet, offBlocks, reachOf, clashing}
+use Rattle.rules.proofs.Sets.{offBlocks-is, inner-is, clashing-is}
+use Rattle.layout.specs.declared.Layout.{Layout}
+use Rattle.layout.specs.Layout.{counts, lineIn, routeIn, conflict, entryOf}
+use Rattle.layout.specs.Rules.{rule1, rule2, rule3, rule4, rule5, rule6}
+use Rattle.layout.specs.Sound.{sectionsFit, fits}
+use Rattle.layout.specs.Walks.{lineKeeps, routeKeeps, blocksApart, listsDiffer, noReach, reaches, pairKeeps, rowKeeps}
+
+-- ---- an entry of an array of routes, as the code reads it
+
+pub kept-at : (rs : List Route) (i n : ℕ) (d : Route) (k : ℕ) (c : Counts) (ls : List Line) (blocks : ℕ) {v : Bool} → length rs ≡ 48 → i < n → n ≤ 48
+    → v ≡ routeKeeps k c ls blocks (getD rs i d) → v ≡ routeKeeps k c ls blocks (route rs i)
+unfolding route
+kept-at rs i n d k c ls blocks q b few e = e ∙ ap (routeKeeps k c ls blocks) (read-in rs i 48 d noRoute q (omega arith))
+
+pub reach-at : (rs : List Route) (i : ℕ) (d : Route) {v : Reach} → length rs ≡ 48 → i < 48 → v ≡ reachOf (getD rs i d) → v ≡ reachOf (route rs i)
+unfolding route
+reach-at rs i d q b e = e ∙ ap reachOf (read-in rs i 48 d noRoute q b)
+
+pub row-at : (m : List ℕ) (t : List Reach) (r q : ℕ) (d : Reach) {v : Bool} → length t ≡ 48 → r < 48 → q < r
+    → v ≡ pairKeeps m r q (getD t r d) (getD t q d) → v ≡ rowKeeps m t r q
+unfolding rowKeeps
+row-at m t r q d n h l e = e ∙ ap₂ (pairKeeps m r q) (read-in t r 48 d noReach n h) (read-in t q 48 d noReach n (omega arith))
+
+-- ---- each rule, by the walk that tests it
+
+module _ (L : Layout) (v : Bool) where
+  once-is : all (L .lines) (lineKeeps 1 (counts L) (L .line)) ≡ all (L .lines) (once (L .line))
+  unfolding lineKeeps if_then_else_
+  once-is = all-same _ _ _ (λ l h. refl)
+
+  paths-is : all (L .routes) (λ r. routeKeeps 1 (counts L) (L .line) (blockSet (L .lines) (L .line)) (routeIn L r))
+      ≡ all (L .routes) (λ r. not (share (isBlock (L .lines) (L .line)) (inPath (routeIn L r))))
+  unfolding routeKeeps if_then_else_
+  paths-is = all-same _ _ _ (λ r h. offBlocks-is (L .lines) (L .line) (routeIn L r))
+
+  pub rule1-by : v ≡ blocksApart (counts L) (L .line) (L .routes) (L .route) → v ≡ rule1 L
+  unfolding rule1 blocksApart counts routeIn
+  rule1-by e = e ∙ rw (once-is, paths-is, inner-is (L .lines) (L .line))
+
+  pub rule2-by : v ≡ all (L .lines) (lineKeeps 2 (counts L) (L .line)) → v ≡ rule2 L
+  unfolding rule2 lineKeeps if_then_else_
+  rule2-by e = e ∙ all-same _ _ _ (λ l h. refl)
+
+  pub rule3-by : v ≡ listsDiffer (counts L) (L .line) (L .routes) (L .route) → v ≡ rule3 L
+  unfolding rule3 listsDiffer routeIn counts lineKeeps routeKeeps if_then_else_
+  rule3-by e = e ∙ ap₂ _and_ (all-same (L .routes) _ _ (λ r h. refl)) (all-same (L .lines) _ _ (λ l h. refl))
+
+  pub rule4-by : v ≡ all (L .routes) (λ r. routeKeeps 4 (counts L) (L .line) 0 (route (L .route) r)) → v ≡ rule4 L
+  unfolding rule4 routeIn routeKeeps if_then_else_
+  rule4-by e = e ∙ all-same _ _ _ (λ r h. refl)
+
+  pub rule5-by : v ≡ all (L .routes) (λ r. routeKeeps 5 (counts L) (L .line) 0 (route (L .route) r)) → v ≡ rule5 L
+  unfolding rule5 routeIn counts routeKeeps if_then_else_
+  rule5-by e = e ∙ all-same _ _ _ (λ r h. refl)
+
+  pub rule6-by : L .routes ≤ 48 → v ≡ all (L .routes) (λ r. all r (rowKeeps (L .conflict) (reaches (L .route)) r)) → v ≡ rule6 L
+  unfolding rule6 rowKeeps pairKeeps reaches routeIn conflict
+  rule6-by few e =
+      e ∙ all-same _ _ _ (λ r h. all-same _ _ _ (λ q l.
+      ap (λ t. implies t (eqb (entryOf (L .conflict) r q) 1))
+      (ap₂ clashing (table-at 48 _ noReach r (omega arith)) (table-at 48 _ noReach q (omega arith)) ∙ clashing-is (routeIn L r) (routeIn L q))))
+
+-- ---- the ranges, by the walks that test them
+
+module _ (L : Layout) where
+  lines-fit-is : all (L .lines) (lineKeeps 0 (counts L) (L .line)) ≡ all (L .lines) (λ l. lineFits (counts L) (lineIn L l))
+  unfolding lineIn lineKeeps if_then_else_
+  lines-fit-is = all-same _ _ _ (λ l h. refl)
+
+  routes-fit-is : all (L .routes) (λ r. routeKeeps 0 (counts L) (L .line) 0 (route (L .route) r)) ≡ all (L .routes) (λ r. routeFits (counts L) (routeIn L r))
+  unfolding routeIn routeKeeps if_then_else_
+  routes-fit-is = all-same _ _ _ (λ r h. refl)
+
+  pub fits-made : (a b d e : Bool) → a ≡ between 1 64 (L .sections) → b ≡ sectionsFit (L .points) (L .sections) (L .pointsection)
+      → d ≡ all (L .lines) (lineKeeps 0 (counts L) (L .line)) → e ≡ all (L .routes) (λ r. routeKeeps 0 (counts L) (L .line) 0 (route (L .route) r))
+      → a && (leb (L .points) 32 && (b && (leb (L .signals) 32 && (leb (L .lines) 8 && (d && (leb (L .routes) 48 && e)))))) ≡ fits L
+  unfolding fits every
+  fits-made a b d e p q x y = rw (p, q, x ∙ lines-fit-is, y ∙ routes-fit-is)

@@ -1,0 +1,8 @@
+-- Its four parts.
+use borrow.Author.Needs.{needs}
+use Rattle.layout.proofs.Laws.{whole-made}
+use Rattle.layout.proofs.file.read_whole.Statement.{statement}
+use Rattle.layout.proofs.file.read_whole.Tie as tie
+
+pub read-whole-spec : {M : Type 1} → statement M
+read-whole-spec = tie.close (tie.spec (λ c κs. search needs) (λ c κs. search needs) (λ c κs. search needs) (λ c κs. search needs) (λ c κs. search needs) (λ c κs. search needs) (λ c. search whole-made))

@@ -1,0 +1,15 @@
+-- Each row before r is its own mirror.
+use Prim.Native.Nat.{_-_}
+use Rattle.laws.proofs.Loops.{Held, alls}
+use Rattle.layout.specs.Sound.{rowMirrors}
+use Rattle.layout.proofs.pairs_of_routes.mirrored.Statement.{statement}
+use Rattle.layout.proofs.pairs_of_routes.mirrored.Tie as tie
+
+abbrev Inv-loop : tie.InvT-loop
+Inv-loop m n r₀ r = Held n (rowMirrors m) r
+
+abbrev μ-loop : tie.MeasureT-loop
+μ-loop m n r₀ r = n - r
+
+pub mirrored-spec : {M : Type 1} → statement M
+mirrored-spec = tie.close (tie.spec Inv-loop μ-loop (λ c. search alls) (λ c κs. search alls) (λ c. search alls) (λ c. search alls) (λ c. search alls) (λ c. search alls) (λ c. search alls))

@@ -1,0 +1,10 @@
+-- Two looks at the table.
+use borrow.Author.Needs.{needs}
+use Rattle.laws.specs.Tests.{_and_}
+use Rattle.layout.specs.Sound.{pairMirrors}
+use Rattle.layout.proofs.pairs_of_routes.pair_mirrors.Statement.{statement}
+use Rattle.layout.proofs.pairs_of_routes.pair_mirrors.Tie as tie
+
+pub pair-mirrors-spec : {M : Type 1} → statement M
+unfolding pairMirrors _and_
+pair-mirrors-spec = tie.close (tie.spec (λ c κs. search needs) (λ c κs. search needs) (λ c. cc))

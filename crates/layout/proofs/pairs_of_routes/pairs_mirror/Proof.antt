@@ -1,0 +1,15 @@
+-- Each route before q is the mirror of itself with r.
+use Prim.Native.Nat.{_-_}
+use Rattle.laws.proofs.Loops.{Held, alls}
+use Rattle.layout.specs.Sound.{pairMirrors}
+use Rattle.layout.proofs.pairs_of_routes.pairs_mirror.Statement.{statement}
+use Rattle.layout.proofs.pairs_of_routes.pairs_mirror.Tie as tie
+
+abbrev Inv-loop : tie.InvT-loop
+Inv-loop m r q₀ q = Held r (pairMirrors m r) q
+
+abbrev μ-loop : tie.MeasureT-loop
+μ-loop m r q₀ q = r - q
+
+pub pairs-mirror-spec : {M : Type 1} → statement M
+pairs-mirror-spec = tie.close (tie.spec Inv-loop μ-loop (λ c. search alls) (λ c κs. search alls) (λ c. search alls) (λ c. search alls) (λ c. search alls) (λ c. search alls) (λ c. search alls))

@@ -1,0 +1,18 @@
+-- Each route before i keeps the rule.
+use Prim.Native.Nat.{_-_}
+use Rattle.laws.proofs.Arrays.{length-mapped}
+use Rattle.laws.proofs.Loops.{Held, alls}
+use Rattle.layout.proofs.Tested.{kept-at}
+use Rattle.layout.specs.Walks.{routeKeeps}
+use Rattle.track.specs.Objects.{route}
+use Rattle.layout.proofs.walks.routes_keep.Statement.{statement}
+use Rattle.layout.proofs.walks.routes_keep.Tie as tie
+
+abbrev Inv-loop : tie.InvT-loop
+Inv-loop k c ls blocks n rs i₀ i = Held n (λ j. routeKeeps k c ls blocks (route rs j)) i
+
+abbrev μ-loop : tie.MeasureT-loop
+μ-loop k c ls blocks n rs i₀ i = n - i
+
+pub routes-keep-spec : {M : Type 1} → statement M
+routes-keep-spec = tie.close (tie.spec Inv-loop μ-loop (λ c. search (alls, length-mapped)) (λ c. search (alls, length-mapped)) (λ c. search (alls, length-mapped)) (λ c. search (alls, length-mapped)) (λ c κs. search (alls, length-mapped)) (λ c. search (alls, length-mapped, kept-at)) (λ c. search (alls, length-mapped)) (λ c. search (alls, length-mapped)) (λ c. search (alls, length-mapped, kept-at)) (λ c. search (alls, length-mapped)))

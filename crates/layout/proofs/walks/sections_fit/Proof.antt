@@ -1,0 +1,18 @@
+-- The own section of each point before i is there.
+use Prim.Native.Nat.{_-_}
+use lib.Dec.{ltb}
+use lib.ListN.{getD}
+use Rattle.laws.proofs.Loops.{Held, alls}
+use Rattle.layout.specs.Sound.{sectionsFit}
+use Rattle.layout.proofs.walks.sections_fit.Statement.{statement}
+use Rattle.layout.proofs.walks.sections_fit.Tie as tie
+
+abbrev Inv-loop : tie.InvT-loop
+Inv-loop own n sections i₀ i = Held n (λ p. ltb (getD own p 0) sections) i
+
+abbrev μ-loop : tie.MeasureT-loop
+μ-loop own n sections i₀ i = n - i
+
+pub sections-fit-spec : {M : Type 1} → statement M
+unfolding sectionsFit
+sections-fit-spec = tie.close (tie.spec Inv-loop μ-loop (λ c. search alls) (λ c κs. search alls) (λ c. search alls) (λ c. search alls) (λ c. search alls) (λ c. search alls) (λ c. search alls))

@@ -1,0 +1,82 @@
+-- Loading a layout file: the first fault met, or the layout (section 2).
+use Prim.Native.Nat.{ℕ}
+use mathlib.Core.List.{List}
+use lib.Dec.{eqb}
+use lib.ListN.{length}
+use Rattle.laws.specs.Choice.{if_then_else_}
+use Rattle.fields.specs.declared.Cursor.{Cursor}
+use Rattle.fields.specs.Fields.{code}
+use Rattle.track.specs.declared.Counts.{Counts}
+use Rattle.reading.specs.declared.Owned.{Owned}
+use Rattle.reading.specs.declared.Lines.{Lines}
+use Rattle.reading.specs.declared.Routes.{Routes}
+use Rattle.reading.specs.Sections.{sections}
+use Rattle.reading.specs.Lines.{lines}
+use Rattle.reading.specs.Routes.{routes}
+use Rattle.pairs.specs.declared.Pairs.{Pairs}
+use Rattle.pairs.specs.Pairs.{pairs}
+use Rattle.layout.specs.declared.Layout.{Layout}
+use Rattle.layout.specs.declared.Loaded.{Loaded}
+use Rattle.layout.specs.declared.file.Heading.{Heading}
+use Rattle.layout.specs.declared.file.Whole.{Whole}
+use Rattle.layout.specs.Layout.{noLayout}
+use Rattle.layout.specs.Rules.{broken}
+
+-- the file's first byte
+abbrev pub start : Cursor
+start = record { at = 0; fault = 0; value = 0 }
+
+-- version, 1; number of sections, 1..64; points, each with its own section; number of signals, 0..32
+unfoldable pub heading : List ℕ → Heading
+heading s =
+    let version : Cursor = code s start 1 1 in
+    let b : Cursor = code s version 1 64 in
+    let p : Owned = sections s b (b .value) in
+    let d : Cursor = code s (p .cur) 0 32 in
+    record { cur = d; sections = b .value; points = p .count; pointsection = p .section; signals = d .value }
+
+-- the objects that lines and routes may refer to
+unfoldable pub countsOf : Heading → ℕ → Counts
+countsOf h lines = record { sections = h .sections; points = h .points; signals = h .signals; lines = lines }
+
+-- a layout from its parts
+abbrev pub wholeOf : Heading → Lines → Routes → Pairs → Whole
+wholeOf h l r p = record {
+  cur = p .cur;
+  layout = record {
+    sections = h .sections;
+    points = h .points;
+    pointsection = h .pointsection;
+    signals = h .signals;
+    lines = l .count;
+    line = l .line;
+    routes = r .count;
+    route = r .route;
+    conflict = p .conflict;
+  };
+}
+
+-- then lines, routes and conflicts
+unfoldable pub whole : List ℕ → Whole
+whole s =
+    let h : Heading = heading s in
+    let l : Lines = lines s (countsOf h 0) (h .cur) in
+    let r : Routes = routes s (countsOf h (l .count)) (l .cur) in
+    wholeOf h l r (pairs s (r .count) (r .cur))
+
+-- a refused load gives the layout with no objects
+unfoldable pub refused : ℕ → ℕ → Loaded
+refused number detail = record { number = number; detail = detail; layout = noLayout }
+
+-- the first fault met with its place; 26 bytes left over, at the first of them; then 25 with the rule's number; else 0
+unfoldable pub finished : Whole → ℕ → Loaded
+finished w n =
+    if eqb (w .cur .fault) 0 then
+    (if eqb (w .cur .at) n then
+    (if eqb (broken (w .layout)) 0 then record { number = 0; detail = 0; layout = w .layout } else refused 25 (broken (w .layout)))
+    else refused 26 (w .cur .at))
+    else refused (w .cur .fault) (w .cur .at)
+
+-- loading answers 0, detail 0 and the layout, or the first fault met
+unfoldable pub load : List ℕ → Loaded
+load s = finished (whole s) (length s)

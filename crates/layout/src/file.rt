@@ -1,0 +1,88 @@
+// The layout file from its first number to its last.
+use super::Layout;
+use fields::Cursor;
+use fields::read_code;
+use track::Counts;
+ghost use mathlib.Core.Path.{_≡_};
+ghost use Rattle.layout.specs.Load.{start, heading, countsOf, whole};
+
+// What the file begins with: sections, points, signals.
+pub struct Heading {
+    pub cur: Cursor,
+    pub sections: u8,
+    pub points: u8,
+    pub pointsection: [u8; 32],
+    pub signals: u8,
+}
+
+// The whole file, as far as it could be read.
+pub struct Whole {
+    pub cur: Cursor,
+    pub layout: Layout,
+}
+
+// Version 1; sections 1 to 64; points, each with its own section; signals 0 to 32.
+fn read_heading(s: &[u8]) -> Heading
+    ensures { λ r. ⌜ r ≡ heading (now (s .entry)) ⌝ }
+{
+    let c = Cursor {
+        at: 0,
+        fault: 0,
+        value: 0,
+    };
+    let version = read_code(s, c, 1, 1);
+    let b = read_code(s, version, 1, 64);
+    let p = reading::read_sections(s, b, b.value);
+    let c1 = p.cur;
+    let d = read_code(s, c1, 0, 32);
+    let pointsection = p.section;
+    Heading {
+        cur: d,
+        sections: b.value,
+        points: p.count,
+        pointsection,
+        signals: d.value,
+    }
+}
+
+// The objects that lines and routes may refer to.
+fn counts_of(h: Heading, lines: u8) -> Counts
+    ensures { λ r. ⌜ r ≡ countsOf h lines ⌝ }
+{
+    Counts {
+        sections: h.sections,
+        points: h.points,
+        signals: h.signals,
+        lines,
+    }
+}
+
+// The whole file.
+pub fn read_whole(s: &[u8]) -> Whole
+    ensures { λ r. ⌜ r ≡ whole (now (s .entry)) ⌝ }
+{
+    let h = read_heading(s);
+    let c1 = h.cur;
+    let l = reading::read_lines(s, counts_of(h, 0), c1);
+    let c2 = l.cur;
+    let r = reading::read_routes(s, counts_of(h, l.count), c2);
+    let c3 = r.cur;
+    let p = pairs::read_pairs(s, c3, r.count);
+    let cur = p.cur;
+    let pointsection = h.pointsection;
+    let line = l.line;
+    let route = r.route;
+    let conflict = p.conflict;
+    let layout = Layout {
+        sections: h.sections,
+        points: h.points,
+        pointsection,
+        signals: h.signals,
+        lines: l.count,
+        line,
+        routes: r.count,
+        route,
+        conflict,
+    };
+    Whole { cur, layout }
+}

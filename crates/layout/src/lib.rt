@@ -1,0 +1,208 @@
+// A layout: its record, the layout file, and whether a record is sound (section 2).
+mod file;
+mod pairs_of_routes;
+mod walks;
+
+use track::Counts;
+use track::Line;
+use track::Route;
+ghost use mathlib.Core.Path.{_≡_};
+ghost use mathlib.Core.List.{[], _∷_};
+ghost use Prim.Native.Nat.{_≤_};
+ghost use Rattle.layout.specs.Layout.{noLayout};
+ghost use Rattle.layout.specs.Rules.{rule1, rule2, rule3, rule4, rule5, rule6, firstFailed, broken};
+ghost use Rattle.layout.specs.Sound.{fits, sound};
+ghost use Rattle.layout.specs.Load.{refused, finished, load};
+
+// conflict: 1 at 48 * i + j where the routes i and j conflict, else 0.
+// Entries past a count are not looked at; in a layout that was loaded they are 0.
+pub struct Layout {
+    pub sections: u8,
+    pub points: u8,
+    pub pointsection: [u8; 32],
+    pub signals: u8,
+    pub lines: u8,
+    pub line: [Line; 8],
+    pub routes: u8,
+    pub route: [Route; 48],
+    pub conflict: [u8; 2304],
+}
+
+// The answer to a layout file: 0, 0 and the layout; or a fault's number with its detail, and the layout with no objects.
+pub struct Loaded {
+    pub number: u8,
+    pub detail: usize,
+    pub layout: Layout,
+}
+
+// The layout with no objects.
+fn no_layout() -> Layout
+    ensures { λ r. ⌜ r ≡ noLayout ⌝ }
+{
+    let pointsection = reading::no_sections();
+    let line = reading::no_lines();
+    let route = reading::no_routes();
+    let conflict = pairs::no_pairs();
+    Layout {
+        sections: 0,
+        points: 0,
+        pointsection,
+        signals: 0,
+        lines: 0,
+        line,
+        routes: 0,
+        route,
+        conflict,
+    }
+}
+
+// The first broken one of the rules 1 to 3, or 0.
+fn broken_early(l: Layout) -> u8
+    requires { ⌜ l .routes ≤ 48 ⌝ }
+    ensures { λ r. ⌜ r ≡ firstFailed 1 (rule1 l ∷ rule2 l ∷ rule3 l ∷ []) ⌝ }
+{
+    let c = Counts {
+        sections: l.sections,
+        points: l.points,
+        signals: l.signals,
+        lines: l.lines,
+    };
+    let ls = l.line;
+    let rs = l.route;
+    let n = l.routes;
+    if !walks::rule_1(c, ls, n, rs) {
+        return 1;
+    }
+    if !walks::lines_keep(2, c, ls) {
+        return 2;
+    }
+    if !walks::rule_3(c, ls, n, rs) {
+        return 3;
+    }
+    0
+}
+
+// The first broken one of the rules 4 to 6, or 0.
+fn broken_late(l: Layout) -> u8
+    requires { ⌜ l .routes ≤ 48 ⌝ }
+    ensures { λ r. ⌜ r ≡ firstFailed 4 (rule4 l ∷ rule5 l ∷ rule6 l ∷ []) ⌝ }
+{
+    let c = Counts {
+        sections: l.sections,
+        points: l.points,
+        signals: l.signals,
+        lines: l.lines,
+    };
+    let ls = l.line;
+    let rs = l.route;
+    let n = l.routes;
+    if !walks::routes_keep(4, c, ls, 0, n, rs) {
+        return 4;
+    }
+    if !walks::routes_keep(5, c, ls, 0, n, rs) {
+        return 5;
+    }
+    if !pairs_of_routes::rule_6(&l.conflict, n, rs) {
+        return 6;
+    }
+    0
+}
+
+// The first broken rule's number, 0 where none is.
+fn first_broken(l: Layout) -> u8
+    requires { ⌜ l .routes ≤ 48 ⌝ }
+    ensures { λ r. ⌜ r ≡ broken l ⌝ }
+{
+    let early = broken_early(l);
+    if early != 0 {
+        return early;
+    }
+    broken_late(l)
+}
+
+// Every count, code and reference is in its range.
+fn in_range(l: Layout) -> bool
+    ensures { λ r. ⌜ r ≡ fits l ⌝ }
+{
+    let c = Counts {
+        sections: l.sections,
+        points: l.points,
+        signals: l.signals,
+        lines: l.lines,
+    };
+    let own = l.pointsection;
+    let ls = l.line;
+    let rs = l.route;
+    let n = l.routes;
+    if 32 < c.points {
+        return false;
+    }
+    if 48 < n {
+        return false;
+    }
+    let sections = track::is_between(1, 64, c.sections);
+    let points = walks::sections_fit(own, c.points, c.sections);
+    let lines = walks::lines_keep(0, c, ls);
+    let routes = walks::routes_keep(0, c, ls, 0, n, rs);
+    let rest = (c.lines <= 8) & (lines & ((n <= 48) & routes));
+    sections & ((c.points <= 32) & (points & ((c.signals <= 32) & rest)))
+}
+
+impl Layout {
+    // Whether a record, also one assembled by hand, is a layout as section 2 has it.
+    pub fn sound(self) -> bool
+        ensures { λ r. ⌜ r ≡ sound self ⌝ }
+    {
+        if !in_range(self) {
+            return false;
+        }
+        if !pairs_of_routes::mirrored(&self.conflict, self.routes) {
+            return false;
+        }
+        first_broken(self) == 0
+    }
+}
+
+// A refused load.
+fn refuse(number: u8, detail: usize) -> Loaded
+    ensures { λ r. ⌜ r ≡ refused number detail ⌝ }
+{
+    let layout = no_layout();
+    Loaded {
+        number,
+        detail,
+        layout,
+    }
+}
+
+// What was read of a file of n bytes, held to its end and to the rules.
+fn finish(w: file::Whole, n: usize) -> Loaded
+    requires { ⌜ w .layout .routes ≤ 48 ⌝ }
+    ensures { λ r. ⌜ r ≡ finished w n ⌝ }
+{
+    let c = w.cur;
+    let layout = w.layout;
+    if c.fault != 0 {
+        return refuse(c.fault, c.at);
+    }
+    if c.at != n {
+        return refuse(26, c.at);
+    }
+    let rule = first_broken(layout);
+    if rule != 0 {
+        return refuse(25, rule as usize);
+    }
+    Loaded {
+        number: 0,
+        detail: 0,
+        layout,
+    }
+}
+
+// The answer to a layout file, whatever its bytes.
+pub fn load(s: &[u8]) -> Loaded
+    ensures { λ r. ⌜ r ≡ load (now (s .entry)) ⌝ }
+{
+    let w = file::read_whole(s);
+    finish(w, s.len())
+}
