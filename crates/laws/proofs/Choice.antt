@@ -35,6 +35,12 @@ module _ {A : Type 0} where
   pub if-left : (v t : Bool) (x y r : A) → v ≡ t → not v ≡ true → r ≡ y → r ≡ if t then x else y
   if-left v t x y r d e q = if-false t x y r (sym d ∙ not-true v e) q
 
+  pub if-yes : (v t : Bool) (x y r : A) → v ≡ t → v ≡ true → r ≡ x → r ≡ if t then x else y
+  if-yes v t x y r d e q = if-true t x y r (sym d ∙ e) q
+
+  pub if-no : (v t : Bool) (x y r : A) → v ≡ t → v ≡ false → r ≡ y → r ≡ if t then x else y
+  if-no v t x y r d e q = if-false t x y r (sym d ∙ e) q
+
   -- what holds of x and of y, each where the test chooses it, holds of the choice
   pub if-both : (P : A → Type 0) (t : Bool) {x y : A} → (t ≡ true → P x) → (t ≡ false → P y) → P (if t then x else y)
   unfolding if_then_else_
@@ -44,4 +50,4 @@ module _ {A : Type 0} where
 -- for chains of tests with early returns
 pub ruleset choices = (needs, if-true, if-false, if-eq, if-ne, if-lt, if-ge)
 
-pub ruleset chains = (needs, if-passed, if-left)
+pub ruleset chains = (needs, if-passed, if-left, if-yes, if-no)

@@ -4,3 +4,5 @@ pub mod Loops
 pub mod Tables
 pub mod Arrays
 pub mod Only
+pub mod Searches
+pub mod Each

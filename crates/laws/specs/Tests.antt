@@ -2,6 +2,7 @@
 use Prim.Native.Nat.{ℕ, zero, suc}
 use mathlib.Core.Bool.{Bool, true, false, not, _&&_, _||_}
 use mathlib.Core.List.{List, [], _∷_}
+use Rattle.laws.specs.Choice.{if_then_else_}
 
 infixl 35 _and_
 infixl 30 _or_
@@ -32,3 +33,12 @@ all (suc n) p = all n p && p n
 unfoldable pub any : ℕ → (ℕ → Bool) → Bool
 any zero p = false
 any (suc n) p = any n p || p n
+
+-- of the k numbers from i on the lowest at which p holds, or the number after them
+unfoldable pub lowestFrom : ℕ → ℕ → (ℕ → Bool) → ℕ
+lowestFrom zero i p = i
+lowestFrom (suc k) i p = if p i then i else lowestFrom k (suc i) p
+
+-- the lowest of 0 .. n - 1 at which p holds; n where there is none
+unfoldable pub lowest : ℕ → (ℕ → Bool) → ℕ
+lowest n p = lowestFrom n 0 p

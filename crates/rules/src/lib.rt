@@ -3,11 +3,12 @@ use laws::at8;
 use track::Line;
 use track::Route;
 use track::all_differ;
+use track::entrance_at;
+use track::inner_at;
 use track::line_at;
 ghost use mathlib.Core.Path.{_≡_};
 ghost use mathlib.Core.Bool.{not};
 ghost use lib.Dec.{eqb};
-ghost use Rattle.track.specs.Objects.{inner, entrance};
 ghost use Rattle.rules.specs.Rules.{hasEntrance, isEntrance, once, lineEnds, linePoints, routeLists, routeLength, endSection, routeEnds};
 ghost use Rattle.rules.specs.Sets.{lineBlocks, blockSet, innerTurn, innerSet, offBlocks, sideTurn, sideSet, reachOf, clashing};
 
@@ -145,26 +146,6 @@ pub fn route_length(a: Route) -> bool
     ensures { λ r. ⌜ r ≡ routeLength a ⌝ }
 {
     (a.kind == 2) | (2 <= a.paths)
-}
-
-// A line's inner section at an end.
-fn inner_at(a: Line, end: u8) -> u8
-    ensures { λ r. ⌜ r ≡ inner a end ⌝ }
-{
-    if end == 0 {
-        return a.innera;
-    }
-    a.innerb
-}
-
-// A line's entrance signal at an end.
-fn entrance_at(a: Line, end: u8) -> u8
-    ensures { λ r. ⌜ r ≡ entrance a end ⌝ }
-{
-    if end == 0 {
-        return a.entrancea;
-    }
-    a.entranceb
 }
 
 // The last section of a route's path.

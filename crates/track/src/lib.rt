@@ -4,7 +4,7 @@ ghost use mathlib.Core.Path.{_≡_};
 ghost use mathlib.Core.Bool.{not};
 ghost use lib.Dec.{eqb, ltb};
 ghost use lib.ListN.{getD};
-ghost use Rattle.track.specs.Objects.{noLine, noRoute, line};
+ghost use Rattle.track.specs.Objects.{noLine, noRoute, line, inner, entrance};
 ghost use Rattle.track.specs.Lists.{among, differ, between, referring, positions};
 ghost use Rattle.track.specs.Ranges.{placed, lineFits, routeFits};
 
@@ -91,6 +91,26 @@ pub fn line_at(ls: [Line; 8], l: u8) -> Line
         return ls[l as usize];
     }
     no_line()
+}
+
+// A line's inner section at an end.
+pub fn inner_at(a: Line, end: u8) -> u8
+    ensures { λ r. ⌜ r ≡ inner a end ⌝ }
+{
+    if end == 0 {
+        return a.innera;
+    }
+    a.innerb
+}
+
+// A line's entrance signal at an end.
+pub fn entrance_at(a: Line, end: u8) -> u8
+    ensures { λ r. ⌜ r ≡ entrance a end ⌝ }
+{
+    if end == 0 {
+        return a.entrancea;
+    }
+    a.entranceb
 }
 
 // The entry i is g.

@@ -1,8 +1,8 @@
 -- By the end.
 use Rattle.laws.proofs.Choice.{choices}
 use Rattle.track.specs.Objects.{inner}
-use Rattle.rules.proofs.inner_at.Statement.{statement}
-use Rattle.rules.proofs.inner_at.Tie as tie
+use Rattle.track.proofs.inner_at.Statement.{statement}
+use Rattle.track.proofs.inner_at.Tie as tie
 
 pub inner-at-spec : {M : Type 1} → statement M
 unfolding inner

@@ -1,0 +1,10 @@
+-- By the step, then by what is given and read.
+use Rattle.laws.proofs.Choice.{choices}
+use Rattle.laws.specs.Tests.{_and_}
+use Rattle.release.specs.Release.{earlyStep}
+use Rattle.release.proofs.early_step.Statement.{statement}
+use Rattle.release.proofs.early_step.Tie as tie
+
+pub early-step-spec : {M : Type 1} → statement M
+unfolding earlyStep _and_
+early-step-spec = tie.close (tie.spec (λ c. search choices) (λ c. search choices) (λ c. search choices) (λ c. search choices) (λ c. search choices))

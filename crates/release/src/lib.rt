@@ -1,0 +1,200 @@
+// Letting a route go: the watched pair, the three steps, the ninety seconds (section 6).
+use laws::at8;
+use signals::all_free;
+use signals::nearest_block;
+use signals::section_reads;
+use track::Line;
+use track::Route;
+use track::line_at;
+ghost use mathlib.Core.Path.{_≡_};
+ghost use Prim.Native.Nat.{_-_};
+ghost use lib.ListN.{getD};
+ghost use Rattle.release.specs.Release.{given, endBlock, firstWatched, secondWatched, earlyStep, stepFrom, stepAfter, leftSections, left, secondsAfter, goes, heldAfter};
+
+// What an event gives: a section its reading (1 free, 2 occupied, 3 none; no section where the number is 64 or more), and 1 where a second has passed.
+pub struct Gives {
+    pub section: u8,
+    pub reading: u8,
+    pub tick: u8,
+}
+
+// What the state holds of a route: its phase, the step done, the seconds counted.
+pub struct Held {
+    pub phase: u8,
+    pub step: u8,
+    pub second: u8,
+}
+
+// What the event gives section g, 0 for nothing.
+pub fn given_to(e: Gives, g: u8) -> u8
+    ensures { λ r. ⌜ r ≡ given e g ⌝ }
+{
+    if e.section == g {
+        return e.reading;
+    }
+    0
+}
+
+// The section of the block nearest a route's own end.
+pub fn end_block(ls: [Line; 8], a: Route) -> u8
+    ensures { λ r. ⌜ r ≡ endBlock ls a ⌝ }
+{
+    let b = line_at(ls, a.line);
+    let block = b.block;
+    let i = nearest_block(b, a.end);
+    at8(block, i)
+}
+
+// The k-th path section from the end, 1 the last; the first entry of a path that has fewer.
+fn from_end(a: Route, k: u8) -> u8
+    ensures { λ r. ⌜ r ≡ getD (a .path) (a .paths - k) 0 ⌝ }
+{
+    let path = a.path;
+    if a.paths < k {
+        return at8(path, 0);
+    }
+    at8(path, a.paths - k)
+}
+
+// The first of the watched pair.
+fn first_watched(a: Route) -> u8
+    ensures { λ r. ⌜ r ≡ firstWatched a ⌝ }
+{
+    if a.kind == 2 {
+        return from_end(a, 1);
+    }
+    from_end(a, 2)
+}
+
+// The second of the watched pair.
+fn second_watched(ls: [Line; 8], a: Route) -> u8
+    ensures { λ r. ⌜ r ≡ secondWatched ls a ⌝ }
+{
+    if a.kind == 2 {
+        return end_block(ls, a);
+    }
+    from_end(a, 1)
+}
+
+// The step done before the second one: 0 or 1.
+fn early_step(step: u8, gave1: u8, gave2: u8, reads1: u8) -> u8
+    ensures { λ r. ⌜ r ≡ earlyStep step gave1 gave2 reads1 ⌝ }
+{
+    if step == 1 {
+        if reads1 == 1 {
+            return 0;
+        }
+        if (gave2 == 2) & (reads1 == 2) {
+            return 2;
+        }
+        return 1;
+    }
+    if gave1 == 2 {
+        return 1;
+    }
+    0
+}
+
+// The step done after an event.
+fn step_from(step: u8, gave1: u8, gave2: u8, reads1: u8, reads2: u8) -> u8
+    ensures { λ r. ⌜ r ≡ stepFrom step gave1 gave2 reads1 reads2 ⌝ }
+{
+    if step == 3 {
+        return 3;
+    }
+    if (reads1 == 3) | (reads2 == 3) {
+        return 0;
+    }
+    if step == 2 {
+        if gave1 == 1 {
+            return 3;
+        }
+        return 2;
+    }
+    early_step(step, gave1, gave2, reads1)
+}
+
+// The same for a route.
+fn step_after(ls: [Line; 8], sections: &[u8; 64], a: Route, e: Gives, step: u8) -> u8
+    ensures { λ r. ⌜ r ≡ stepAfter ls (now (sections .entry)) a e step ⌝ }
+{
+    let first = first_watched(a);
+    let second = second_watched(ls, a);
+    let gave1 = given_to(e, first);
+    let gave2 = given_to(e, second);
+    let reads1 = section_reads(sections, first);
+    let reads2 = section_reads(sections, second);
+    step_from(step, gave1, gave2, reads1, reads2)
+}
+
+// How many path sections must read free.
+fn left_sections(a: Route) -> u8
+    ensures { λ r. ⌜ r ≡ leftSections a ⌝ }
+{
+    if a.kind == 2 {
+        return a.paths;
+    }
+    if a.paths == 0 {
+        return 0;
+    }
+    a.paths - 1
+}
+
+// The train has left the route behind.
+fn is_left(ls: [Line; 8], sections: &[u8; 64], a: Route) -> bool
+    ensures { λ r. ⌜ r ≡ left ls (now (sections .entry)) a ⌝ }
+{
+    let path = a.path;
+    let entrance = a.kind == 1;
+    let n = left_sections(a);
+    let free = all_free(sections, n, path);
+    let g = end_block(ls, a);
+    let end = section_reads(sections, g);
+    free & (!entrance | (end == 1))
+}
+
+// The seconds counted after an event.
+fn seconds_after(e: Gives, phase: u8, second: u8) -> u8
+    ensures { λ r. ⌜ r ≡ secondsAfter e phase second ⌝ }
+{
+    if (phase == 3) & (e.tick == 1) {
+        if second < 89 {
+            return second + 1;
+        }
+        return second;
+    }
+    second
+}
+
+// The route is released in this event, the step done being now `step`.
+fn is_released(ls: [Line; 8], sections: &[u8; 64], a: Route, e: Gives, h: Held, step: u8) -> bool
+    ensures { λ r. ⌜ r ≡ goes ls (now (sections .entry)) a e h step ⌝ }
+{
+    if (h.phase == 3) & ((e.tick == 1) & (89 <= h.second)) {
+        return true;
+    }
+    if step == 3 {
+        return is_left(ls, sections, a);
+    }
+    false
+}
+
+// What becomes of a locked route in an event.
+pub fn held_after(ls: [Line; 8], sections: &[u8; 64], a: Route, e: Gives, h: Held) -> Held
+    ensures { λ r. ⌜ r ≡ heldAfter ls (now (sections .entry)) a e h ⌝ }
+{
+    let step = step_after(ls, sections, a, e, h.step);
+    let second = seconds_after(e, h.phase, h.second);
+    if is_released(ls, sections, a, e, h, step) {
+        return Held {
+            phase: 0,
+            step: 0,
+            second: 0,
+        };
+    }
+    Held {
+        phase: h.phase,
+        step,
+        second,
+    }
+}

@@ -1,0 +1,18 @@
+-- Each point before j is in position.
+use Prim.Native.Nat.{_-_}
+use lib.Dec.{eqb}
+use lib.ListN.{getD}
+use Rattle.laws.proofs.Loops.{Held, alls}
+use Rattle.signals.specs.Readings.{lies, inPosition}
+use Rattle.signals.proofs.all_placed.Statement.{statement}
+use Rattle.signals.proofs.all_placed.Tie as tie
+
+abbrev Inv-loop : tie.InvT-loop
+Inv-loop points n ps ws j₀ j = Held n (λ k. eqb (lies points (getD ps k 0)) (getD ws k 0)) j
+
+abbrev μ-loop : tie.MeasureT-loop
+μ-loop points n ps ws j₀ j = n - j
+
+pub all-placed-spec : {M : Type 1} → statement M
+unfolding inPosition
+all-placed-spec = tie.close (tie.spec Inv-loop μ-loop (λ c. search alls) (λ c κs. search alls) (λ c. search alls) (λ c. search alls) (λ c. search alls) (λ c. search alls) (λ c. search alls))

@@ -1,0 +1,29 @@
+-- What sections and points read (section 1): 1 free, or left; 2 occupied, or right; 3 none.
+use Prim.Native.Nat.{ℕ}
+use mathlib.Core.Bool.{Bool}
+use mathlib.Core.List.{List}
+use lib.Dec.{eqb}
+use lib.ListN.{getD}
+use Rattle.laws.specs.Choice.{if_then_else_}
+use Rattle.laws.specs.Tests.{all}
+use Rattle.laws.specs.Tables.{read}
+
+-- section 1: code 1 is free (left), 2 is occupied (right), every other code is recorded as none
+unfoldable pub recorded : ℕ → ℕ
+recorded code = if eqb code 1 then 1 else if eqb code 2 then 2 else 3
+
+-- what section g reads in a table of sections; a section that there is not reads none
+unfoldable pub reading : List ℕ → ℕ → ℕ
+reading sections g = read 64 3 sections g
+
+-- what point p reads in a table of points
+unfoldable pub lies : List ℕ → ℕ → ℕ
+lies points p = read 32 3 points p
+
+-- the first n of these sections read free
+unfoldable pub allFree : List ℕ → ℕ → List ℕ → Bool
+allFree sections n xs = all n (λ j. eqb (reading sections (getD xs j 0)) 1)
+
+-- the first n of these points are read in position; none is no position
+unfoldable pub inPosition : List ℕ → ℕ → List ℕ → List ℕ → Bool
+inPosition points n ps ws = all n (λ j. eqb (lies points (getD ps j 0)) (getD ws j 0))

@@ -1,0 +1,243 @@
+// What sections and points read, and what signals show, over the tables of a state that are lent (sections 1 and 4).
+use laws::at8;
+use track::Line;
+use track::Route;
+use track::line_at;
+ghost use mathlib.Core.Path.{_≡_};
+ghost use lib.Dec.{eqb};
+ghost use lib.ListN.{getD};
+ghost use Rattle.laws.specs.Tests.{implies};
+ghost use Rattle.laws.specs.Tables.{read};
+ghost use Rattle.signals.specs.Readings.{recorded, reading, lies, allFree, inPosition};
+ghost use Rattle.signals.specs.Signals.{linePlaced, routePlaced, place, nearest, isOpen, unbarred, enterable, letsOut, clear, fallen};
+
+// The reading that a code stands for: every code but 1 and 2 is none.
+pub fn record(code: u32) -> u8
+    ensures { λ r. ⌜ r ≡ recorded code ⌝ }
+{
+    if code == 1 {
+        return 1;
+    }
+    if code == 2 {
+        return 2;
+    }
+    3
+}
+
+// What section g reads.
+pub fn section_reads(sections: &[u8; 64], g: u8) -> u8
+    ensures { λ r. ⌜ r ≡ reading (now (sections .entry)) g ⌝ }
+{
+    if g < 64 {
+        return sections[g as usize];
+    }
+    3
+}
+
+// What point p reads.
+pub fn point_reads(points: &[u8; 32], p: u8) -> u8
+    ensures { λ r. ⌜ r ≡ lies (now (points .entry)) p ⌝ }
+{
+    if p < 32 {
+        return points[p as usize];
+    }
+    3
+}
+
+// The j-th of these sections reads free.
+fn free_at(sections: &[u8; 64], xs: [u8; 8], j: u8) -> bool
+    ensures { λ r. ⌜ r ≡ eqb (reading (now (sections .entry)) (getD xs j 0)) 1 ⌝ }
+{
+    let g = at8(xs, j);
+    section_reads(sections, g) == 1
+}
+
+// The first n of these sections read free.
+pub fn all_free(sections: &[u8; 64], n: u8, xs: [u8; 8]) -> bool
+    ensures { λ r. ⌜ r ≡ allFree (now (sections .entry)) n xs ⌝ }
+{
+    let mut j: u8 = 0;
+    while j < n {
+        if !free_at(sections, xs, j) {
+            return false;
+        }
+        j += 1;
+    }
+    true
+}
+
+// The j-th of these points is read in its position.
+fn placed_at(points: &[u8; 32], ps: [u8; 8], ws: [u8; 8], j: u8) -> bool
+    ensures { λ r. ⌜ r ≡ eqb (lies (now (points .entry)) (getD ps j 0)) (getD ws j 0) ⌝ }
+{
+    let p = at8(ps, j);
+    let w = at8(ws, j);
+    point_reads(points, p) == w
+}
+
+// The first n of these points are read in position.
+fn all_placed(points: &[u8; 32], n: u8, ps: [u8; 8], ws: [u8; 8]) -> bool
+    ensures { λ r. ⌜ r ≡ inPosition (now (points .entry)) n ps ws ⌝ }
+{
+    let mut j: u8 = 0;
+    while j < n {
+        if !placed_at(points, ps, ws, j) {
+            return false;
+        }
+        j += 1;
+    }
+    true
+}
+
+// The points of a line are in position.
+pub fn line_placed(points: &[u8; 32], b: Line) -> bool
+    ensures { λ r. ⌜ r ≡ linePlaced (now (points .entry)) b ⌝ }
+{
+    let ps = b.point;
+    let ws = b.position;
+    all_placed(points, b.points, ps, ws)
+}
+
+// The points of a route are in position.
+pub fn route_placed(points: &[u8; 32], a: Route) -> bool
+    ensures { λ r. ⌜ r ≡ routePlaced (now (points .entry)) a ⌝ }
+{
+    let ps = a.point;
+    let ws = a.position;
+    all_placed(points, a.points, ps, ws)
+}
+
+// Where block i of line l stands in the tables of stages and bars.
+pub fn place_of(l: u8, i: u8) -> usize
+    ensures { λ r. ⌜ r ≡ place l i ⌝ }
+{
+    8 * (l as usize) + (i as usize)
+}
+
+// The block that stands first, seen from an end.
+pub fn nearest_block(b: Line, end: u8) -> u8
+    ensures { λ r. ⌜ r ≡ nearest b end ⌝ }
+{
+    if end == 0 {
+        return 0;
+    }
+    if b.blocks == 0 {
+        return 0;
+    }
+    b.blocks - 1
+}
+
+// Block i of line l is open.
+pub fn is_open(stages: &[u8; 64], l: u8, i: u8) -> bool
+    ensures { λ r. ⌜ r ≡ isOpen (now (stages .entry)) l i ⌝ }
+{
+    held_at(stages, l, i) == 0
+}
+
+// Block i of line l is not barred.
+pub fn is_unbarred(bars: &[u8; 64], l: u8, i: u8) -> bool
+    ensures { λ r. ⌜ r ≡ unbarred (now (bars .entry)) l i ⌝ }
+{
+    held_at(bars, l, i) == 0
+}
+
+// The entry of block i of line l in a table of blocks; a block that there is not is held and barred.
+fn held_at(table: &[u8; 64], l: u8, i: u8) -> u8
+    ensures { λ r. ⌜ r ≡ read 64 1 (now (table .entry)) (place l i) ⌝ }
+{
+    let k = place_of(l, i);
+    if k < 64 {
+        return table[k];
+    }
+    1
+}
+
+// A train may be let into block i of line l.
+pub fn may_enter<'a>(
+    ls: [Line; 8],
+    points: &'a [u8; 32],
+    stages: &'a [u8; 64],
+    bars: &'a [u8; 64],
+    l: u8,
+    i: u8,
+) -> bool
+    ensures { λ r. ⌜ r ≡ enterable ls (now (points .entry)) (now (stages .entry)) (now (bars .entry)) l i ⌝ }
+{
+    let b = line_at(ls, l);
+    let open = is_open(stages, l, i);
+    let free = is_unbarred(bars, l, i);
+    let placed = line_placed(points, b);
+    open & (free & placed)
+}
+
+// A train may be let into the block that an exit route enters.
+fn line_lets_out<'a>(
+    ls: [Line; 8],
+    points: &'a [u8; 32],
+    stages: &'a [u8; 64],
+    bars: &'a [u8; 64],
+    a: Route,
+) -> bool
+    ensures { λ r. ⌜ r ≡ letsOut ls (now (points .entry)) (now (stages .entry)) (now (bars .entry)) a ⌝ }
+{
+    let b = line_at(ls, a.line);
+    let i = nearest_block(b, a.end);
+    may_enter(ls, points, stages, bars, a.line, i)
+}
+
+// The same, where the route is an exit route; the other kinds ask no line.
+fn is_let_out<'a>(
+    ls: [Line; 8],
+    points: &'a [u8; 32],
+    stages: &'a [u8; 64],
+    bars: &'a [u8; 64],
+    a: Route,
+) -> bool
+    ensures { λ r. ⌜ r ≡ implies (eqb (a .kind) 2) (letsOut ls (now (points .entry)) (now (stages .entry)) (now (bars .entry)) a) ⌝ }
+{
+    if a.kind != 2 {
+        return true;
+    }
+    line_lets_out(ls, points, stages, bars, a)
+}
+
+// What keeps a route's signal at proceed.
+pub fn is_clear<'a>(
+    ls: [Line; 8],
+    sections: &'a [u8; 64],
+    points: &'a [u8; 32],
+    stages: &'a [u8; 64],
+    bars: &'a [u8; 64],
+    a: Route,
+) -> bool
+    ensures { λ r. ⌜ r ≡ clear ls (now (sections .entry)) (now (points .entry)) (now (stages .entry)) (now (bars .entry)) a ⌝ }
+{
+    let path = a.path;
+    let overlap = a.overlap;
+    let way = all_free(sections, a.paths, path);
+    let beyond = all_free(sections, a.overlaps, overlap);
+    let placed = route_placed(points, a);
+    let out = is_let_out(ls, points, stages, bars, a);
+    way & (beyond & (placed & out))
+}
+
+// The phase that a route's signal falls to, or stays in.
+pub fn falls_to<'a>(
+    ls: [Line; 8],
+    sections: &'a [u8; 64],
+    points: &'a [u8; 32],
+    stages: &'a [u8; 64],
+    bars: &'a [u8; 64],
+    a: Route,
+    was: u8,
+) -> u8
+    ensures { λ r. ⌜ r ≡ fallen ls (now (sections .entry)) (now (points .entry)) (now (stages .entry)) (now (bars .entry)) a was ⌝ }
+{
+    if was != 1 {
+        return was;
+    }
+    if is_clear(ls, sections, points, stages, bars, a) {
+        return 1;
+    }
+    2
+}
