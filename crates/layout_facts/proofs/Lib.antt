@@ -1,0 +1,9 @@
+pub mod Means
+pub mod Order
+pub mod Lists
+pub mod Ranges
+pub mod Conflicts
+pub mod Rules
+pub mod Rule6
+pub mod Sound
+pub mod Uses

@@ -1,0 +1,92 @@
+-- The test of the ranges means that every count, code and reference is in its range.
+use Prim.Native.Nat.{ℕ, _<_, _≤_}
+use mathlib.Core.Path.{_≡_}
+use mathlib.Core.Bool.{true}
+use mathlib.Core.List.{List}
+use mathlib.Core.Logic.{_↔_, Iff·trans, _⊎_}
+use native.Mathlib.Omega.{arith}
+use lib.ListN.{getD}
+use Rattle.laws.specs.Choice.{if_then_else_}
+use Rattle.track.specs.Objects.{inner, entrance}
+use Rattle.track.specs.Ranges.{placed, lineFits, routeFits}
+use Rattle.layout.specs.declared.Layout.{Layout}
+use Rattle.layout.specs.Layout.{counts, lineIn, routeIn}
+use Rattle.layout.specs.Sound.{sectionsFit, fits}
+use Rattle.layout_facts.specs.Plain.{ownSection, block, innerSection, entranceSignal, linePoint, linePosition, path, overlap, routePoint, routePosition, LineRanges, RouteRanges, Ranges}
+use Rattle.layout_facts.proofs.Means.{eqb-means, ltb-means, leb-means, lastly, _also_, _&_, every-means, and-means, or-means, all-means}
+use Rattle.layout_facts.proofs.Order.{to-one, unless}
+use Rattle.layout_facts.proofs.Lists.{between-means, referring-means, positions-means}
+
+-- points 0..8 as (point, position)
+placed-means : (objects n : ℕ) (point position : List ℕ)
+    → placed objects n point position ≡ true
+    ↔ (n ≤ 8) × (((i : ℕ) → i < n → getD point i 0 < objects) × ((i : ℕ) → i < n → getD position i 0 ≡ 1 ⊎ getD position i 0 ≡ 2))
+unfolding placed
+placed-means objects n point position = every-means (leb-means _ _ also referring-means _ _ _ also lastly (positions-means _ _))
+
+-- a line
+lineFits-means : (L : Layout) (l : ℕ) → lineFits (counts L) (lineIn L l) ≡ true ↔ LineRanges L l
+unfolding lineFits counts block innerSection entranceSignal inner entrance if_then_else_ linePoint linePosition
+lineFits-means L l =
+    Iff·trans (every-means (
+    between-means _ _ _ also referring-means _ _ _ also ltb-means _ _ also ltb-means _ _ also ltb-means _ _ also ltb-means _ _
+    also lastly (placed-means _ _ _ _))) (
+      λ (blocks, (block, (innera, (innerb, (entrancea, (entranceb, (points, (point, position)))))))). record {
+        blockCount = blocks;
+        blocks = block;
+        inners = to-one _ innera innerb;
+        entrances = to-one _ entrancea entranceb;
+        pointCount = points;
+        points = point;
+        positions = position;
+      },
+      λ s. s .blockCount & s .blocks & s .inners 0 (omega arith) & s .inners 1 (omega arith) & s .entrances 0 (omega arith) & s .entrances 1 (omega arith)
+          & s .pointCount & s .points & s .positions,
+    )
+
+-- a route
+routeFits-means : (L : Layout) (r : ℕ) → routeFits (counts L) (routeIn L r) ≡ true ↔ RouteRanges L r
+unfolding routeFits counts path overlap routePoint routePosition
+routeFits-means L r =
+    Iff·trans (every-means (
+    and-means (ltb-means _ _) (leb-means _ _)
+    also or-means (eqb-means _ _) (and-means (ltb-means _ _) (leb-means _ _))
+    also leb-means _ _ also between-means _ _ _ also referring-means _ _ _ also leb-means _ _ also referring-means _ _ _
+    also lastly (placed-means _ _ _ _))) (
+      λ ((entry, kind), (line, (diverging, (paths, (path, (overlaps, (overlap, (points, (point, position))))))))). record {
+        entry = entry;
+        kind = kind;
+        line = unless (routeIn L r .kind) 0 1 2 (omega arith) .0 line;
+        diverging = diverging;
+        pathCount = paths;
+        paths = path;
+        overlapCount = overlaps;
+        overlaps = overlap;
+        pointCount = points;
+        points = point;
+        positions = position;
+      },
+      λ s. (s .entry & s .kind) & unless (routeIn L r .kind) 0 1 2 (omega arith) .1 (s .line) & s .diverging & s .pathCount & s .paths
+          & s .overlapCount & s .overlaps & s .pointCount & s .points & s .positions,
+    )
+
+-- every count, code and reference is in its range
+pub fits-means : (L : Layout) → fits L ≡ true ↔ Ranges L
+unfolding fits sectionsFit ownSection
+fits-means L =
+    Iff·trans (every-means (
+    between-means _ _ _ also leb-means _ _ also all-means (λ p h. ltb-means _ _) also leb-means _ _
+    also leb-means _ _ also all-means (λ l h. lineFits-means L l)
+    also leb-means _ _ also lastly (all-means (λ r h. routeFits-means L r)))) (
+      λ (sections, (points, (point, (signals, (lines, (line, (routes, route))))))). record {
+        sectionCount = sections;
+        pointCount = points;
+        points = point;
+        signalCount = signals;
+        lineCount = lines;
+        lines = line;
+        routeCount = routes;
+        routes = route;
+      },
+      λ s. s .sectionCount & s .pointCount & s .points & s .signalCount & s .lineCount & s .lines & s .routeCount & s .routes,
+    )
