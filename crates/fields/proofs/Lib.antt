@@ -1,2 +1,4 @@
 pub mod Laws
 pub mod Ranges
+pub mod Cleared
+pub mod Unique

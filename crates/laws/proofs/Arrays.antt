@@ -6,7 +6,7 @@ use native.Mathlib.Nat.{not-suc-le-zero, le-of-suc-le-suc}
 use native.Mathlib.Omega.{arith}
 use native.Mathlib.Decide.{ℕ-discrete}
 use borrow.Author.Needs.{needs}
-use lib.ListN.{length, getD, set, length-map, List·getD-eq-default}
+use lib.ListN.{length, getD, set, replicate, length-map, List·getD-eq-default}
 use lib.Seq.{getD-set-same, getD-set-other}
 
 module _ {A : Type 0} where
@@ -20,6 +20,20 @@ module _ {A : Type 0} where
   -- past the end it is what is said to stand there
   pub read-past : (l : List A) (i n : ℕ) (d r : A) → length l ≡ n → n ≤ i → r ≡ d → r ≡ getD l i d
   read-past l i n d r q b e = e ∙ sym (List·getD-eq-default l d (omega arith))
+
+  -- a list of one thing has nothing else, whatever is asked for
+  pub nothing-at : (n : ℕ) (d : A) (k : ℕ) → getD (replicate n d) k d ≡ d
+  nothing-at zero d k = refl
+  nothing-at (suc n) d zero = refl
+  nothing-at (suc n) d (suc k) = nothing-at n d k
+
+  -- what holds of an entry, and of a value stored somewhere, holds of the entry then
+  pub set-keeps : (P : A → Type 0) (l : List A) (i : ℕ) (v d : A) (k : ℕ) → P (getD l k d) → P v → P (getD (set l i v) k d)
+  set-keeps P [] i v d k p q = p
+  set-keeps P (x ∷ l) zero v d zero p q = q
+  set-keeps P (x ∷ l) zero v d (suc k) p q = p
+  set-keeps P (x ∷ l) (suc i) v d zero p q = p
+  set-keeps P (x ∷ l) (suc i) v d (suc k) p q = set-keeps P l i v d k p q
 
   stored-at : (P : A → Type 0) (l : List A) (i : ℕ) (v d : A) (k : ℕ) → Dec (k ≡ i) → i < length l → (k < i → P (getD l k d)) → P v → k < suc i
       → P (getD (set l i v) k d)

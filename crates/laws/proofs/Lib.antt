@@ -3,6 +3,8 @@ pub mod Tests
 pub mod Loops
 pub mod Tables
 pub mod Arrays
+pub mod Stores
 pub mod Only
 pub mod Searches
 pub mod Each
+pub mod Unique

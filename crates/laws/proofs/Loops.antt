@@ -78,6 +78,10 @@ unfolding iter
 iter-keeps P f zero a z s = z
 iter-keeps P f (suc n) a z s = s n (iter f n a) (le-refl (suc n)) (iter-keeps P f n a z (λ i b l p. s i b (omega arith) p))
 
+-- what no turn changes stays
+pub iter-same : {A B : Type 0} (g : A → B) (f : ℕ → A → A) (n : ℕ) (a : A) → ((i : ℕ) (b : A) → g (f i b) ≡ g b) → g (iter f n a) ≡ g a
+iter-same g f n a s = iter-keeps (λ i b. g b ≡ g a) f n a refl (λ i b l p. s i b ∙ p)
+
 pub ruleset alls = (needs, held-start, held-on, all-stops, all-done)
 
 pub ruleset anys = (needs, failed-start, failed-on, any-stops, any-done)

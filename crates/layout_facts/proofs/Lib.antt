@@ -7,3 +7,6 @@ pub mod Rules
 pub mod Rule6
 pub mod Sound
 pub mod Uses
+pub mod Loaded
+pub mod LoadedCleared
+pub mod BranchT

@@ -1,2 +1,3 @@
 pub mod Sets
 pub mod Laws
+pub mod Unique

@@ -55,9 +55,13 @@ clear ls sections points stages bars a = every (
 unfoldable pub fallen : List Line → List ℕ → List ℕ → List ℕ → List ℕ → Route → ℕ → ℕ
 fallen ls sections points stages bars a was = if eqb was 1 then (if clear ls sections points stages bars a then 1 else 2) else was
 
+-- route r starts at signal x and is in phase 1
+unfoldable pub routeProceeds : List ℕ → ℕ → Route → ℕ → Bool
+routeProceeds phases r a x = eqb (read 48 0 phases r) 1 and eqb (a .entry) x
+
 -- a main signal shows proceed: one of the n routes that start at it is in phase 1
 unfoldable pub mainProceeds : ℕ → List Route → List ℕ → ℕ → Bool
-mainProceeds n rs phases x = any n (λ r. eqb (read 48 0 phases r) 1 and eqb (route rs r .entry) x)
+mainProceeds n rs phases x = any n (λ r. routeProceeds phases r (route rs r) x)
 
 -- the block signal into block i of line l for direction w shows proceed, where there is one
 unfoldable pub blockProceeds : List Line → List ℕ → List ℕ → List ℕ → List ℕ → ℕ → ℕ → ℕ → Bool

@@ -142,7 +142,7 @@ pub fn is_unbarred(bars: &[u8; 64], l: u8, i: u8) -> bool
 }
 
 // The entry of block i of line l in a table of blocks; a block that there is not is held and barred.
-fn held_at(table: &[u8; 64], l: u8, i: u8) -> u8
+pub fn held_at(table: &[u8; 64], l: u8, i: u8) -> u8
     ensures { λ r. ⌜ r ≡ read 64 1 (now (table .entry)) (place l i) ⌝ }
 {
     let k = place_of(l, i);

@@ -1,0 +1,61 @@
+-- Branch T, computed: it loads and is sound, and less its last byte it is refused (section 8).
+use Prim.Native.Nat.{ℕ}
+use mathlib.Core.Path.{_≡_, refl}
+use mathlib.Core.Bool.{true}
+use lib.ListN.{take}
+use Rattle.laws.specs.Choice.{if_then_else_}
+use Rattle.laws.specs.Tests.{_and_, _or_, implies, every, all, any}
+use Rattle.laws.specs.Tables.{iter}
+use Rattle.numbers.specs.Number.{groupsAt, atMost, numberAt}
+use Rattle.fields.specs.Fields.{failed, judge, field, code, reference}
+use Rattle.fields.specs.Lists.{itemTurn, items, pointTurn, points}
+use Rattle.track.specs.Objects.{noLine, noRoute, line, route, inner, entrance}
+use Rattle.track.specs.Lists.{among, differ, between, referring, positions}
+use Rattle.track.specs.Ranges.{placed, lineFits, routeFits}
+use Rattle.reading.specs.Sections.{noSections, sectionTurn, sections}
+use Rattle.reading.specs.Lines.{aLine, noLines, lineTurn, linesFrom, lines}
+use Rattle.reading.specs.Routes.{anEnd, lineAndEnd, routeHead, aRoute, noRoutes, routeTurn, routesFrom, routes}
+use Rattle.pairs.specs.Pairs.{placeOf, noPairs, judgeCount, pairCount, ordered, aPair, pairTurn, pairsFrom, named, pairs}
+use Rattle.rules.specs.Rules.{share, hasBlock, isBlock, hasInner, isInner, inPath, hasEntrance, isEntrance, once, lineEnds, linePoints, routeLists, routeLength, endSection, routeEnds, stands, clashes}
+use Rattle.layout.specs.Layout.{counts, lineIn, routeIn, entryOf, conflict}
+use Rattle.layout.specs.Rules.{rule1, rule2, rule3, rule4, rule5, rule6, firstFailed, broken}
+use Rattle.layout.specs.Sound.{sectionsFit, fits, pairMirrors, rowMirrors, mirrored, sound}
+use Rattle.layout.specs.Load.{heading, countsOf, whole, refused, finished, load}
+use Rattle.layout_facts.specs.BranchT.{branchT}
+
+-- whoever unfolds this unfolds all that loading and soundness are made of
+unfoldable pub computed : ℕ
+unfolding if_then_else_ _and_ _or_ implies every all any iter
+    groupsAt atMost numberAt failed judge field code reference itemTurn items pointTurn points
+    noLine noRoute line route inner entrance among differ between referring positions placed lineFits routeFits
+    noSections sectionTurn sections aLine noLines lineTurn linesFrom lines anEnd lineAndEnd routeHead aRoute noRoutes routeTurn routesFrom routes
+    placeOf noPairs judgeCount pairCount ordered aPair pairTurn pairsFrom named pairs
+    share hasBlock isBlock hasInner isInner inPath hasEntrance isEntrance once lineEnds linePoints routeLists routeLength endSection routeEnds stands clashes
+    counts lineIn routeIn entryOf conflict rule1 rule2 rule3 rule4 rule5 rule6 firstFailed broken
+    sectionsFit fits pairMirrors rowMirrors mirrored sound heading countsOf whole refused finished load branchT
+computed = 0
+
+-- T loads with 0
+pub branchT-number : load branchT .number ≡ 0
+unfolding computed
+branchT-number = refl
+
+-- and detail 0
+pub branchT-detail : load branchT .detail ≡ 0
+unfolding computed
+branchT-detail = refl
+
+-- T is sound
+pub branchT-sound : sound (load branchT .layout) ≡ true
+unfolding computed
+branchT-sound = refl
+
+-- T less its last byte ends early
+pub branchT-short : load (take 48 branchT) .number ≡ 21
+unfolding computed
+branchT-short = refl
+
+-- at its end
+pub branchT-short-at : load (take 48 branchT) .detail ≡ 48
+unfolding computed
+branchT-short-at = refl

@@ -1,0 +1,162 @@
+-- What a reading says of the conflicts: with no fault the table lists pairs of two routes that there are, both ways, and nothing else.
+use Prim.Native.Nat.{ℕ, suc, _+_, _*_, _<_, _≤_}
+use mathlib.Core.Path.{_≡_, refl, _∙_}
+use mathlib.Core.List.{List}
+use mathlib.Core.Logic.{inl, inr}
+use native.Mathlib.Decide.{ℕ-discrete}
+use native.Mathlib.Omega.{arith}
+use borrow.Author.Tests.{ltb-false, leb-false, eqb-true, eqb-false}
+use lib.Dec.{ltb, leb, eqb}
+use lib.ListN.{length, getD, set, length-set, length-replicate}
+use lib.Seq.{getD-set-same, getD-set-other}
+use Rattle.laws.proofs.Choice.{if-both}
+use Rattle.laws.proofs.Arrays.{nothing-at}
+use Rattle.laws.proofs.Loops.{iter-keeps}
+use Rattle.numbers.specs.declared.Number.{Number}
+use Rattle.numbers.specs.declared.Number.the-variants.{Value, Fault}
+use Rattle.numbers.specs.Number.{numberAt}
+use Rattle.fields.specs.declared.Cursor.{Cursor}
+use Rattle.fields.specs.Fields.{failed, reference}
+use Rattle.fields.proofs.Ranges.{Known, form-bad, reference-known, reference-in}
+use Rattle.pairs.specs.declared.Count.{Count}
+use Rattle.pairs.specs.declared.Pairs.{Pairs}
+use Rattle.pairs.specs.Pairs.{placeOf, noPairs, noCount, judgeCount, pairCount, ordered, aPair, pairTurn, pairsFrom, named, pairs}
+
+-- ---- the number of pairs
+
+-- what is judged is a number with no fault, or a known fault
+judge-known : (s : List ℕ) (at : ℕ) (n : Number) → n ≡ numberAt s at → Known (judgeCount n at .cur)
+unfolding judgeCount noCount failed
+judge-known s at (Value v next) e = if-both (λ (n : Count). Known (n .cur)) (ltb 1128 v) (λ t. inr (omega arith, omega arith)) (λ t. inl refl)
+judge-known s at (Fault number place) e = inr (form-bad s at number place e)
+
+-- its fault is known
+count-known : (s : List ℕ) (c : Cursor) → Known c → Known (pairCount s c .cur)
+unfolding pairCount noCount failed
+count-known s c k = if-both (λ (n : Count). Known (n .cur)) (eqb (c .fault) 0) (λ t. judge-known s (c .at) (numberAt s (c .at)) refl) (λ t. k)
+
+-- with no fault there was none before
+count-before : (s : List ℕ) (c : Cursor) → pairCount s c .cur .fault ≡ 0 → c .fault ≡ 0
+unfolding pairCount noCount failed
+count-before s c = if-both (λ (n : Count). n .cur .fault ≡ 0 → c .fault ≡ 0) (eqb (c .fault) 0) (λ t e. eqb-true (c .fault) 0 t) (λ t e. e)
+
+-- ---- a pair's order
+
+module _ (a b : Cursor) (last : ℕ) where
+  -- its fault is known
+  ordered-known : Known b → Known (ordered a b last)
+  unfolding ordered failed
+  ordered-known k =
+      if-both Known (eqb (b .fault) 0)
+      (λ t. if-both Known (leb (b .value) (a .value)) (λ u. inr (omega arith, omega arith))
+      (λ u. if-both Known (leb (placeOf (a .value) (b .value)) last) (λ v. inr (omega arith, omega arith)) (λ v. k)))
+      (λ t. k)
+
+  -- with no fault the smaller comes first, and there was none before
+  ordered-in : ordered a b last .fault ≡ 0 → (b .fault ≡ 0) × (a .value < b .value)
+  unfolding ordered failed
+  ordered-in =
+      if-both Well (eqb (b .fault) 0)
+      (λ t. if-both Well (leb (b .value) (a .value)) (λ u e. absurd (omega arith))
+      (λ u. if-both Well (leb (placeOf (a .value) (b .value)) last) (λ v e. absurd (omega arith)) (λ v e. (e, leb-false (b .value) (a .value) u))))
+      (λ t e. absurd (eqb-false (b .fault) 0 t e))
+    where
+      -- what is said of a cursor with no fault
+      Well : Cursor → Type 0
+      Well d = d .fault ≡ 0 → (b .fault ≡ 0) × (a .value < b .value)
+
+-- ---- the table
+
+-- what it says of the routes i and j: nothing both ways, or 1 both ways, and then they are two of the routes that there are
+pub data Said (m : List ℕ) (routes i j : ℕ) : Type 0 where
+  neither : getD m (placeOf i j) 0 ≡ 0 → getD m (placeOf j i) 0 ≡ 0 → Said m routes i j
+  both : getD m (placeOf i j) 0 ≡ 1 → getD m (placeOf j i) 0 ≡ 1 → (i ≡ j → ⊥) → i < routes → j < routes → Said m routes i j
+
+-- two tables with the same at both places say the same
+said-same : (m k : List ℕ) (routes i j : ℕ) → getD k (placeOf i j) 0 ≡ getD m (placeOf i j) 0 → getD k (placeOf j i) 0 ≡ getD m (placeOf j i) 0
+    → Said m routes i j → Said k routes i j
+said-same m k routes i j p q (neither e f) = neither (p ∙ e) (q ∙ f)
+said-same m k routes i j p q (both e f d a b) = both (p ∙ e) (q ∙ f) d a b
+
+-- no pairs
+none-said : (routes i j : ℕ) → Said noPairs routes i j
+unfolding noPairs
+none-said routes i j = neither (nothing-at 2304 0 (placeOf i j)) (nothing-at 2304 0 (placeOf j i))
+
+-- one pair more
+module _ (m : List ℕ) (routes a b : ℕ) (size : length m ≡ 2304) (few : routes ≤ 48) (less : a < b) (there : b < routes) where
+  -- the table with 1 at both its places
+  abbrev marked : List ℕ
+  marked = set (set m (placeOf a b) 1) (placeOf b a) 1
+
+  -- at its place
+  at-first : getD marked (placeOf a b) 0 ≡ 1
+  unfolding placeOf
+  at-first =
+      getD-set-other (set m (placeOf a b) 1) (placeOf b a) (placeOf a b) 1 0 (λ e. let d : 48 * a + b ≡ 48 * b + a = e in omega arith)
+      ∙ getD-set-same m (placeOf a b) 1 0 (omega arith)
+
+  -- at its mirror
+  at-second : getD marked (placeOf b a) 0 ≡ 1
+  unfolding placeOf
+  at-second = getD-set-same (set m (placeOf a b) 1) (placeOf b a) 1 0 (omega (arith, length-set m (placeOf a b) 1))
+
+  -- elsewhere
+  at-other : (k : ℕ) → (k ≡ placeOf a b → ⊥) → (k ≡ placeOf b a → ⊥) → getD marked k 0 ≡ getD m k 0
+  at-other k p q = getD-set-other (set m (placeOf a b) 1) (placeOf b a) k 1 0 q ∙ getD-set-other m (placeOf a b) k 1 0 p
+
+  -- it says of any two routes what it should
+  mark-said : (i j : ℕ) → i < 48 → j < 48 → Dec (placeOf i j ≡ placeOf a b) → Dec (placeOf i j ≡ placeOf b a) → Said m routes i j → Said marked routes i j
+  unfolding placeOf
+  mark-said i j x y (yes e) d s =
+      let p : i ≡ a = omega arith in
+      let q : j ≡ b = omega arith in
+      rw (p, q) (both at-first at-second (omega arith) (omega arith) there)
+  mark-said i j x y (no e) (yes d) s =
+      let p : i ≡ b = omega arith in
+      let q : j ≡ a = omega arith in
+      rw (p, q) (both at-second at-first (omega arith) there (omega arith))
+  mark-said i j x y (no e) (no d) s =
+      said-same m marked routes i j (at-other (placeOf i j) e d)
+      (at-other (placeOf j i) (λ z. d (let z′ : 48 * j + i ≡ 48 * a + b = z in omega arith)) (λ z. e (let z′ : 48 * j + i ≡ 48 * b + a = z in omega arith))) s
+
+-- ---- the pairs
+
+-- up to 48 routes, all of them may be named
+named-all : (routes : ℕ) → routes ≤ 48 → named routes ≡ routes
+unfolding named
+named-all routes few = if-both (λ r. r ≡ routes) (ltb routes 48) (λ t. refl) (λ t. omega (arith, ltb-false routes 48 t))
+
+module _ (s : List ℕ) (routes : ℕ) (c : Cursor) where
+  -- their fault is known
+  pub pairs-known : Known c → Known (pairs s routes c .cur)
+  unfolding pairs pairsFrom pairTurn aPair
+  pairs-known k =
+      iter-keeps (λ i (t : Pairs). Known (t .cur)) (pairTurn s (named routes)) _ _ (count-known s c k)
+      (λ i t l q. ordered-known _ _ (t .last) (reference-known s _ _ (reference-known s (t .cur) _ q)))
+
+  -- with no fault the table is in order
+  pub pairs-in : routes ≤ 48 → pairs s routes c .cur .fault ≡ 0
+      → (c .fault ≡ 0) × ((i j : ℕ) → i < 48 → j < 48 → Said (pairs s routes c .conflict) routes i j)
+  unfolding pairs pairsFrom pairTurn aPair noPairs
+  pairs-in few =
+      rw (named-all routes few) (λ e.
+      let r = iter-keeps Table (pairTurn s routes) _ _ (length-replicate {A = ℕ} 2304 0, λ w. (w, λ i j x y. none-said routes i j)) turn .1 e in
+      (count-before s c (r .0), r .1))
+    where
+      -- after any turn the table is whole, and in order with no fault
+      Table : ℕ → Pairs → Type 0
+      Table i t = (length (t .conflict) ≡ 2304)
+          × (t .cur .fault ≡ 0 → (pairCount s c .cur .fault ≡ 0) × ((i j : ℕ) → i < 48 → j < 48 → Said (t .conflict) routes i j))
+
+      -- and a turn keeps it so
+      turn : (i : ℕ) (t : Pairs) → i < pairCount s c .pairs → Table i t → Table (suc i) (pairTurn s routes i t)
+      turn i t l p = (
+        simp length-set (p .0),
+        λ e.
+            let o = ordered-in _ _ (t .last) e in
+            let b = reference-in s (reference s (t .cur) routes) routes (o .0) in
+            let a = reference-in s (t .cur) routes (b .0) in
+            let q = p .1 (a .0) in
+            (q .0, λ i j x y. mark-said (t .conflict) routes _ _ (p .0) few (o .1) (b .1) i j x y (ℕ-discrete _ _) (ℕ-discrete _ _) (q .1 i j x y)),
+      )
