@@ -1,20 +1,17 @@
 -- The cases of a reading, each from the facts that choose it.
-use Prim.Native.Nat.{ℕ, _+_, _<_, _≤_}
-use mathlib.Core.Path.{_≡_, refl, sym, ap, subst, _∙_}
-use mathlib.Core.Bool.{Bool, true, false}
+use Prim.Native.Nat.{ℕ, _<_, _≤_}
+use mathlib.Core.Path.{_≡_, sym}
 use mathlib.Core.List.{List}
 use native.Mathlib.Omega.{arith}
 use borrow.Author.Needs.{needs}
-use borrow.Author.Tests.{ltb-true, ltb-false, eqb-true, eqb-false}
-use lib.Dec.{ltb, eqb}
 use lib.ListN.{length, set}
 use lib.Seq.{set-out}
-use Rattle.laws.proofs.Choice.{if-eq, if-ne, if-lt, if-ge, if-both}
+use Rattle.laws.proofs.Choice.{if-eq, if-ne, if-lt, if-ge}
 use Rattle.numbers.specs.declared.Number.{Number}
 use Rattle.numbers.specs.declared.Number.the-variants.{Value, Fault}
 use Rattle.numbers.specs.Number.{numberAt}
 use Rattle.fields.specs.declared.Cursor.{Cursor}
-use Rattle.fields.specs.Fields.{failed, judge, field, code, reference}
+use Rattle.fields.specs.Fields.{failed, judge, field}
 
 -- ---- what was read, by cases
 

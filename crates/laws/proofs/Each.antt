@@ -123,16 +123,3 @@ put-set n xs a v e =
     outside : (k : ℕ) → Dec (a < n) → n ≤ k → getD (set xs a v) k 0 ≡ getD xs k 0
     outside k (yes l) b = getD-set-other xs a k v 0 (λ z. let z′ : k ≡ a = z in omega arith)
     outside k (no l) b = ap (λ ys. getD ys k 0) (set-out xs a v (omega arith))
-
--- what stands there afterwards
-pub put-same : (n : ℕ) (xs : List ℕ) (a v : ℕ) → a < n → getD (put n xs a v) a 0 ≡ v
-unfolding put
-put-same n xs a v b = each-at n _ xs a b ∙ sym (if-eq a a v _ v refl refl)
-
-pub put-other : (n : ℕ) (xs : List ℕ) (a v k : ℕ) → (k ≡ a → ⊥) → getD (put n xs a v) k 0 ≡ getD xs k 0
-unfolding put
-put-other n xs a v k z = go (decLt k n)
-  where
-    go : Dec (k < n) → getD (each n (λ i was. if eqb i a then v else was) xs) k 0 ≡ getD xs k 0
-    go (yes l) = each-at n _ xs k l ∙ sym (if-ne k a v (getD xs k 0) (getD xs k 0) z refl)
-    go (no l) = each-past n _ xs k (omega arith)

@@ -9,7 +9,7 @@ use borrow.Author.Needs.{needs}
 use borrow.Author.Tests.{not-true, not-false}
 use Rattle.laws.specs.Tests.{all, any}
 use Rattle.laws.specs.Tables.{iter}
-use Rattle.laws.proofs.Tests.{all-at, all-from, any-at, any-none, fails-from, not-both}
+use Rattle.laws.proofs.Tests.{all-at, any-at, fails-from, not-both}
 
 -- ---- all: p held at each of 0 .. i - 1
 

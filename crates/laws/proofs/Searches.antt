@@ -1,9 +1,7 @@
 -- The lowest number at which a test holds: the loop that searches it, and what it says.
-use Prim.Native.Nat.{ℕ, zero, suc, _+_, _-_, _<_, _≤_}
+use Prim.Native.Nat.{ℕ, suc, _+_, _-_, _<_, _≤_}
 use mathlib.Core.Path.{_≡_, refl, sym, ap, _∙_}
 use mathlib.Core.Bool.{Bool, true, false}
-use mathlib.Core.Logic.{⊎-elim}
-use native.Mathlib.Nat.{eq-or-lt-of-le}
 use native.Mathlib.Omega.{arith}
 use native.Mathlib.Numerals.{add-one}
 use borrow.Author.Needs.{needs}
@@ -55,37 +53,3 @@ module _ (n : ℕ) (p : ℕ → Bool) where
       sym (s .1 ∙ ap (λ k. lowestFrom k i p) none ∙ from-none i p ∙ at)
 
 pub ruleset seeks = (needs, seek-start, seek-on, seek-here, seek-end)
-
--- ---- what the lowest number says
-
-below-here : (k i : ℕ) (p : ℕ → Bool) (j : ℕ) (t : Bool) → p i ≡ t → i ≤ j → j < lowestFrom (suc k) i p
-    → (suc i ≤ j → j < lowestFrom k (suc i) p → p j ≡ false) → p j ≡ false
-below-here k i p j true e a b h = absurd (let q : lowestFrom (suc k) i p ≡ i = from-here k i p e in omega arith)
-below-here k i p j false e a b h =
-    let q : lowestFrom (suc k) i p ≡ lowestFrom k (suc i) p = from-next k i p e in
-    ⊎-elim (λ (z : i ≡ j). ap p (sym z) ∙ e) (λ (z : i < j). h z (omega arith)) (eq-or-lt-of-le a)
-
-from-below : (k i : ℕ) (p : ℕ → Bool) (j : ℕ) → i ≤ j → j < lowestFrom k i p → p j ≡ false
-from-below zero i p j a b = absurd (let q : lowestFrom 0 i p ≡ i = from-none i p in omega arith)
-from-below (suc k) i p j a b = below-here k i p j (p i) refl a b (from-below k (suc i) p j)
-
--- below it the test fails
-pub lowest-below : (n : ℕ) (p : ℕ → Bool) (j : ℕ) → j < lowest n p → p j ≡ false
-unfolding lowest
-lowest-below n p j b = from-below n 0 p j (omega arith) b
-
-holds-here : (k i : ℕ) (p : ℕ → Bool) (t : Bool) → p i ≡ t → lowestFrom (suc k) i p < i + suc k
-    → (lowestFrom k (suc i) p < suc i + k → p (lowestFrom k (suc i) p) ≡ true) → p (lowestFrom (suc k) i p) ≡ true
-holds-here k i p true e b h = ap p (from-here k i p e) ∙ e
-holds-here k i p false e b h =
-    let q : lowestFrom (suc k) i p ≡ lowestFrom k (suc i) p = from-next k i p e in
-    ap p q ∙ h (omega arith)
-
-from-holds : (k i : ℕ) (p : ℕ → Bool) → lowestFrom k i p < i + k → p (lowestFrom k i p) ≡ true
-from-holds zero i p b = absurd (let q : lowestFrom 0 i p ≡ i = from-none i p in omega arith)
-from-holds (suc k) i p b = holds-here k i p (p i) refl b (from-holds k (suc i) p)
-
--- and at it the test holds
-pub lowest-holds : (n : ℕ) (p : ℕ → Bool) → lowest n p < n → p (lowest n p) ≡ true
-unfolding lowest
-lowest-holds n p b = from-holds n 0 p (omega arith)

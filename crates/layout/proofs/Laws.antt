@@ -1,5 +1,5 @@
 -- Loading, put together from what was read, and its cases.
-use Prim.Native.Nat.{ℕ, _<_, _≤_}
+use Prim.Native.Nat.{ℕ, _≤_}
 use mathlib.Core.Path.{_≡_, refl, sym, ap, _∙_}
 use mathlib.Core.Bool.{Bool, true, false, not}
 use mathlib.Core.List.{List, [], _∷_}
@@ -13,13 +13,10 @@ use Rattle.laws.specs.Tests.{all}
 use Rattle.laws.proofs.Tests.{every-at, every-stops, every-passes, every-last}
 use Rattle.laws.proofs.Loops.{iter-keeps}
 use Rattle.fields.specs.declared.Cursor.{Cursor}
-use Rattle.fields.specs.Fields.{code}
 use Rattle.fields.proofs.Ranges.{code-most}
 use Rattle.track.specs.declared.Counts.{Counts}
-use Rattle.reading.specs.declared.Owned.{Owned}
 use Rattle.reading.specs.declared.Lines.{Lines}
 use Rattle.reading.specs.declared.Routes.{Routes}
-use Rattle.reading.specs.Sections.{sections}
 use Rattle.reading.specs.Lines.{lines}
 use Rattle.reading.specs.Routes.{routes, routesFrom, routeTurn}
 use Rattle.pairs.specs.declared.Pairs.{Pairs}
@@ -30,7 +27,7 @@ use Rattle.layout.specs.declared.file.Heading.{Heading}
 use Rattle.layout.specs.declared.file.Whole.{Whole}
 use Rattle.layout.specs.Rules.{rule1, rule2, rule3, rule4, rule5, rule6, firstFailed, broken}
 use Rattle.layout.specs.Sound.{fits, rowMirrors, mirrored, sound}
-use Rattle.layout.specs.Load.{start, heading, countsOf, wholeOf, whole, refused, finished, load}
+use Rattle.layout.specs.Load.{heading, countsOf, wholeOf, whole, refused, finished}
 
 -- the file from its parts
 pub whole-made : (s : List ℕ) (h : Heading) (a b : Counts) (l : Lines) (r : Routes) (p : Pairs)

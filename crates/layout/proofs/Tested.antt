@@ -1,8 +1,8 @@
 -- The walks of the code test just what the rules say.
 use Prim.Native.Nat.{ℕ, _<_, _≤_}
-use mathlib.Core.Path.{_≡_, refl, sym, ap, ap₂, _∙_}
+use mathlib.Core.Path.{_≡_, refl, ap, ap₂, _∙_}
 use mathlib.Core.Bool.{Bool, not, _&&_}
-use mathlib.Core.List.{List, [], _∷_}
+use mathlib.Core.List.{List}
 use native.Mathlib.Omega.{arith}
 use lib.Dec.{eqb, leb}
 use lib.ListN.{length, getD}
@@ -11,7 +11,6 @@ use Rattle.laws.specs.Tests.{_and_, implies, every, all}
 use Rattle.laws.proofs.Tests.{all-same}
 use Rattle.laws.proofs.Tables.{table-at}
 use Rattle.laws.proofs.Arrays.{read-in}
-use Rattle.sets.specs.Sets.{common}
 use Rattle.track.specs.declared.Counts.{Counts}
 use Rattle.track.specs.declared.Line.{Line}
 use Rattle.track.specs.declared.Route.{Route}
@@ -19,8 +18,8 @@ use Rattle.track.specs.Objects.{line, route, noRoute}
 use Rattle.track.specs.Lists.{between}
 use Rattle.track.specs.Ranges.{lineFits, routeFits}
 use Rattle.rules.specs.declared.Reach.{Reach}
-use Rattle.rules.specs.Rules.{share, isBlock, isInner, inPath, once, lineEnds, linePoints, routeLists, routeLength, routeEnds, clashes}
-use Rattle.rules.specs.Sets.{blockSet, innerSet, offBlocks, reachOf, clashing}
+use Rattle.rules.specs.Rules.{share, isBlock, inPath, once}
+use Rattle.rules.specs.Sets.{blockSet, reachOf, clashing}
 use Rattle.rules.proofs.Sets.{offBlocks-is, inner-is, clashing-is}
 use Rattle.layout.specs.declared.Layout.{Layout}
 use Rattle.layout.specs.Layout.{counts, lineIn, routeIn, conflict, entryOf}

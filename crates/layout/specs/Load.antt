@@ -15,7 +15,6 @@ use Rattle.reading.specs.Lines.{lines}
 use Rattle.reading.specs.Routes.{routes}
 use Rattle.pairs.specs.declared.Pairs.{Pairs}
 use Rattle.pairs.specs.Pairs.{pairs}
-use Rattle.layout.specs.declared.Layout.{Layout}
 use Rattle.layout.specs.declared.Loaded.{Loaded}
 use Rattle.layout.specs.declared.file.Heading.{Heading}
 use Rattle.layout.specs.declared.file.Whole.{Whole}

@@ -1,13 +1,12 @@
 -- The stages of a block (section 5). Codes: 0 open, 1 2 3 held in stage 0 1 2.
 use Prim.Native.Nat.{ℕ, _+_, _-_}
-use mathlib.Core.Bool.{Bool, not}
-use mathlib.Core.List.{List}
+use mathlib.Core.Bool.{Bool}
 use lib.Dec.{eqb, ltb}
 use lib.ListN.{getD}
 use Rattle.laws.specs.Choice.{if_then_else_}
 use Rattle.laws.specs.Tests.{_and_, _or_}
 use Rattle.track.specs.declared.Line.{Line}
-use Rattle.track.specs.Objects.{inner, entrance}
+use Rattle.track.specs.Objects.{inner}
 
 -- its own reading, given by an event: occupied takes open and 0 to 1, and leaves 1 and 2; none gives 0; free takes 2 to open and 1 to 0
 unfoldable pub ownStage : ℕ → ℕ → ℕ

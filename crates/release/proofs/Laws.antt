@@ -1,5 +1,5 @@
 -- The cases of a route's release.
-use Prim.Native.Nat.{ℕ, _-_, _<_, _≤_}
+use Prim.Native.Nat.{ℕ, _-_, _<_}
 use mathlib.Core.Path.{_≡_, refl, sym, ap, _∙_}
 use mathlib.Core.Bool.{Bool, true, false}
 use mathlib.Core.List.{List}
@@ -8,7 +8,7 @@ use borrow.Author.Tests.{eq-eqb, ne-eqb}
 use lib.Dec.{eqb, leb}
 use lib.ListN.{getD}
 use Rattle.laws.specs.Tests.{_and_, _or_}
-use Rattle.laws.proofs.Choice.{if-true, if-false, if-eq, if-ne}
+use Rattle.laws.proofs.Choice.{if-true, if-false, if-ne}
 use Rattle.track.specs.declared.Line.{Line}
 use Rattle.track.specs.declared.Route.{Route}
 use Rattle.release.specs.declared.Gives.{Gives}

@@ -1,6 +1,6 @@
 -- What the sets hold, and that a common element of two of them is what the rules ask for.
 use Prim.Native.Nat.{ℕ, zero, suc, _<_}
-use mathlib.Core.Path.{_≡_, refl, sym, ap, ap₂, _∙_}
+use mathlib.Core.Path.{_≡_, refl, ap, ap₂, _∙_}
 use mathlib.Core.Bool.{Bool, true, false, not}
 use mathlib.Core.List.{List}
 use lib.Dec.{eqb}
@@ -9,13 +9,13 @@ use Rattle.laws.specs.Choice.{if_then_else_}
 use Rattle.laws.specs.Tests.{_and_, _or_, any}
 use Rattle.laws.specs.Tables.{iter}
 use Rattle.laws.proofs.Tests.{any-same}
-use Rattle.sets.specs.Sets.{holds, joined, union, setOf, common}
+use Rattle.sets.specs.Sets.{holds, joined, setOf, common}
 use Rattle.sets.proofs.Sets.{holds-none, holds-union, holds-joined, holds-setOf}
 use Rattle.track.specs.declared.Line.{Line}
 use Rattle.track.specs.declared.Route.{Route}
 use Rattle.track.specs.Objects.{line}
 use Rattle.track.specs.Lists.{among}
-use Rattle.rules.specs.Rules.{share, hasBlock, isBlock, hasInner, isInner, inPath, stands, once, clashes}
+use Rattle.rules.specs.Rules.{share, hasBlock, isBlock, hasInner, isInner, inPath, stands, clashes}
 use Rattle.rules.specs.Sets.{lineBlocks, blockSet, innerTurn, innerSet, offBlocks, sideTurn, sideSet, reachOf, clashing}
 
 -- two sets have an element in common just where some number passes both of the tests that they stand for

@@ -85,12 +85,6 @@ holds-setOf (suc n) xs g l = holds-joined (setOf n xs) (getD xs n 0) g l ∙ ap 
 
 -- ---- two sets at once
 
--- the sets of two lists have a number in common where some number below 64 is an entry of both
-pub common-setOf : (n m : ℕ) (xs ys : List ℕ)
-    → common (setOf n xs) (setOf m ys) ≡ any 64 (λ g. any n (λ i. eqb (getD xs i 0) g) and any m (λ j. eqb (getD ys j 0) g))
-unfolding common
-common-setOf n m xs ys = any-same 64 _ _ (λ g l. rw (holds-setOf n xs g l, holds-setOf m ys g l))
-
 -- what is in both sets is in their `and`
 holds-and : (a b g : ℕ) → g < 64 → holds a g and holds b g ≡ eqb (bitAnd a b / 2 ^ g % 2) 1
 holds-and a b g l = rw (holds-bit a g l, holds-bit b g l) (sym (and-bit a b g))

@@ -1,0 +1,230 @@
+-- The cases of what follows an event, each from the facts that choose it.
+use Prim.Native.Nat.{ℕ, _-_, _*_, _/_, _%_, _<_, _≤_}
+use mathlib.Core.Path.{_≡_, refl, sym, ap, ap₂, _∙_}
+use mathlib.Core.Bool.{Bool, true, false, _&&_}
+use mathlib.Core.List.{List}
+use native.Mathlib.Omega.{arith}
+use borrow.Author.Tests.{lt-ltb}
+use lib.Dec.{eqb, ltb}
+use lib.ListN.{length, getD, set}
+use Rattle.laws.specs.Choice.{if_then_else_}
+use Rattle.laws.specs.Tests.{_and_}
+use Rattle.laws.specs.Tables.{each, put, read}
+use Rattle.laws.proofs.Choice.{if-true, if-false, if-eq, if-ne, if-lt, if-both}
+use Rattle.laws.proofs.Arrays.{read-in}
+use Rattle.laws.proofs.Each.{put-set}
+use Rattle.track.specs.declared.Line.{Line}
+use Rattle.track.specs.declared.Route.{Route}
+use Rattle.track.specs.Objects.{line, route, noRoute}
+use Rattle.signals.specs.Readings.{lies}
+use Rattle.signals.specs.Signals.{place, fallen, routeProceeds, blockProceeds}
+use Rattle.passage.specs.Passage.{nextBlock, farStage}
+use Rattle.release.specs.declared.Gives.{Gives}
+use Rattle.release.specs.declared.Held.{Held}
+use Rattle.release.specs.Release.{heldAfter}
+use Rattle.layout.specs.declared.Layout.{Layout}
+use Rattle.interlocking.specs.declared.State.{State}
+use Rattle.interlocking.specs.State.{withSections, withPoints, withRoutes, withLines, withBars}
+use Rattle.interlocking.specs.Own.{ownStageAt, ownSection, ownPoint, throwReading, ownThrow, ownSet, ownCancel, ownSecure, openAt, ownManual, ownBar}
+use Rattle.interlocking.specs.Settle.{fallenAt, stationProceeds, farProceeds, farDropped, farReading, farMoved, farAfter, lastBlock, exitLockedBy, exitLocked, heldOf, routeAfter, unlessIdle, routesBy}
+
+-- ---- a route of the table, as the code reads it
+
+route-in : (rs : List Route) (r n : ℕ) (d : Route) → length rs ≡ 48 → r < n → n ≤ 48 → getD rs r d ≡ route rs r
+unfolding route
+route-in rs r n d q b few = read-in rs r 48 d noRoute q (omega arith)
+
+pub fallen-at : (ls : List Line) (rs : List Route) (s : State) (r was n : ℕ) (d : Route) {v : ℕ} → length rs ≡ 48 → r < n → n ≤ 48
+    → v ≡ fallen ls (s .section) (s .point) (s .stage) (s .bar) (getD rs r d) was → v ≡ fallenAt ls rs s r was
+unfolding fallenAt
+fallen-at ls rs s r was n d q b few e =
+    e ∙ ap (λ (a : Route). fallen ls (s .section) (s .point) (s .stage) (s .bar) a was) (route-in rs r n d q b few)
+
+pub proceeds-at : (phases : List ℕ) (rs : List Route) (r x n : ℕ) (d : Route) {v : Bool} → length rs ≡ 48 → r < n → n ≤ 48
+    → v ≡ routeProceeds phases r (getD rs r d) x → v ≡ routeProceeds phases r (route rs r) x
+proceeds-at phases rs r x n d q b few e = e ∙ ap (λ (a : Route). routeProceeds phases r a x) (route-in rs r n d q b few)
+
+-- ---- far sections, by cases
+
+module _ (L : Layout) (s : State) (k i w j : ℕ) (b : Line) (v : Bool) (e : b ≡ line (L .line) k) (f : j ≡ nextBlock b w i) where
+  -- the station comes next
+  pub far-station : j ≡ 8 → v ≡ stationProceeds L s b w → v ≡ farProceeds L s k i w
+  unfolding farProceeds
+  far-station h q =
+      if-eq (nextBlock (line (L .line) k) w i) 8 _ _ v (ap (λ (a : Line). nextBlock a w i) (sym e) ∙ sym f ∙ h)
+      (q ∙ ap (λ (a : Line). stationProceeds L s a w) e)
+
+  -- another block does
+  pub far-next : (j ≡ 8 → ⊥) → v ≡ blockProceeds (L .line) (s .direction) (s .point) (s .stage) (s .bar) k j w → v ≡ farProceeds L s k i w
+  unfolding farProceeds
+  far-next h q =
+      let same : j ≡ nextBlock (line (L .line) k) w i = f ∙ ap (λ (a : Line). nextBlock a w i) e in
+      if-ne (nextBlock (line (L .line) k) w i) 8 _ _ v (λ z. h (same ∙ z))
+      (q ∙ ap (λ n. blockProceeds (L .line) (s .direction) (s .point) (s .stage) (s .bar) k n w) same)
+
+-- the far signal matters only to a block in stage 1 whose far section reads occupied
+far-same : (far was : ℕ) (d : Bool) → eqb was 2 && eqb far 2 ≡ false → farStage far false was ≡ farStage far d was
+unfolding farStage _and_ if_then_else_
+far-same far was d h = go (eqb was 2) (eqb far 2) h
+  where
+    go : (a b : Bool) → a && b ≡ false → (if a then (if b && false then 3 else 2) else if eqb was 3 then (if eqb far 3 then 2 else 3) else was)
+        ≡ (if a then (if b && d then 3 else 2) else if eqb was 3 then (if eqb far 3 then 2 else 3) else was)
+    go true true p = absurd (mathlib.Core.Bool.true≢false p)
+    go true false p = refl
+    go false b p = refl
+
+module _ (L : Layout) (before s : State) (k w was far v : ℕ) (e : far ≡ farReading L s (k / 8) (k % 8) w) where
+  pub far-asked : (d : Bool) → d ≡ farDropped L before s (k / 8) (k % 8) w → v ≡ farStage far d was → v ≡ farMoved L before s k w was
+  unfolding farMoved
+  far-asked d p q = q ∙ ap₂ (λ (x : ℕ) (y : Bool). farStage x y was) e p
+
+  pub far-moot : eqb was 2 && eqb far 2 ≡ false → v ≡ farStage far false was → v ≡ farMoved L before s k w was
+  unfolding farMoved
+  far-moot h q = q ∙ far-same far was (farDropped L before s (k / 8) (k % 8) w) h ∙ ap (λ x. farStage x (farDropped L before s (k / 8) (k % 8) w) was) e
+
+module _ (L : Layout) (before s : State) (k w was v : ℕ) (e : w ≡ read 8 0 (s .direction) (k / 8)) where
+  pub far-neutral : w ≡ 0 → v ≡ was → v ≡ farAfter L before s k was
+  unfolding farAfter
+  far-neutral h q = if-eq _ 0 _ _ v (sym e ∙ h) q
+
+  pub far-secured : (w ≡ 0 → ⊥) → v ≡ farMoved L before s k w was → v ≡ farAfter L before s k was
+  unfolding farAfter
+  far-secured h q = if-ne _ 0 _ _ v (λ z. h (e ∙ z)) (q ∙ ap (λ n. farMoved L before s k n was) e)
+
+-- an open block, and one held in stage 0, stay as they are
+pub far-idle : (L : Layout) (before s : State) (k was : ℕ) → was < 2 → was ≡ farAfter L before s k was
+unfolding farAfter farMoved farStage
+far-idle L before s k was h =
+    if-both (λ x. was ≡ x) (eqb (read 8 0 (s .direction) (k / 8)) 0) (λ t. refl)
+    (λ f. if-ne was 2 _ _ was (omega arith) (if-ne was 3 _ _ was (omega arith) refl))
+
+-- ---- routes and lines, by cases
+
+module _ (b : Line) (w r : ℕ) where
+  pub last-first : (w ≡ 1 → ⊥) → r ≡ 0 → r ≡ lastBlock b w
+  unfolding lastBlock
+  last-first h q = if-ne w 1 _ _ r h q
+
+  pub last-none : w ≡ 1 → b .blocks ≡ 0 → r ≡ 0 → r ≡ lastBlock b w
+  unfolding lastBlock
+  last-none h n q = if-eq w 1 _ _ r h (omega arith)
+
+  pub last-there : w ≡ 1 → r ≡ b .blocks - 1 → r ≡ lastBlock b w
+  unfolding lastBlock
+  last-there h q = if-eq w 1 _ _ r h q
+
+pub exit-at : (rs : List Route) (phases : List ℕ) (k r n : ℕ) (d : Route) {v : Bool} → length rs ≡ 48 → r < n → n ≤ 48
+    → v ≡ exitLockedBy phases (getD rs r d) k r → v ≡ exitLocked rs phases k r
+unfolding exitLocked
+exit-at rs phases k r n d q b few e = e ∙ ap (λ (a : Route). exitLockedBy phases a k r) (route-in rs r n d q b few)
+
+-- what the state holds of a route that there is
+held-of : (s : State) (r : ℕ) → r < 48 → record { phase = getD (s .phase) r 0; step = getD (s .step) r 0; second = getD (s .second) r 0 } ≡ heldOf s r
+unfolding heldOf read if_then_else_
+held-of s r b = rw (lt-ltb r 48 b)
+
+pub held-read : (ls : List Line) (s : State) (a : Route) (e : Gives) (r : ℕ) (h : Held) → r < 48
+    → h ≡ heldAfter ls (s .section) a e (record { phase = getD (s .phase) r 0; step = getD (s .step) r 0; second = getD (s .second) r 0 })
+    → h ≡ heldAfter ls (s .section) a e (heldOf s r)
+held-read ls s a e r h b q = q ∙ ap (λ (x : Held). heldAfter ls (s .section) a e x) (held-of s r b)
+
+-- the phase of a route that there is
+phase-read : (s : State) (r : ℕ) → r < 48 → getD (s .phase) r 0 ≡ read 48 0 (s .phase) r
+unfolding read
+phase-read s r b = if-lt r 48 _ _ (getD (s .phase) r 0) b refl
+
+-- an idle route stays as it is
+pub idle-stays : (s : State) (r was x : ℕ) → r < 48 → getD (s .phase) r 0 ≡ 0 → was ≡ unlessIdle s r was x
+unfolding unlessIdle
+idle-stays s r was x b h = if-eq (read 48 0 (s .phase) r) 0 _ _ was (sym (phase-read s r b) ∙ h) refl
+
+-- a route that is not idle takes what becomes of it
+module _ (ls : List Line) (rs : List Route) (s : State) (e : Gives) (r : ℕ) (d : Route) (h : Held) (q : length rs ≡ 48) (b : r < 48)
+    (live : getD (s .phase) r 0 ≡ 0 → ⊥) (g : h ≡ heldAfter ls (s .section) (getD rs r d) e (heldOf s r)) where
+  becomes : h ≡ routeAfter ls rs s e r
+  unfolding routeAfter
+  becomes = g ∙ ap (λ (a : Route). heldAfter ls (s .section) a e (heldOf s r)) (route-in rs r 48 d q b (omega arith))
+
+  pub live-takes : (f : Held → ℕ) (was : ℕ) → f h ≡ unlessIdle s r was (f (routeAfter ls rs s e r))
+  unfolding unlessIdle
+  live-takes f was = if-ne (read 48 0 (s .phase) r) 0 _ _ (f h) (λ z. live (phase-read s r b ∙ z)) (ap f becomes)
+
+-- the three tables together
+pub routes-made : (ls : List Line) (rs : List Route) (n : ℕ) (s : State) (e : Gives) (phase step second : List ℕ)
+    → phase ≡ each n (λ r was. unlessIdle s r was (routeAfter ls rs s e r .phase)) (s .phase)
+    → step ≡ each n (λ r was. unlessIdle s r was (routeAfter ls rs s e r .step)) (s .step)
+    → second ≡ each n (λ r was. unlessIdle s r was (routeAfter ls rs s e r .second)) (s .second)
+    → withRoutes s phase step second ≡ routesBy ls rs n s e
+unfolding routesBy
+routes-made ls rs n s e phase step second p q r = rw (p, q, r)
+
+-- ---- one store
+
+-- at a number that is known to be a, of what is known to be v
+pub put-with : (n : ℕ) (xs : List ℕ) (a v k x : ℕ) → length xs ≡ n → k ≡ a → x ≡ v → set xs k x ≡ put n xs a v
+put-with n xs a v k x q e f = ap₂ (λ (i y : ℕ). set xs i y) e f ∙ put-set n xs a v q
+
+-- a block's place lies in the table
+pub place-inside : (l i : ℕ) {k : ℕ} → k ≡ place l i → l < 8 → i < 8 → k < 64
+unfolding place
+place-inside l i e h g = omega arith
+
+-- the point reads what it is thrown to already
+pub throw-kept : (points : List ℕ) (p w x r : ℕ) → x ≡ lies points p → x ≡ w → r ≡ w → r ≡ throwReading points p w
+unfolding throwReading
+throw-kept points p w x r e h q = if-eq (lies points p) w _ _ r (sym e ∙ h) q
+
+-- or not
+pub throw-lost : (points : List ℕ) (p w x r : ℕ) → x ≡ lies points p → (x ≡ w → ⊥) → r ≡ 3 → r ≡ throwReading points p w
+unfolding throwReading
+throw-lost points p w x r e h q = if-ne (lies points p) w _ _ r (λ z. h (e ∙ z)) q
+
+-- the stage of a block that is opened by hand, and of one that is not
+module _ (ls : List Line) (l k was r : ℕ) (b : Line) (e : b ≡ line ls l) where
+  pub open-here : eqb (k / 8) l && ltb (k % 8) (b .blocks) ≡ true → r ≡ 0 → r ≡ openAt ls l k was
+  unfolding openAt _and_
+  open-here h q = if-true _ _ _ r (rw (← e) h) q
+
+  pub open-elsewhere : eqb (k / 8) l && ltb (k % 8) (b .blocks) ≡ false → r ≡ was → r ≡ openAt ls l k was
+  unfolding openAt _and_
+  open-elsewhere h q = if-false _ _ _ r (rw (← e) h) q
+
+-- ---- what each event itself does, put together from its stores
+
+module _ (s : State) where
+  pub section-made : (ls : List Line) (n g v : ℕ) (section stage : List ℕ) → section ≡ put 64 (s .section) g v
+      → stage ≡ each (8 * n) (ownStageAt ls g v) (s .stage) → withSections s section stage ≡ ownSection ls n s g v
+  unfolding ownSection
+  section-made ls n g v section stage p q = rw (p, q)
+
+  pub point-made : (a v : ℕ) (point : List ℕ) → point ≡ put 32 (s .point) a v → withPoints s point (s .order) ≡ ownPoint s a v
+  unfolding ownPoint
+  point-made a v point p = rw p
+
+  pub throw-made : (a w : ℕ) (point order : List ℕ) → point ≡ put 32 (s .point) a (throwReading (s .point) a w) → order ≡ put 32 (s .order) a w
+      → withPoints s point order ≡ ownThrow s a w
+  unfolding ownThrow
+  throw-made a w point order p q = rw (p, q)
+
+  pub set-made : (r : ℕ) (phase step second : List ℕ) → phase ≡ put 48 (s .phase) r 1 → step ≡ put 48 (s .step) r 0 → second ≡ put 48 (s .second) r 0
+      → withRoutes s phase step second ≡ ownSet s r
+  unfolding ownSet
+  set-made r phase step second p q t = rw (p, q, t)
+
+  pub cancel-made : (r : ℕ) (phase second : List ℕ) → phase ≡ put 48 (s .phase) r 3 → second ≡ put 48 (s .second) r 0
+      → withRoutes s phase (s .step) second ≡ ownCancel s r
+  unfolding ownCancel
+  cancel-made r phase second p q = rw (p, q)
+
+  pub secure-made : (l w : ℕ) (direction : List ℕ) → direction ≡ put 8 (s .direction) l w → withLines s direction (s .stage) ≡ ownSecure s l w
+  unfolding ownSecure
+  secure-made l w direction p = rw p
+
+  pub manual-made : (ls : List Line) (n l : ℕ) (direction stage : List ℕ) → direction ≡ put 8 (s .direction) l 0
+      → stage ≡ each (8 * n) (openAt ls l) (s .stage) → withLines s direction stage ≡ ownManual ls n s l
+  unfolding ownManual
+  manual-made ls n l direction stage p q = rw (p, q)
+
+  pub bar-made : (l i b : ℕ) (bar : List ℕ) → bar ≡ put 64 (s .bar) (place l i) b → withBars s bar ≡ ownBar s l i b
+  unfolding ownBar
+  bar-made l i b bar p = rw p

@@ -1,0 +1,8 @@
+-- The station's signal, or the next block's.
+use borrow.Author.Needs.{needs}
+use Rattle.interlocking.proofs.Laws.{far-station, far-next}
+use Rattle.interlocking.proofs.settle.far_proceeds.Statement.{statement}
+use Rattle.interlocking.proofs.settle.far_proceeds.Tie as tie
+
+pub far-proceeds-spec : {M : Type 1} → statement M
+far-proceeds-spec = tie.close (tie.spec (λ c κs. search (needs, far-station, far-next)) (λ c κs. search (needs, far-station, far-next)) (λ c κs. search (needs, far-station, far-next)) (λ c. search (needs, far-station, far-next)) (λ c κs. search (needs, far-station, far-next)) (λ c. search (needs, far-station, far-next)))

@@ -1,0 +1,127 @@
+-- What follows an event: signals, far sections, routes, line release, in that order (sections 4 to 6).
+use Prim.Native.Nat.{ℕ, _*_, _/_, _%_, _-_}
+use mathlib.Core.Bool.{Bool, not}
+use mathlib.Core.List.{List, [], _∷_}
+use lib.Dec.{eqb}
+use Rattle.laws.specs.Choice.{if_then_else_}
+use Rattle.laws.specs.Tests.{_and_, every, all, any}
+use Rattle.laws.specs.Tables.{each, read}
+use Rattle.track.specs.declared.Line.{Line}
+use Rattle.track.specs.declared.Route.{Route}
+use Rattle.track.specs.Objects.{line, route, entrance}
+use Rattle.signals.specs.Readings.{reading}
+use Rattle.signals.specs.Signals.{place, fallen, isOpen, unbarred, mainProceeds, blockProceeds}
+use Rattle.passage.specs.Passage.{arrival, nextBlock, farSection, farStage}
+use Rattle.release.specs.declared.Gives.{Gives}
+use Rattle.release.specs.declared.Held.{Held}
+use Rattle.release.specs.Release.{heldAfter}
+use Rattle.layout.specs.declared.Layout.{Layout}
+use Rattle.interlocking.specs.declared.State.{State}
+use Rattle.interlocking.specs.State.{withRoutes, withLines}
+
+-- ---- signals (section 4)
+
+-- the phase of route r: its signal falls, and stays fallen
+unfoldable pub fallenAt : List Line → List Route → State → ℕ → ℕ → ℕ
+fallenAt ls rs s r was = fallen ls (s .section) (s .point) (s .stage) (s .bar) (route rs r) was
+
+-- the signals of all routes
+unfoldable pub signals : Layout → State → State
+signals L s = withRoutes s (each (L .routes) (fallenAt (L .line) (L .route) s) (s .phase)) (s .step) (s .second)
+
+-- ---- far sections (section 5)
+
+-- the arrival end's entrance signal shows proceed
+unfoldable pub stationProceeds : Layout → State → Line → ℕ → Bool
+stationProceeds L s b w = mainProceeds (L .routes) (L .route) (s .phase) (entrance b (arrival w))
+
+-- the far signal of block i of line l in direction w shows proceed: the one between it and the next block, or the arrival end's entrance signal
+unfoldable pub farProceeds : Layout → State → ℕ → ℕ → ℕ → Bool
+farProceeds L s l i w =
+    if eqb (nextBlock (line (L .line) l) w i) 8 then stationProceeds L s (line (L .line) l) w
+    else blockProceeds (L .line) (s .direction) (s .point) (s .stage) (s .bar) l (nextBlock (line (L .line) l) w i) w
+
+-- it goes from proceed, before the event, to stop
+unfoldable pub farDropped : Layout → State → State → ℕ → ℕ → ℕ → Bool
+farDropped L before s l i w = farProceeds L before l i w and not (farProceeds L s l i w)
+
+-- what the far section of block i of line l reads
+unfoldable pub farReading : Layout → State → ℕ → ℕ → ℕ → ℕ
+farReading L s l i w = reading (s .section) (farSection (line (L .line) l) w i)
+
+-- the stage of the block at place k; in neutral there is no far section
+unfoldable pub farMoved : Layout → State → State → ℕ → ℕ → ℕ → ℕ
+farMoved L before s k w was = farStage (farReading L s (k / 8) (k % 8) w) (farDropped L before s (k / 8) (k % 8) w) was
+
+unfoldable pub farAfter : Layout → State → State → ℕ → ℕ → ℕ
+farAfter L before s k was =
+    if eqb (read 8 0 (s .direction) (k / 8)) 0 then was else farMoved L before s k (read 8 0 (s .direction) (k / 8)) was
+
+-- all blocks
+unfoldable pub farSections : Layout → State → State → State
+farSections L before s = withLines s (s .direction) (each (8 * L .lines) (farAfter L before s) (s .stage))
+
+-- ---- routes (section 6)
+
+-- what the state holds of route r, and what becomes of it
+unfoldable pub heldOf : State → ℕ → Held
+heldOf s r = record { phase = read 48 0 (s .phase) r; step = read 48 0 (s .step) r; second = read 48 0 (s .second) r }
+
+unfoldable pub routeAfter : List Line → List Route → State → Gives → ℕ → Held
+routeAfter ls rs s e r = heldAfter ls (s .section) (route rs r) e (heldOf s r)
+
+-- a route that is not idle takes what becomes of it; an idle one stays as it is
+unfoldable pub unlessIdle : State → ℕ → ℕ → ℕ → ℕ
+unlessIdle s r was x = if eqb (read 48 0 (s .phase) r) 0 then was else x
+
+-- n routes: phase, step and seconds
+unfoldable pub routesBy : List Line → List Route → ℕ → State → Gives → State
+routesBy ls rs n s e =
+    withRoutes s
+    (each n (λ r was. unlessIdle s r was (routeAfter ls rs s e r .phase)) (s .phase))
+    (each n (λ r was. unlessIdle s r was (routeAfter ls rs s e r .step)) (s .step))
+    (each n (λ r was. unlessIdle s r was (routeAfter ls rs s e r .second)) (s .second))
+
+-- all routes
+unfoldable pub routes : Layout → State → Gives → State
+routes L s e = routesBy (L .line) (L .route) (L .routes) s e
+
+-- ---- line release (section 5)
+
+-- the last block in travel
+unfoldable pub lastBlock : Line → ℕ → ℕ
+lastBlock b w = if eqb w 1 then b .blocks - 1 else 0
+
+-- route r is a locked exit route of line l
+unfoldable pub exitLockedBy : List ℕ → Route → ℕ → ℕ → Bool
+exitLockedBy phases a l r = not (eqb (read 48 0 phases r) 0) and (eqb (a .kind) 2 and eqb (a .line) l)
+
+unfoldable pub exitLocked : List Route → List ℕ → ℕ → ℕ → Bool
+exitLocked rs phases l r = exitLockedBy phases (route rs r) l r
+
+-- block i of line l is open and not barred
+unfoldable pub passable : State → ℕ → ℕ → Bool
+passable s l i = isOpen (s .stage) l i and unbarred (s .bar) l i
+
+-- the last block in travel was in stage 2
+unfoldable pub wasPassed : State → Line → ℕ → ℕ → Bool
+wasPassed before b l w = eqb (read 64 1 (before .stage) (place l (lastBlock b w))) 3
+
+-- the last block in travel went from stage 2 to open, every block is open, no block is barred, no exit route of the line is locked
+unfoldable pub ends : Layout → State → State → ℕ → ℕ → Bool
+ends L before s l w = every (
+    wasPassed before (line (L .line) l) l w
+    ∷ all (line (L .line) l .blocks) (passable s l)
+    ∷ not (any (L .routes) (exitLocked (L .route) (s .phase) l))
+    ∷ [])
+
+-- the line becomes neutral
+unfoldable pub directionAfter : Layout → State → State → ℕ → ℕ → ℕ
+directionAfter L before s l was = if eqb was 0 then was else if ends L before s l was then 0 else was
+
+unfoldable pub lineRelease : Layout → State → State → State
+lineRelease L before s = withLines s (each (L .lines) (directionAfter L before s) (s .direction)) (s .stage)
+
+-- ---- within one event, after the event's own effect: signals, far sections, routes, line release
+unfoldable pub settle : Layout → State → State → Gives → State
+settle L before s e = lineRelease L before (routes L (farSections L before (signals L s)) e)

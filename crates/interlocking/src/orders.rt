@@ -1,0 +1,174 @@
+// What an accepted event itself does to the state.
+use super::State;
+use track::Line;
+ghost use mathlib.Core.Path.{_≡_};
+ghost use Prim.Native.Nat.{_≤_, _<_};
+ghost use Rattle.laws.specs.Tables.{each};
+ghost use Rattle.interlocking.specs.Own.{blockAt, ownStageAt, ownSection, ownPoint, throwReading, ownThrow, ownSet, ownCancel, ownSecure, openAt, ownManual, ownBar};
+
+// Section g is the block at place k.
+fn is_block_at(ls: [Line; 8], g: u8, k: u8) -> bool
+    ensures { λ x. ⌜ x ≡ blockAt ls g k ⌝ }
+{
+    let b = track::line_at(ls, k / 8);
+    let block = b.block;
+    let x = laws::at8(block, k % 8);
+    (k % 8 < b.blocks) & (x == g)
+}
+
+// The stage at place k after section g was given v.
+fn stage_after(ls: [Line; 8], g: u8, v: u8, k: u8, was: u8) -> u8
+    ensures { λ x. ⌜ x ≡ ownStageAt ls g v k was ⌝ }
+{
+    if is_block_at(ls, g, k) {
+        return passage::own_stage(v, was);
+    }
+    was
+}
+
+// The stages of the first m places after section g was given v.
+fn stages_after(stages: [u8; 64], m: u8, ls: [Line; 8], g: u8, v: u8) -> [u8; 64]
+    requires { ⌜ m ≤ 64 ⌝ }
+    ensures { λ x. ⌜ x ≡ each m (ownStageAt ls g v) stages ⌝ }
+{
+    let mut stage = stages;
+    let mut k: u8 = 0;
+    while k < m {
+        let was = stage[k as usize];
+        stage[k as usize] = stage_after(ls, g, v, k, was);
+        k += 1;
+    }
+    stage
+}
+
+// 1: section g reads v, and the block that it is has its own reading; there are n lines.
+pub fn read_section(s: State, n: u8, ls: [Line; 8], g: u8, v: u8) -> State
+    requires { ⌜ (n ≤ 8) × (g < 64) ⌝ }
+    ensures { λ t. ⌜ t ≡ ownSection ls n s g v ⌝ }
+{
+    let old = s.stage;
+    let mut section = s.section;
+    section[g as usize] = v;
+    let stage = stages_after(old, 8 * n, ls, g, v);
+    let mut t = s;
+    t.section = section;
+    t.stage = stage;
+    t
+}
+
+// 2: point p reads v.
+pub fn read_point(s: State, p: u8, v: u8) -> State
+    requires { ⌜ p < 32 ⌝ }
+    ensures { λ t. ⌜ t ≡ ownPoint s p v ⌝ }
+{
+    let mut t = s;
+    t.point[p as usize] = v;
+    t
+}
+
+// 4: route r locks, and its signal shows proceed.
+pub fn lock(s: State, r: u8) -> State
+    requires { ⌜ r < 48 ⌝ }
+    ensures { λ t. ⌜ t ≡ ownSet s r ⌝ }
+{
+    let mut t = s;
+    t.phase[r as usize] = 1;
+    t.step[r as usize] = 0;
+    t.second[r as usize] = 0;
+    t
+}
+
+// 5: route r is cancelled, and its seconds begin.
+pub fn cancel(s: State, r: u8) -> State
+    requires { ⌜ r < 48 ⌝ }
+    ensures { λ t. ⌜ t ≡ ownCancel s r ⌝ }
+{
+    let mut t = s;
+    t.phase[r as usize] = 3;
+    t.second[r as usize] = 0;
+    t
+}
+
+// 6: line l is secured in direction w.
+pub fn secure(s: State, l: u8, w: u8) -> State
+    requires { ⌜ l < 8 ⌝ }
+    ensures { λ t. ⌜ t ≡ ownSecure s l w ⌝ }
+{
+    let mut t = s;
+    t.direction[l as usize] = w;
+    t
+}
+
+// The stage at place k after line l was released by hand.
+fn opened_at(ls: [Line; 8], l: u8, k: u8, was: u8) -> u8
+    ensures { λ x. ⌜ x ≡ openAt ls l k was ⌝ }
+{
+    let b = track::line_at(ls, l);
+    if (k / 8 == l) & (k % 8 < b.blocks) {
+        return 0;
+    }
+    was
+}
+
+// The stages of the first m places after line l was released by hand.
+fn opened_stages(stages: [u8; 64], m: u8, ls: [Line; 8], l: u8) -> [u8; 64]
+    requires { ⌜ m ≤ 64 ⌝ }
+    ensures { λ x. ⌜ x ≡ each m (openAt ls l) stages ⌝ }
+{
+    let mut stage = stages;
+    let mut k: u8 = 0;
+    while k < m {
+        let was = stage[k as usize];
+        stage[k as usize] = opened_at(ls, l, k, was);
+        k += 1;
+    }
+    stage
+}
+
+// 7: line l, of n lines, is released by hand: every block open, the line neutral.
+pub fn release_by_hand(s: State, n: u8, ls: [Line; 8], l: u8) -> State
+    requires { ⌜ (n ≤ 8) × (l < 8) ⌝ }
+    ensures { λ t. ⌜ t ≡ ownManual ls n s l ⌝ }
+{
+    let old = s.stage;
+    let mut direction = s.direction;
+    direction[l as usize] = 0;
+    let stage = opened_stages(old, 8 * n, ls, l);
+    let mut t = s;
+    t.direction = direction;
+    t.stage = stage;
+    t
+}
+
+// 8, 9: a bar is set, 1, or cleared, 0, at a place.
+pub fn set_bar(s: State, l: u8, i: u8, bar: u8) -> State
+    requires { ⌜ (l < 8) × (i < 8) ⌝ }
+    ensures { λ t. ⌜ t ≡ ownBar s l i bar ⌝ }
+{
+    let k = signals::place_of(l, i);
+    let mut t = s;
+    t.bar[k] = bar;
+    t
+}
+
+// The reading of a point that is thrown to w: none, unless it already read that position.
+fn thrown_reading(points: &[u8; 32], p: u8, w: u8) -> u8
+    ensures { λ x. ⌜ x ≡ throwReading (now (points .entry)) p w ⌝ }
+{
+    if signals::point_reads(points, p) == w {
+        return w;
+    }
+    3
+}
+
+// 3: point p is thrown to w: the order is stored.
+pub fn throw(s: State, p: u8, w: u8) -> State
+    requires { ⌜ p < 32 ⌝ }
+    ensures { λ t. ⌜ t ≡ ownThrow s p w ⌝ }
+{
+    let x = thrown_reading(&s.point, p, w);
+    let mut t = s;
+    t.point[p as usize] = x;
+    t.order[p as usize] = w;
+    t
+}
