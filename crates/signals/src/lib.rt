@@ -12,7 +12,7 @@ ghost use Rattle.signals.specs.Readings.{recorded, reading, lies, allFre
 ghost use Rattle.signals.specs.Signals.{linePlaced, routePlaced, place, nearest, isOpen, unbarred, enterable, letsOut, clear, fallen};
 
 // The reading that a code stands for: every code but 1 and 2 is none.
-pub fn record(code: u32) -> u8
+pub fn reading_for(code: u32) -> u8
     ensures { λ r. ⌜ r ≡ recorded code ⌝ }
 {
     if code == 1 {

@@ -3,6 +3,7 @@ use Rattle.laws.proofs.Only.{Determines, only}
 use Rattle.track.proofs.no_line.Reads as no-line
 use Rattle.track.proofs.no_route.Reads as no-route
 use Rattle.track.proofs.line_at.Reads as line-at
+use Rattle.track.proofs.route_at.Reads as route-at
 use Rattle.track.proofs.inner_at.Reads as inner-at
 use Rattle.track.proofs.entrance_at.Reads as entrance-at
 use Rattle.track.proofs.is_among.Reads as is-among
@@ -22,6 +23,10 @@ no-route-determined κs a r q s = only
 -- a line by its number
 pub line-at-determined : Determines line-at.Post
 line-at-determined κs a r q s = only
+
+-- a route by its number
+pub route-at-determined : Determines route-at.Post
+route-at-determined κs a r q s = only
 
 -- the inner section at an end
 pub inner-at-determined : Determines inner-at.Post

@@ -4,7 +4,7 @@ ghost use mathlib.Core.Path.{_≡_};
 ghost use mathlib.Core.Bool.{not};
 ghost use lib.Dec.{eqb, ltb};
 ghost use lib.ListN.{getD};
-ghost use Rattle.track.specs.Objects.{noLine, noRoute, line, inner, entrance};
+ghost use Rattle.track.specs.Objects.{noLine, noRoute, line, route, inner, entrance};
 ghost use Rattle.track.specs.Lists.{among, differ, between, referring, positions};
 ghost use Rattle.track.specs.Ranges.{placed, lineFits, routeFits};
 
@@ -91,6 +91,16 @@ pub fn line_at(ls: [Line; 8], l: u8) -> Line
         return ls[l as usize];
     }
     no_line()
+}
+
+// The route r, a route of nothing past the last.
+pub fn route_at(rs: [Route; 48], r: u8) -> Route
+    ensures { λ x. ⌜ x ≡ route rs r ⌝ }
+{
+    if r < 48 {
+        return rs[r as usize];
+    }
+    no_route()
 }
 
 // A line's inner section at an end.

@@ -1,0 +1,9 @@
+-- One reason after the other.
+use Rattle.refusals.proofs.Laws.{firsts}
+use Rattle.refusals.specs.Orders.{routeRefusal}
+use Rattle.refusals.proofs.route_refusal.Statement.{statement}
+use Rattle.refusals.proofs.route_refusal.Tie as tie
+
+pub route-refusal-spec : {M : Type 1} → statement M
+unfolding routeRefusal
+route-refusal-spec = tie.close (tie.spec (λ c κs. search firsts) (λ c. search firsts) (λ c κs. search firsts) (λ c. search firsts) (λ c κs. search firsts) (λ c. search firsts))

@@ -1,0 +1,9 @@
+-- One reason after the other.
+use Rattle.refusals.proofs.Laws.{firsts}
+use Rattle.refusals.specs.Orders.{secureRefusal}
+use Rattle.refusals.proofs.secure_refusal.Statement.{statement}
+use Rattle.refusals.proofs.secure_refusal.Tie as tie
+
+pub secure-refusal-spec : {M : Type 1} → statement M
+unfolding secureRefusal
+secure-refusal-spec = tie.close (tie.spec (λ c κs. search firsts) (λ c. search firsts) (λ c κs. search firsts) (λ c. search firsts) (λ c κs. search firsts) (λ c. search firsts) (λ c κs. search firsts) (λ c. search firsts depth 7))

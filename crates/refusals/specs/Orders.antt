@@ -1,0 +1,68 @@
+-- What is refused of each order, in the paper's order (section 3).
+use Prim.Native.Nat.{ℕ, _+_}
+use mathlib.Core.Bool.{not}
+use mathlib.Core.List.{List, [], _∷_}
+use lib.Dec.{eqb}
+use lib.ListN.{getD}
+use Rattle.laws.specs.Choice.{if_then_else_}
+use Rattle.laws.specs.Tables.{read}
+use Rattle.sets.specs.Sets.{union, setOf, joined}
+use Rattle.track.specs.declared.Line.{Line}
+use Rattle.track.specs.declared.Route.{Route}
+use Rattle.track.specs.Objects.{line, route}
+use Rattle.signals.specs.Signals.{nearest, isOpen, unbarred}
+use Rattle.layout.specs.declared.Layout.{Layout}
+use Rattle.refusals.specs.declared.Refusal.{Refusal}
+use Rattle.refusals.specs.Refusal.{none, when, firstOf}
+use Rattle.refusals.specs.Leaves.{notFree, notPlaced, locked, conflicting, byRoute, byLine, exitLocked, blockBarred, blockHeld}
+
+-- throw: 15, 16, then 7/8 for the point's own section
+unfoldable pub throwRefusal : Layout → List ℕ → List ℕ → List ℕ → ℕ → Refusal
+throwRefusal L sections phases directions p =
+    firstOf (byRoute L phases p ∷ byLine L directions p ∷ notFree sections (joined 0 (read 32 0 (L .pointsection) p)) ∷ [])
+
+-- an exit route besides: 9, 6 for the line's points, 11, 10 for the block it enters
+unfoldable pub exitRefusal : List Line → List ℕ → List ℕ → List ℕ → List ℕ → Route → Refusal
+exitRefusal ls points directions stages bars a =
+    firstOf (
+    when (not (eqb (read 8 0 directions (a .line)) (a .end + 1))) 9 (a .line)
+    ∷ notPlaced points (line ls (a .line) .points) (line ls (a .line) .point) (line ls (a .line) .position)
+    ∷ when (not (unbarred bars (a .line) (nearest (line ls (a .line)) (a .end)))) 11 (getD (line ls (a .line) .block) (nearest (line ls (a .line)) (a .end)) 0)
+    ∷ when (not (isOpen stages (a .line) (nearest (line ls (a .line)) (a .end)))) 10 (getD (line ls (a .line) .block) (nearest (line ls (a .line)) (a .end)) 0)
+    ∷ [])
+
+-- what a route's own lists ask: 6, 7/8 over path and overlap; an exit route then 9, 6, 11, 10
+unfoldable pub routeRefusal : List Line → List ℕ → List ℕ → List ℕ → List ℕ → List ℕ → Route → Refusal
+routeRefusal ls sections points directions stages bars a =
+    firstOf (
+    notPlaced points (a .points) (a .point) (a .position)
+    ∷ notFree sections (union (setOf (a .paths) (a .path)) (setOf (a .overlaps) (a .overlap)))
+    ∷ (if eqb (a .kind) 2 then exitRefusal ls points directions stages bars a else none)
+    ∷ [])
+
+-- set route: 4, 5, then what its lists ask
+unfoldable pub setRefusal : Layout → List ℕ → List ℕ → List ℕ → List ℕ → List ℕ → List ℕ → ℕ → Refusal
+setRefusal L sections points phases directions stages bars r =
+    firstOf (
+    when (locked phases r) 4 r
+    ∷ conflicting L phases r
+    ∷ routeRefusal (L .line) sections points directions stages bars (route (L .route) r)
+    ∷ [])
+
+-- cancel: 13, 14
+unfoldable pub cancelRefusal : List ℕ → ℕ → Refusal
+cancelRefusal phases r = firstOf (when (not (locked phases r)) 13 r ∷ when (eqb (read 48 0 phases r) 3) 14 r ∷ [])
+
+-- secure: 12, 11, 6 for the line's points, 10
+unfoldable pub secureRefusal : List Line → List ℕ → List ℕ → List ℕ → List ℕ → ℕ → Refusal
+secureRefusal ls points directions stages bars l =
+    firstOf (
+    when (not (eqb (read 8 0 directions l) 0)) 12 (read 8 0 directions l)
+    ∷ blockBarred ls bars l
+    ∷ notPlaced points (line ls l .points) (line ls l .point) (line ls l .position)
+    ∷ blockHeld ls stages l
+    ∷ [])
+
+-- manual release: 17, then 7/8 over the line's blocks
+unfoldable pub manualRefusal : Layout → List ℕ → List ℕ → ℕ → Refusal
+manualRefusal L sections phases l = firstOf (exitLocked L phases l ∷ notFree sections (setOf (line (L .line) l .blocks) (line (L .line) l .block)) ∷ [])
