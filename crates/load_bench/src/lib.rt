@@ -1,6 +1,5 @@
 // The loader, for a program in another language to time.
 use layout::Layout;
-use track::Route;
 ghost use mathlib.Core.Path.{_≡_};
 ghost use Prim.Native.Nat.{_+_, _*_, _%_};
 ghost use lib.ListN.{getD};
@@ -8,21 +7,12 @@ ghost use Rattle.track.specs.Objects.{route};
 ghost use Rattle.layout.specs.Load.{load};
 ghost use Rattle.load_bench.specs.Packed.{packed};
 
-// The route r, a route of nothing past the last.
-fn route_at(l: Layout, r: u8) -> Route
-    ensures { λ a. ⌜ a ≡ route (l .route) r ⌝ }
-{
-    if r < 48 {
-        return l.route[r as usize];
-    }
-    track::no_route()
-}
-
 // The overlap section at a place of a route.
 fn look(l: Layout, r: u8, place: u8) -> u8
     ensures { λ a. ⌜ a ≡ getD (route (l .route) r .overlap) place 0 ⌝ }
 {
-    let x = route_at(l, r);
+    let rs = l.route;
+    let x = track::route_at(rs, r);
     let overlap = x.overlap;
     laws::at8(overlap, place)
 }
