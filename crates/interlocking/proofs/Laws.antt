@@ -8,7 +8,7 @@ use borrow.Author.Tests.{lt-ltb}
 use lib.Dec.{eqb, ltb}
 use lib.ListN.{length, getD, set}
 use Rattle.laws.specs.Choice.{if_then_else_}
-use Rattle.laws.specs.Tests.{_and_}
+use Rattle.laws.specs.Tests.{_and_, every}
 use Rattle.laws.specs.Tables.{each, put, read}
 use Rattle.laws.proofs.Choice.{if-true, if-false, if-eq, if-ne, if-lt, if-both}
 use Rattle.laws.proofs.Arrays.{read-in}
@@ -24,7 +24,7 @@ use Rattle.release.specs.declared.Held.{Held}
 use Rattle.release.specs.Release.{heldAfter}
 use Rattle.layout.specs.declared.Layout.{Layout}
 use Rattle.interlocking.specs.declared.State.{State}
-use Rattle.interlocking.specs.State.{withSections, withPoints, withRoutes, withLines, withBars}
+use Rattle.interlocking.specs.State.{codes, routesInRange, withSections, withPoints, withRoutes, withLines, withBars}
 use Rattle.interlocking.specs.Own.{ownStageAt, ownSection, ownPoint, throwReading, ownThrow, ownSet, ownCancel, ownSecure, openAt, ownManual, ownBar}
 use Rattle.interlocking.specs.Settle.{fallenAt, stationProceeds, farProceeds, farDropped, farReading, farMoved, farAfter, lastBlock, exitLockedBy, exitLocked, heldOf, routeAfter, unlessIdle, routesBy}
 
@@ -228,3 +228,10 @@ module _ (s : State) where
   pub bar-made : (l i b : ℕ) (bar : List ℕ) → bar ≡ put 64 (s .bar) (place l i) b → withBars s bar ≡ ownBar s l i b
   unfolding ownBar
   bar-made l i b bar p = rw p
+
+-- the codes of routes, lines and blocks, from their six tests
+pub range-made : (s : State) (phase step second direction stage bar : Bool) → phase ≡ codes 48 0 3 (s .phase) → step ≡ codes 48 0 3 (s .step)
+    → second ≡ codes 48 0 89 (s .second) → direction ≡ codes 8 0 2 (s .direction) → stage ≡ codes 64 0 3 (s .stage) → bar ≡ codes 64 0 1 (s .bar)
+    → phase && (step && (second && (direction && (stage && bar)))) ≡ routesInRange s
+unfolding routesInRange every
+range-made s phase step second direction stage bar e₁ e₂ e₃ e₄ e₅ e₆ = rw (e₁, e₂, e₃, e₄, e₅, e₆)

@@ -25,19 +25,20 @@ cold = record {
 unfoldable pub codes : ℕ → ℕ → ℕ → List ℕ → Bool
 codes n low high xs = all n (λ i. between low high (getD xs i 0))
 
--- no code is outside its range: readings 1..3, orders 0..2, phases 0..3, steps 0..3, seconds 0..89, directions 0..2, stages 0..3, bars 0..1
-unfoldable pub inRange : State → Bool
-inRange s = every (
-    codes 64 1 3 (s .section)
-    ∷ codes 32 1 3 (s .point)
-    ∷ codes 32 0 2 (s .order)
-    ∷ codes 48 0 3 (s .phase)
+-- the codes of routes, lines and blocks: phases 0..3, steps 0..3, seconds 0..89, directions 0..2, stages 0..3, bars 0..1
+unfoldable pub routesInRange : State → Bool
+routesInRange s = every (
+    codes 48 0 3 (s .phase)
     ∷ codes 48 0 3 (s .step)
     ∷ codes 48 0 89 (s .second)
     ∷ codes 8 0 2 (s .direction)
     ∷ codes 64 0 3 (s .stage)
     ∷ codes 64 0 1 (s .bar)
     ∷ [])
+
+-- no code is outside its range: readings 1..3, orders 0..2, and those of routes, lines and blocks
+unfoldable pub inRange : State → Bool
+inRange s = every (codes 64 1 3 (s .section) ∷ codes 32 1 3 (s .point) ∷ codes 32 0 2 (s .order) ∷ routesInRange s ∷ [])
 
 -- ---- a state with some of its tables made anew
 

@@ -1,4 +1,5 @@
 // The state of the box and what an event makes of it (sections 1, 3 to 6).
+mod codes;
 mod ending;
 mod orders;
 mod settle;
@@ -7,6 +8,7 @@ use layout::Layout;
 use release::Gives;
 ghost use mathlib.Core.Path.{_≡_};
 ghost use Prim.Native.Nat.{_≤_};
+ghost use Rattle.interlocking.specs.State.{cold};
 ghost use Rattle.interlocking.specs.Settle.{settle};
 
 // A code for each section, point, route, line and block. section, point: 1 free or left, 2 occupied or right, 3 none. order: 0 none, 1, 2.
@@ -33,4 +35,23 @@ fn settled(l: Layout, before: State, s: State, e: Gives) -> State
     let b = settle::far_sections(l, before, a);
     let c = ending::let_go(l, b, e);
     ending::lines_released(l, before, c)
+}
+
+impl State {
+    // The cold start: everything reads none, no order, no route, no line secured, every block held in stage 0, no bar.
+    pub fn cold() -> State
+        ensures { λ s. ⌜ s ≡ cold ⌝ }
+    {
+        State {
+            section: [3; 64],
+            point: [3; 32],
+            order: [0; 32],
+            phase: [0; 48],
+            step: [0; 48],
+            second: [0; 48],
+            direction: [0; 8],
+            stage: [1; 64],
+            bar: [0; 64],
+        }
+    }
 }
