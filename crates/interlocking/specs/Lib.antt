@@ -1,3 +1,4 @@
 pub mod State
 pub mod Own
 pub mod Settle
+pub mod Step

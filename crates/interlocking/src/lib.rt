@@ -26,6 +26,13 @@ pub struct State {
     pub bar: [u8; 64],
 }
 
+// The answer to an event: 0 and 0 with the next state, or a refusal's number and detail with the state as it was.
+pub struct Answer {
+    pub number: u8,
+    pub detail: u32,
+    pub next: State,
+}
+
 // What follows an event within it: signals, far sections, routes, line release.
 fn settled(l: Layout, before: State, s: State, e: Gives) -> State
     requires { ⌜ (l .lines ≤ 8) × (l .routes ≤ 48) ⌝ }
