@@ -1,40 +1,27 @@
 -- One step of the box (section 3): the refusal, or what the event does and what follows from it.
 use Prim.Native.Nat.{ℕ}
-use mathlib.Core.Bool.{Bool, false, not}
+use mathlib.Core.Bool.{Bool}
 use mathlib.Core.List.{[], _∷_}
 use lib.Dec.{eqb, leb}
 use Rattle.laws.specs.Choice.{if_then_else_}
-use Rattle.laws.specs.Tests.{_and_, _or_}
-use Rattle.track.specs.Lists.{between}
+use Rattle.laws.specs.Tests.{_and_}
 use Rattle.signals.specs.Readings.{recorded}
 use Rattle.release.specs.declared.Gives.{Gives}
 use Rattle.layout.specs.declared.Layout.{Layout}
-use Rattle.layout.specs.Layout.{lineIn}
 use Rattle.layout.specs.Sound.{sound}
 use Rattle.refusals.specs.declared.Refusal.{Refusal}
-use Rattle.refusals.specs.Refusal.{none, when, firstOf}
+use Rattle.refusals.specs.Refusal.{none, firstOf}
 use Rattle.refusals.specs.Orders.{throwRefusal, setRefusal, cancelRefusal, secureRefusal, manualRefusal}
+use Rattle.refusals.specs.Events.{eventRefusal}
 use Rattle.interlocking.specs.declared.State.{State}
 use Rattle.interlocking.specs.declared.Answer.{Answer}
 use Rattle.interlocking.specs.State.{inRange}
 use Rattle.interlocking.specs.Own.{ownSection, ownPoint, ownThrow, ownSet, ownCancel, ownSecure, ownManual, ownBar}
 use Rattle.interlocking.specs.Settle.{settle}
 
--- how many objects there are of the kind that an event of kind k names: sections, points, routes, lines
-unfoldable pub objects : Layout → ℕ → ℕ
-objects L k = if eqb k 1 then L .sections else if leb k 3 then L .points else if leb k 5 then L .routes else L .lines
+-- ---- what is refused (section 3)
 
--- the second number is wrong: a position or a direction is 1 or 2, a ground 1 to 3, a block is one that the line has, an unused number 0
-unfoldable pub secondWrong : Layout → ℕ → ℕ → ℕ → Bool
-secondWrong L k a b =
-    if leb k 2 then false
-    else if eqb k 3 or eqb k 6 then not (between 1 2 b)
-    else if leb k 5 then not (eqb b 0)
-    else if eqb k 7 then not (between 1 3 b)
-    else if leb k 9 then leb (lineIn L a .blocks) b
-    else not (eqb a 0 and eqb b 0)
-
--- what is refused of an order, per kind
+-- what is refused of an order, per kind; readings, bars and seconds are always accepted
 unfoldable pub orderRefusal : Layout → State → ℕ → ℕ → Refusal
 orderRefusal L s k a =
     if eqb k 3 then throwRefusal L (s .section) (s .phase) (s .direction) a
@@ -45,45 +32,55 @@ orderRefusal L s k a =
     else none
 
 -- the order of refusals: 18, 1, 2, 3, then per kind
-unfoldable pub refusal : Layout → State → ℕ → ℕ → ℕ → Refusal
-refusal L s k a b =
-    firstOf (
-    when (not (sound L and inRange s)) 18 0
-    ∷ when (not (between 1 10 k)) 1 0
-    ∷ when (not (eqb k 10) and leb (objects L k) a) 2 a
-    ∷ when (secondWrong L k a b) 3 0
-    ∷ orderRefusal L s k a
-    ∷ [])
+unfoldable pub refusal : Bool → Layout → State → ℕ → ℕ → ℕ → Refusal
+refusal isSound L s k a b = firstOf (eventRefusal isSound L k a b ∷ orderRefusal L s k a ∷ [])
 
--- what an accepted event gives: kind 1 a section its reading, kind 10 a second
+-- ---- what an accepted event does
+
+-- what its second number says: of a reading what is recorded (section 1), else the number itself
+unfoldable pub meant : ℕ → ℕ → ℕ
+meant k b = if leb k 2 then recorded b else b
+
+-- what it gives: kind 1 a section its reading, kind 10 a second
 unfoldable pub gives : ℕ → ℕ → ℕ → Gives
-gives k a b =
-    if eqb k 1 then record { section = a; reading = recorded b; tick = 0 }
+gives k a v =
+    if eqb k 1 then record { section = a; reading = v; tick = 0 }
     else record { section = 64; reading = 0; tick = if eqb k 10 then 1 else 0 }
 
--- what an accepted event itself does
+-- what it does itself
 unfoldable pub own : Layout → State → ℕ → ℕ → ℕ → State
-own L s k a b =
-    if eqb k 1 then ownSection (L .line) (L .lines) s a (recorded b)
-    else if eqb k 2 then ownPoint s a (recorded b)
-    else if eqb k 3 then ownThrow s a b
+own L s k a v =
+    if eqb k 1 then ownSection (L .line) (L .lines) s a v
+    else if eqb k 2 then ownPoint s a v
+    else if eqb k 3 then ownThrow s a v
     else if eqb k 4 then ownSet s a
     else if eqb k 5 then ownCancel s a
-    else if eqb k 6 then ownSecure s a b
+    else if eqb k 6 then ownSecure s a v
     else if eqb k 7 then ownManual (L .line) (L .lines) s a
-    else if eqb k 8 then ownBar s a b 1
-    else if eqb k 9 then ownBar s a b 0
+    else if eqb k 8 then ownBar s a v 1
+    else if eqb k 9 then ownBar s a v 0
     else s
 
 -- and what follows from it
 unfoldable pub after : Layout → State → ℕ → ℕ → ℕ → State
-after L s k a b = settle L s (own L s k a b) (gives k a b)
+after L s k a v = settle L s (own L s k a v) (gives k a v)
+
+-- ---- the step
 
 -- the answer to an event of kind k with its two numbers: done, with the next state, or a refusal that leaves the state as it was
-unfoldable pub answer : Layout → State → ℕ → ℕ → ℕ → Refusal → Answer
-answer L s k a b f =
-    if eqb (f .number) 0 then record { number = 0; detail = 0; next = after L s k a b }
+unfoldable pub answer : Refusal → Layout → State → ℕ → ℕ → ℕ → Answer
+answer f L s k a b =
+    if eqb (f .number) 0 then record { number = 0; detail = 0; next = after L s k a (meant k b) }
     else record { number = f .number; detail = f .detail; next = s }
 
+-- the step where soundness was asked
+unfoldable pub stepWhere : Bool → Layout → State → ℕ → ℕ → ℕ → Answer
+stepWhere isSound L s k a b = answer (refusal isSound L s k a b) L s k a b
+
+-- one step: 18 is for a layout that breaks section 2 or a state with a code outside its range
 unfoldable pub step : Layout → State → ℕ → ℕ → ℕ → Answer
-step L s k a b = answer L s k a b (refusal L s k a b)
+step L s k a b = stepWhere (sound L and inRange s) L s k a b
+
+-- one step of a run that asked soundness before its first event: 18 asks no more than that lines and routes are as many as the tables hold
+unfoldable pub stepInRun : Layout → State → ℕ → ℕ → ℕ → Answer
+stepInRun L s k a b = stepWhere (leb (L .lines) 8 and leb (L .routes) 48) L s k a b

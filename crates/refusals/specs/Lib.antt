@@ -1,3 +1,4 @@
 pub mod Refusal
 pub mod Leaves
 pub mod Orders
+pub mod Events

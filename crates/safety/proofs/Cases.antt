@@ -19,7 +19,8 @@ use Rattle.interlocking.specs.State.{cold, codes, routesInRange, inRange, withS
 use Rattle.interlocking.specs.Own.{blockAt, ownStageAt, ownSection, ownPoint, throwReading, ownThrow, ownSet, ownCancel, ownSecure, openAt, ownManual, ownBar}
 use Rattle.interlocking.specs.Settle.{fallenAt, signals, stationProceeds, farProceeds, farDropped, farReading, farMoved, farAfter, farSections, heldOf, routeAfter, unlessIdle, routesBy, routes, lastBlock, exitLockedBy, passable, wasPassed, ends, directionAfter, lineRelease, settle}
 use Rattle.interlocking.specs.Settle as settling
-use Rattle.interlocking.specs.Step.{objects, secondWrong, orderRefusal, refusal, gives, own, after, answer, step}
+use Rattle.interlocking.specs.Step.{orderRefusal, refusal, meant, gives, own, after, answer, stepWhere, step}
+use Rattle.refusals.specs.Events.{objects, secondWrong, eventRefusal}
 use Rattle.safety.specs.Cases.{cases}
 
 -- P1, P3, P4, P5, P6
@@ -35,5 +36,5 @@ unfolding computed
     blockAt ownStageAt ownSection ownPoint throwReading ownThrow ownSet ownCancel ownSecure openAt ownManual ownBar
     fallenAt signals stationProceeds farProceeds farDropped farReading farMoved farAfter farSections heldOf routeAfter unlessIdle routesBy routes
     lastBlock exitLockedBy passable wasPassed ends directionAfter lineRelease settle settling.exitLocked
-    objects secondWrong orderRefusal refusal gives own after answer step
+    objects secondWrong eventRefusal orderRefusal refusal meant gives own after answer stepWhere step
 cases-hold = refl
