@@ -1,16 +1,18 @@
 -- The cases of what follows an event, each from the facts that choose it.
 use Prim.Native.Nat.{ℕ, _-_, _*_, _/_, _%_, _<_, _≤_}
 use mathlib.Core.Path.{_≡_, refl, sym, ap, ap₂, _∙_}
-use mathlib.Core.Bool.{Bool, true, false, _&&_}
+use mathlib.Core.Bool.{Bool, true, false, not, _&&_}
 use mathlib.Core.List.{List}
 use native.Mathlib.Omega.{arith}
 use borrow.Author.Tests.{lt-ltb}
 use lib.Dec.{eqb, ltb}
 use lib.ListN.{length, getD, set}
+use lib.Seq.{set-out}
 use Rattle.laws.specs.Choice.{if_then_else_}
-use Rattle.laws.specs.Tests.{_and_, every}
+use Rattle.laws.specs.Tests.{_and_, every, all, any}
 use Rattle.laws.specs.Tables.{each, put, read}
 use Rattle.laws.proofs.Choice.{if-true, if-false, if-eq, if-ne, if-lt, if-both}
+use Rattle.laws.proofs.Tests.{every-stops, every-passes, every-last}
 use Rattle.laws.proofs.Arrays.{read-in}
 use Rattle.laws.proofs.Each.{put-set}
 use Rattle.track.specs.declared.Line.{Line}
@@ -26,7 +28,7 @@ use Rattle.layout.specs.declared.Layout.{Layout}
 use Rattle.interlocking.specs.declared.State.{State}
 use Rattle.interlocking.specs.State.{codes, routesInRange, withSections, withPoints, withRoutes, withLines, withBars}
 use Rattle.interlocking.specs.Own.{ownStageAt, ownSection, ownPoint, throwReading, ownThrow, ownSet, ownCancel, ownSecure, openAt, ownManual, ownBar}
-use Rattle.interlocking.specs.Settle.{fallenAt, stationProceeds, farProceeds, farDropped, farReading, farMoved, farAfter, lastBlock, exitLockedBy, exitLocked, heldOf, routeAfter, unlessIdle, routesBy}
+use Rattle.interlocking.specs.Settle.{fallenAt, stationProceeds, farProceeds, farDropped, farReading, farMoved, farAfter, lastBlock, passable, wasPassed, ends, exitLockedBy, exitLocked, heldOf, routeAfter, unlessIdle, routesBy}
 
 -- ---- a route of the table, as the code reads it
 
@@ -118,6 +120,27 @@ pub exit-at : (rs : List Route) (phases : List ℕ) (k r n : ℕ) (d : Route) {v
 unfolding exitLocked
 exit-at rs phases k r n d q b few e = e ∙ ap (λ (a : Route). exitLockedBy phases a k r) (route-in rs r n d q b few)
 
+-- a line's release, by the test at which it fails
+module _ (L : Layout) (before s : State) (k w : ℕ) (b : Line) (v : Bool) (e : b ≡ line (L .line) k) (p : v ≡ wasPassed before b k w) where
+  passed : v ≡ wasPassed before (line (L .line) k) k w
+  passed = p ∙ ap (λ (x : Line). wasPassed before x k w) e
+
+  pub ends-unpassed : not v ≡ true → false ≡ ends L before s k w
+  unfolding ends
+  ends-unpassed h = every-stops _ _ v passed h
+
+  module _ (u : Bool) (q : u ≡ all (b .blocks) (passable s k)) (h : not v ≡ false) where
+    open-all : u ≡ all (line (L .line) k .blocks) (passable s k)
+    open-all = q ∙ ap (λ (x : Line). all (x .blocks) (passable s k)) e
+
+    pub ends-held : not u ≡ true → false ≡ ends L before s k w
+    unfolding ends
+    ends-held g = every-passes _ _ v _ false passed h (every-stops _ _ u open-all g)
+
+    pub ends-unless-locked : (x : Bool) → x ≡ any (L .routes) (exitLocked (L .route) (s .phase) k) → not u ≡ false → not x ≡ ends L before s k w
+    unfolding ends
+    ends-unless-locked x r g = every-passes _ _ v _ (not x) passed h (every-passes _ _ u _ (not x) open-all g (every-last _ (not x) (ap not r)))
+
 -- what the state holds of a route that there is
 held-of : (s : State) (r : ℕ) → r < 48 → record { phase = getD (s .phase) r 0; step = getD (s .step) r 0; second = getD (s .second) r 0 } ≡ heldOf s r
 unfolding heldOf read if_then_else_
@@ -160,14 +183,13 @@ routes-made ls rs n s e phase step second p q r = rw (p, q, r)
 
 -- ---- one store
 
--- at a number that is known to be a, of what is known to be v
-pub put-with : (n : ℕ) (xs : List ℕ) (a v k x : ℕ) → length xs ≡ n → k ≡ a → x ≡ v → set xs k x ≡ put n xs a v
-put-with n xs a v k x q e f = ap₂ (λ (i y : ℕ). set xs i y) e f ∙ put-set n xs a v q
+-- inside the table
+pub put-inside : (n : ℕ) (xs : List ℕ) (a v : ℕ) {ys : List ℕ} → length xs ≡ n → ys ≡ set xs a v → ys ≡ put n xs a v
+put-inside n xs a v q e = e ∙ put-set n xs a v q
 
--- a block's place lies in the table
-pub place-inside : (l i : ℕ) {k : ℕ} → k ≡ place l i → l < 8 → i < 8 → k < 64
-unfolding place
-place-inside l i e h g = omega arith
+-- past its end nothing is stored
+pub put-past : (n : ℕ) (xs : List ℕ) (a v : ℕ) {ys : List ℕ} → length xs ≡ n → n ≤ a → ys ≡ xs → ys ≡ put n xs a v
+put-past n xs a v q b e = e ∙ sym (set-out xs a v (omega arith)) ∙ put-set n xs a v q
 
 -- the point reads what it is thrown to already
 pub throw-kept : (points : List ℕ) (p w x r : ℕ) → x ≡ lies points p → x ≡ w → r ≡ w → r ≡ throwReading points p w
@@ -201,10 +223,10 @@ module _ (s : State) where
   unfolding ownPoint
   point-made a v point p = rw p
 
-  pub throw-made : (a w : ℕ) (point order : List ℕ) → point ≡ put 32 (s .point) a (throwReading (s .point) a w) → order ≡ put 32 (s .order) a w
+  pub throw-made : (a w x : ℕ) (point order : List ℕ) → x ≡ throwReading (s .point) a w → point ≡ put 32 (s .point) a x → order ≡ put 32 (s .order) a w
       → withPoints s point order ≡ ownThrow s a w
   unfolding ownThrow
-  throw-made a w point order p q = rw (p, q)
+  throw-made a w x point order e p q = rw (p, q, e)
 
   pub set-made : (r : ℕ) (phase step second : List ℕ) → phase ≡ put 48 (s .phase) r 1 → step ≡ put 48 (s .step) r 0 → second ≡ put 48 (s .second) r 0
       → withRoutes s phase step second ≡ ownSet s r

@@ -1,7 +1,72 @@
 -- No second result meets the contract of a public function. Each `Post` is the contract itself, as the function is proved to meet it.
 use Rattle.laws.proofs.Only.{Determines, only}
 use Rattle.interlocking.proofs.State.cold.Reads as cold
+use Rattle.interlocking.proofs.State.in_range.Reads as in-range
+use Rattle.interlocking.proofs.State.step.Reads as step
+use Rattle.interlocking.proofs.State.step_in_run.Reads as step-in-run
+use Rattle.interlocking.proofs.State.read_section.Reads as read-section
+use Rattle.interlocking.proofs.State.read_point.Reads as read-point
+use Rattle.interlocking.proofs.State.throw_point.Reads as throw-point
+use Rattle.interlocking.proofs.State.set_route.Reads as set-route
+use Rattle.interlocking.proofs.State.cancel_route.Reads as cancel-route
+use Rattle.interlocking.proofs.State.secure_line.Reads as secure-line
+use Rattle.interlocking.proofs.State.release_line.Reads as release-line
+use Rattle.interlocking.proofs.State.bar_block.Reads as bar-block
+use Rattle.interlocking.proofs.State.unbar_block.Reads as unbar-block
+use Rattle.interlocking.proofs.State.second_passed.Reads as second-passed
 
 -- the cold start
 pub cold-determined : Determines cold.Post
 cold-determined κs a r q s = only
+
+-- whether no code is outside its range
+pub in-range-determined : Determines in-range.Post
+in-range-determined κs a r q s = only
+
+-- one step
+pub step-determined : Determines step.Post
+step-determined κs a r q s = only
+
+-- one step of a run
+pub step-in-run-determined : Determines step-in-run.Post
+step-in-run-determined κs a r q s = only
+
+-- 1: a section reading
+pub read-section-determined : Determines read-section.Post
+read-section-determined κs a r q s = only
+
+-- 2: a point reading
+pub read-point-determined : Determines read-point.Post
+read-point-determined κs a r q s = only
+
+-- 3: throw
+pub throw-point-determined : Determines throw-point.Post
+throw-point-determined κs a r q s = only
+
+-- 4: set route
+pub set-route-determined : Determines set-route.Post
+set-route-determined κs a r q s = only
+
+-- 5: cancel route
+pub cancel-route-determined : Determines cancel-route.Post
+cancel-route-determined κs a r q s = only
+
+-- 6: secure line
+pub secure-line-determined : Determines secure-line.Post
+secure-line-determined κs a r q s = only
+
+-- 7: manual release
+pub release-line-determined : Determines release-line.Post
+release-line-determined κs a r q s = only
+
+-- 8: bar
+pub bar-block-determined : Determines bar-block.Post
+bar-block-determined κs a r q s = only
+
+-- 9: unbar
+pub unbar-block-determined : Determines unbar-block.Post
+unbar-block-determined κs a r q s = only
+
+-- 10: one second has passed
+pub second-passed-determined : Determines second-passed.Post
+second-passed-determined κs a r q s = only

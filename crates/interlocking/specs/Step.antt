@@ -9,8 +9,8 @@ use Rattle.signals.specs.Readings.{recorded}
 use Rattle.release.specs.declared.Gives.{Gives}
 use Rattle.layout.specs.declared.Layout.{Layout}
 use Rattle.layout.specs.Sound.{sound}
-use Rattle.refusals.specs.declared.Refusal.{Refusal}
-use Rattle.refusals.specs.Refusal.{none, firstOf}
+use Rattle.reasons.specs.declared.Refusal.{Refusal}
+use Rattle.reasons.specs.Refusal.{none, firstOf}
 use Rattle.refusals.specs.Orders.{throwRefusal, setRefusal, cancelRefusal, secureRefusal, manualRefusal}
 use Rattle.refusals.specs.Events.{eventRefusal}
 use Rattle.interlocking.specs.declared.State.{State}
@@ -67,11 +67,13 @@ after L s k a v = settle L s (own L s k a v) (gives k a v)
 
 -- ---- the step
 
--- the answer to an event of kind k with its two numbers: done, with the next state, or a refusal that leaves the state as it was
+-- a refusal leaves the state as it was
+unfoldable pub refusedBy : Refusal → State → Answer
+refusedBy f s = record { number = f .number; detail = f .detail; next = s }
+
+-- the answer to an event of kind k with its two numbers: done, with the next state, or the refusal
 unfoldable pub answer : Refusal → Layout → State → ℕ → ℕ → ℕ → Answer
-answer f L s k a b =
-    if eqb (f .number) 0 then record { number = 0; detail = 0; next = after L s k a (meant k b) }
-    else record { number = f .number; detail = f .detail; next = s }
+answer f L s k a b = if eqb (f .number) 0 then record { number = 0; detail = 0; next = after L s k a (meant k b) } else refusedBy f s
 
 -- the step where soundness was asked
 unfoldable pub stepWhere : Bool → Layout → State → ℕ → ℕ → ℕ → Answer

@@ -133,7 +133,7 @@ fn was_in_stage_2(before: State, b: Line, k: u8, w: u8) -> bool
     signals::held_at(&before.stage, k, i) == 3
 }
 
-// Line k, secured in direction w, becomes neutral.
+// Line k, secured in direction w, becomes neutral. The rest is asked only where the last block in travel was in stage 2.
 fn is_ended(l: Layout, before: State, s: State, k: u8, w: u8) -> bool
     requires { ⌜ l .routes ≤ 48 ⌝ }
     ensures { λ x. ⌜ x ≡ ends l before s k w ⌝ }
@@ -141,10 +141,13 @@ fn is_ended(l: Layout, before: State, s: State, k: u8, w: u8) -> bool
     let ls = l.line;
     let rs = l.route;
     let b = line_at(ls, k);
-    let passed = was_in_stage_2(before, b, k, w);
-    let open = all_passable(s, k, b.blocks);
-    let locked = some_exit_locked(rs, l.routes, &s.phase, k);
-    passed & (open & !locked)
+    if !was_in_stage_2(before, b, k, w) {
+        return false;
+    }
+    if !all_passable(s, k, b.blocks) {
+        return false;
+    }
+    !some_exit_locked(rs, l.routes, &s.phase, k)
 }
 
 // The direction of line k.

@@ -1,8 +1,12 @@
 // What an accepted event itself does to the state.
 use super::State;
+use super::stores::put8;
+use super::stores::put32;
+use super::stores::put48;
+use super::stores::put64;
 use track::Line;
 ghost use mathlib.Core.Path.{_≡_};
-ghost use Prim.Native.Nat.{_≤_, _<_};
+ghost use Prim.Native.Nat.{_≤_};
 ghost use Rattle.laws.specs.Tables.{each};
 ghost use Rattle.interlocking.specs.Own.{blockAt, ownStageAt, ownSection, ownPoint, throwReading, ownThrow, ownSet, ownCancel, ownSecure, openAt, ownManual, ownBar};
 
@@ -43,13 +47,13 @@ fn stages_after(stages: [u8; 64], m: u8, ls: [Line; 8], g: u8, v: u8) -> [u8; 64
 
 // 1: section g reads v, and the block that it is has its own reading; there are n lines.
 pub fn read_section(s: State, n: u8, ls: [Line; 8], g: u8, v: u8) -> State
-    requires { ⌜ (n ≤ 8) × (g < 64) ⌝ }
+    requires { ⌜ n ≤ 8 ⌝ }
     ensures { λ t. ⌜ t ≡ ownSection ls n s g v ⌝ }
 {
-    let old = s.stage;
-    let mut section = s.section;
-    section[g as usize] = v;
-    let stage = stages_after(old, 8 * n, ls, g, v);
+    let old = s.section;
+    let section = put64(old, g as usize, v);
+    let stages = s.stage;
+    let stage = stages_after(stages, 8 * n, ls, g, v);
     let mut t = s;
     t.section = section;
     t.stage = stage;
@@ -58,44 +62,54 @@ pub fn read_section(s: State, n: u8, ls: [Line; 8], g: u8, v: u8) -> State
 
 // 2: point p reads v.
 pub fn read_point(s: State, p: u8, v: u8) -> State
-    requires { ⌜ p < 32 ⌝ }
     ensures { λ t. ⌜ t ≡ ownPoint s p v ⌝ }
 {
+    let old = s.point;
+    let point = put32(old, p, v);
     let mut t = s;
-    t.point[p as usize] = v;
+    t.point = point;
     t
 }
 
 // 4: route r locks, and its signal shows proceed.
 pub fn lock(s: State, r: u8) -> State
-    requires { ⌜ r < 48 ⌝ }
     ensures { λ t. ⌜ t ≡ ownSet s r ⌝ }
 {
+    let phases = s.phase;
+    let steps = s.step;
+    let seconds = s.second;
+    let phase = put48(phases, r, 1);
+    let step = put48(steps, r, 0);
+    let second = put48(seconds, r, 0);
     let mut t = s;
-    t.phase[r as usize] = 1;
-    t.step[r as usize] = 0;
-    t.second[r as usize] = 0;
+    t.phase = phase;
+    t.step = step;
+    t.second = second;
     t
 }
 
 // 5: route r is cancelled, and its seconds begin.
 pub fn cancel(s: State, r: u8) -> State
-    requires { ⌜ r < 48 ⌝ }
     ensures { λ t. ⌜ t ≡ ownCancel s r ⌝ }
 {
+    let phases = s.phase;
+    let seconds = s.second;
+    let phase = put48(phases, r, 3);
+    let second = put48(seconds, r, 0);
     let mut t = s;
-    t.phase[r as usize] = 3;
-    t.second[r as usize] = 0;
+    t.phase = phase;
+    t.second = second;
     t
 }
 
 // 6: line l is secured in direction w.
 pub fn secure(s: State, l: u8, w: u8) -> State
-    requires { ⌜ l < 8 ⌝ }
     ensures { λ t. ⌜ t ≡ ownSecure s l w ⌝ }
 {
+    let old = s.direction;
+    let direction = put8(old, l, w);
     let mut t = s;
-    t.direction[l as usize] = w;
+    t.direction = direction;
     t
 }
 
@@ -127,27 +141,28 @@ fn opened_stages(stages: [u8; 64], m: u8, ls: [Line; 8], l: u8) -> [u8; 64]
 
 // 7: line l, of n lines, is released by hand: every block open, the line neutral.
 pub fn release_by_hand(s: State, n: u8, ls: [Line; 8], l: u8) -> State
-    requires { ⌜ (n ≤ 8) × (l < 8) ⌝ }
+    requires { ⌜ n ≤ 8 ⌝ }
     ensures { λ t. ⌜ t ≡ ownManual ls n s l ⌝ }
 {
-    let old = s.stage;
-    let mut direction = s.direction;
-    direction[l as usize] = 0;
-    let stage = opened_stages(old, 8 * n, ls, l);
+    let old = s.direction;
+    let direction = put8(old, l, 0);
+    let stages = s.stage;
+    let stage = opened_stages(stages, 8 * n, ls, l);
     let mut t = s;
     t.direction = direction;
     t.stage = stage;
     t
 }
 
-// 8, 9: a bar is set, 1, or cleared, 0, at a place.
-pub fn set_bar(s: State, l: u8, i: u8, bar: u8) -> State
-    requires { ⌜ (l < 8) × (i < 8) ⌝ }
-    ensures { λ t. ⌜ t ≡ ownBar s l i bar ⌝ }
+// 8, 9: a bar is set, 1, or cleared, 0, on block i of line l.
+pub fn set_bar(s: State, l: u8, i: u32, on: u8) -> State
+    ensures { λ t. ⌜ t ≡ ownBar s l i on ⌝ }
 {
-    let k = signals::place_of(l, i);
+    let k = 8 * (l as usize) + (i as usize);
+    let old = s.bar;
+    let bar = put64(old, k, on);
     let mut t = s;
-    t.bar[k] = bar;
+    t.bar = bar;
     t
 }
 
@@ -163,12 +178,15 @@ fn thrown_reading(points: &[u8; 32], p: u8, w: u8) -> u8
 
 // 3: point p is thrown to w: the order is stored.
 pub fn throw(s: State, p: u8, w: u8) -> State
-    requires { ⌜ p < 32 ⌝ }
     ensures { λ t. ⌜ t ≡ ownThrow s p w ⌝ }
 {
     let x = thrown_reading(&s.point, p, w);
+    let points = s.point;
+    let orders = s.order;
+    let point = put32(points, p, x);
+    let order = put32(orders, p, w);
     let mut t = s;
-    t.point[p as usize] = x;
-    t.order[p as usize] = w;
+    t.point = point;
+    t.order = order;
     t
 }

@@ -1,4 +1,2 @@
-pub mod Refusal
-pub mod Leaves
 pub mod Orders
 pub mod Events

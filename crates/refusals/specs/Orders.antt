@@ -12,9 +12,9 @@ use Rattle.track.specs.declared.Route.{Route}
 use Rattle.track.specs.Objects.{line, route}
 use Rattle.signals.specs.Signals.{nearest, isOpen, unbarred}
 use Rattle.layout.specs.declared.Layout.{Layout}
-use Rattle.refusals.specs.declared.Refusal.{Refusal}
-use Rattle.refusals.specs.Refusal.{none, when, firstOf}
-use Rattle.refusals.specs.Leaves.{notFree, notPlaced, locked, conflicting, byRoute, byLine, exitLocked, blockBarred, blockHeld}
+use Rattle.reasons.specs.declared.Refusal.{Refusal}
+use Rattle.reasons.specs.Refusal.{none, when, firstOf}
+use Rattle.reasons.specs.Leaves.{notFree, notPlaced, locked, conflicting, byRoute, byLine, exitLocked, blockBarred, blockHeld}
 
 -- throw: 15, 16, then 7/8 for the point's own section
 unfoldable pub throwRefusal : Layout → List ℕ → List ℕ → List ℕ → ℕ → Refusal

@@ -1,49 +1,36 @@
-// What is refused of each order, over a layout and the tables of a state that are lent (section 3).
-mod reasons;
-mod searches;
-
+// What is refused of any event and of each order, in the paper's order, over a layout and the tables of a state that are lent (section 3).
 use layout::Layout;
+use reasons::Refusal;
+use reasons::events;
+use reasons::none;
+use reasons::when_refused;
 use track::Line;
 use track::Route;
 use track::route_at;
 ghost use mathlib.Core.Path.{_≡_};
 ghost use lib.Dec.{eqb};
 ghost use Rattle.laws.specs.Choice.{if_then_else_};
-ghost use Rattle.track.specs.Objects.{route};
-ghost use Rattle.refusals.specs.Refusal.{refused, none, when};
+ghost use Rattle.reasons.specs.Refusal.{none};
+ghost use Rattle.refusals.specs.Events.{eventRefusal};
 ghost use Rattle.refusals.specs.Orders.{throwRefusal, exitRefusal, routeRefusal, setRefusal, cancelRefusal, secureRefusal, manualRefusal};
 
-// A refusal: its number and its detail; number 0 where there is none.
-pub struct Refusal {
-    pub number: u8,
-    pub detail: u32,
-}
-
-// No refusal.
-pub fn none() -> Refusal
-    ensures { λ r. ⌜ r ≡ none ⌝ }
+// What is refused of any event, before its kind is looked at.
+pub fn event_refusal(plan: Layout, is_sound: bool, kind: u32, first: u32, second: u32) -> Refusal
+    ensures { λ r. ⌜ r ≡ eventRefusal «is_sound» plan kind first second ⌝ }
 {
-    Refusal {
-        number: 0,
-        detail: 0,
+    let unsound = when_refused(!is_sound, 18, 0);
+    if unsound.number != 0 {
+        return unsound;
     }
-}
-
-// A refusal by its number and detail.
-pub fn refuse(number: u8, detail: u32) -> Refusal
-    ensures { λ r. ⌜ r ≡ refused number detail ⌝ }
-{
-    Refusal { number, detail }
-}
-
-// Refused where the test holds.
-pub fn when_refused(test: bool, number: u8, detail: u32) -> Refusal
-    ensures { λ r. ⌜ r ≡ when test number detail ⌝ }
-{
-    if test {
-        return refuse(number, detail);
+    let unknown = events::unknown_kind(kind);
+    if unknown.number != 0 {
+        return unknown;
     }
-    none()
+    let missing = events::no_such_object(plan, kind, first);
+    if missing.number != 0 {
+        return missing;
+    }
+    events::wrong_second(plan, kind, first, second)
 }
 
 // What is refused of a throw.
@@ -68,7 +55,7 @@ pub fn throw_refusal<'a>(
     reasons::point_not_free(own, sections, p)
 }
 
-// What is refused of an exit route besides.
+// What is refused of an exit route besides; of the other kinds nothing.
 fn exit_refusal<'a>(
     ls: [Line; 8],
     points: &'a [u8; 32],
@@ -77,8 +64,11 @@ fn exit_refusal<'a>(
     bars: &'a [u8; 64],
     a: Route,
 ) -> Refusal
-    ensures { λ r. ⌜ r ≡ exitRefusal ls (now (points .entry)) (now (directions .entry)) (now (stages .entry)) (now (bars .entry)) a ⌝ }
+    ensures { λ r. ⌜ r ≡ if eqb (a .kind) 2 then exitRefusal ls (now (points .entry)) (now (directions .entry)) (now (stages .entry)) (now (bars .entry)) a else none ⌝ }
 {
+    if a.kind != 2 {
+        return none();
+    }
     let way = reasons::not_secured(directions, a.line, a.end);
     if way.number != 0 {
         return way;
@@ -92,23 +82,6 @@ fn exit_refusal<'a>(
         return barred;
     }
     reasons::entered_held(ls, stages, a)
-}
-
-// The same, where the route is an exit route; of the other kinds nothing.
-fn refused_on_line<'a>(
-    ls: [Line; 8],
-    points: &'a [u8; 32],
-    directions: &'a [u8; 8],
-    stages: &'a [u8; 64],
-    bars: &'a [u8; 64],
-    a: Route,
-) -> Refusal
-    ensures { λ r. ⌜ r ≡ if eqb (a .kind) 2 then exitRefusal ls (now (points .entry)) (now (directions .entry)) (now (stages .entry)) (now (bars .entry)) a else none ⌝ }
-{
-    if a.kind == 2 {
-        return exit_refusal(ls, points, directions, stages, bars, a);
-    }
-    none()
 }
 
 // What is refused of a route by its own lists.
@@ -131,25 +104,7 @@ fn route_refusal<'a>(
     if free.number != 0 {
         return free;
     }
-    refused_on_line(ls, points, directions, stages, bars, a)
-}
-
-// The same of route r of a layout.
-fn listed_refusal<'a>(
-    plan: Layout,
-    sections: &'a [u8; 64],
-    points: &'a [u8; 32],
-    directions: &'a [u8; 8],
-    stages: &'a [u8; 64],
-    bars: &'a [u8; 64],
-    r: u8,
-) -> Refusal
-    ensures { λ x. ⌜ x ≡ routeRefusal (plan .line) (now (sections .entry)) (now (points .entry)) (now (directions .entry)) (now (stages .entry)) (now (bars .entry)) (route (plan .route) r) ⌝ }
-{
-    let ls = plan.line;
-    let rs = plan.route;
-    let a = route_at(rs, r);
-    route_refusal(ls, sections, points, directions, stages, bars, a)
+    exit_refusal(ls, points, directions, stages, bars, a)
 }
 
 // What is refused of setting a route.
@@ -173,7 +128,10 @@ pub fn set_refusal<'a>(
     if other.number != 0 {
         return other;
     }
-    listed_refusal(plan, sections, points, directions, stages, bars, r)
+    let ls = plan.line;
+    let rs = plan.route;
+    let a = route_at(rs, r);
+    route_refusal(ls, sections, points, directions, stages, bars, a)
 }
 
 // What is refused of cancelling a route.

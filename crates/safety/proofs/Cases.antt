@@ -12,8 +12,8 @@ use Rattle.release.specs.Release.{given, endBlock, firstWatched, secondWatched,
 use Rattle.layout.specs.Load.{load}
 use Rattle.layout_facts.specs.BranchT.{branchT}
 use Rattle.layout_facts.proofs.BranchT.{computed}
-use Rattle.refusals.specs.Refusal.{refused, none, when, found, firstOf}
-use Rattle.refusals.specs.Leaves.{lacking, notFree, misplaced, notPlaced, locked, conflicting, byRoute, byLine, exitLocked, blockBarred, blockHeld}
+use Rattle.reasons.specs.Refusal.{refused, none, when, found, firstOf}
+use Rattle.reasons.specs.Leaves.{lacking, notFree, misplaced, notPlaced, locked, conflicting, byRoute, byLine, exitLocked, blockBarred, blockHeld}
 use Rattle.refusals.specs.Orders.{throwRefusal, exitRefusal, routeRefusal, setRefusal, cancelRefusal, secureRefusal, manualRefusal}
 use Rattle.interlocking.specs.State.{cold, codes, routesInRange, inRange, withSections, withPoints, withRoutes, withLines, withBars}
 use Rattle.interlocking.specs.Own.{blockAt, ownStageAt, ownSection, ownPoint, throwReading, ownThrow, ownSet, ownCancel, ownSecure, openAt, ownManual, ownBar}

@@ -1,5 +1,5 @@
 -- One reason after the other.
-use Rattle.refusals.proofs.Laws.{firsts}
+use Rattle.reasons.proofs.Laws.{firsts}
 use Rattle.refusals.specs.Orders.{cancelRefusal}
 use Rattle.refusals.proofs.cancel_refusal.Statement.{statement}
 use Rattle.refusals.proofs.cancel_refusal.Tie as tie

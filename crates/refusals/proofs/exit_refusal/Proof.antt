@@ -1,9 +1,10 @@
--- One reason after the other.
-use Rattle.refusals.proofs.Laws.{firsts}
+-- By the kind, then one reason after the other.
+use Rattle.laws.proofs.Choice.{if-eq, choices}
+use Rattle.reasons.proofs.Laws.{firsts}
 use Rattle.refusals.specs.Orders.{exitRefusal}
 use Rattle.refusals.proofs.exit_refusal.Statement.{statement}
 use Rattle.refusals.proofs.exit_refusal.Tie as tie
 
 pub exit-refusal-spec : {M : Type 1} → statement M
 unfolding exitRefusal
-exit-refusal-spec = tie.close (tie.spec (λ c κs. search firsts) (λ c. search firsts) (λ c κs. search firsts) (λ c. search firsts) (λ c κs. search firsts) (λ c. search firsts) (λ c κs. search firsts) (λ c. search firsts depth 7))
+exit-refusal-spec = tie.close (tie.spec (λ c κs. search firsts) (λ c. search choices) (λ c κs. search firsts) (λ c. search (firsts, if-eq)) (λ c κs. search firsts) (λ c. search (firsts, if-eq) depth 6) (λ c κs. search firsts) (λ c. search (firsts, if-eq) depth 7) (λ c κs. search firsts) (λ c. search (firsts, if-eq) depth 8))

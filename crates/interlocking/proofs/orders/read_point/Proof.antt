@@ -1,10 +1,10 @@
--- One store.
+-- A store.
 use borrow.Author.Needs.{needs}
-use Rattle.interlocking.proofs.Laws.{put-with, point-made}
+use Rattle.interlocking.proofs.Laws.{point-made}
 use Rattle.interlocking.specs.State.{withPoints}
 use Rattle.interlocking.proofs.orders.read_point.Statement.{statement}
 use Rattle.interlocking.proofs.orders.read_point.Tie as tie
 
 pub read-point-spec : {M : Type 1} → statement M
 unfolding withPoints
-read-point-spec = tie.close (tie.spec (λ c. search needs) (λ c. search (needs, put-with, point-made)))
+read-point-spec = tie.close (tie.spec (λ c κs. search needs) (λ c. search (needs, point-made)))

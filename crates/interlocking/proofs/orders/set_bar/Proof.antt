@@ -1,10 +1,11 @@
--- One store, at the block's place.
+-- A store at the block's place.
 use borrow.Author.Needs.{needs}
-use Rattle.interlocking.proofs.Laws.{put-with, place-inside, bar-made}
+use Rattle.interlocking.proofs.Laws.{bar-made}
 use Rattle.interlocking.specs.State.{withBars}
+use Rattle.signals.specs.Signals.{place}
 use Rattle.interlocking.proofs.orders.set_bar.Statement.{statement}
 use Rattle.interlocking.proofs.orders.set_bar.Tie as tie
 
 pub set-bar-spec : {M : Type 1} → statement M
-unfolding withBars
-set-bar-spec = tie.close (tie.spec (λ c κs. search needs) (λ c. search (needs, place-inside)) (λ c. search (needs, put-with, bar-made)))
+unfolding withBars place
+set-bar-spec = tie.close (tie.spec (λ c. search needs) (λ c. search needs) (λ c κs. search needs) (λ c. search (needs, bar-made)))

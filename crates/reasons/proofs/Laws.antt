@@ -1,0 +1,172 @@
+-- The cases of a chain of reasons, of the reasons that go by a test, and of those that go by an event's kind.
+use Prim.Native.Nat.{ℕ, _<_, _≤_}
+use mathlib.Core.Path.{_≡_, refl, sym, ap, fun-ext, _∙_}
+use mathlib.Core.Bool.{Bool, true, false, not}
+use mathlib.Core.List.{List, [], _∷_}
+use native.Mathlib.Decide.{decLt}
+use native.Mathlib.Omega.{arith}
+use borrow.Author.Needs.{needs}
+use borrow.Author.Tests.{le-leb, lt-leb, eq-eqb, ne-eqb, not-true, not-false}
+use lib.Dec.{eqb, ltb, leb}
+use lib.ListN.{length, getD}
+use Rattle.laws.specs.Choice.{if_then_else_}
+use Rattle.laws.specs.Tests.{_and_, any, lowest}
+use Rattle.laws.specs.Tables.{read}
+use Rattle.laws.proofs.Arrays.{read-past}
+use Rattle.laws.proofs.Choice.{if-true, if-false, if-eq, if-ne, if-lt, if-ge, choices}
+use Rattle.track.specs.declared.Line.{Line}
+use Rattle.track.specs.Objects.{noLine, line}
+use Rattle.pairs.specs.Pairs.{placeOf}
+use Rattle.signals.specs.Readings.{reading}
+use Rattle.signals.specs.Signals.{isOpen, unbarred}
+use Rattle.layout.specs.declared.Layout.{Layout}
+use Rattle.layout.specs.Layout.{lineIn, entryOf, conflict}
+use Rattle.reasons.specs.declared.Refusal.{Refusal}
+use Rattle.reasons.specs.Refusal.{refused, none, when, found, firstOf}
+use Rattle.reasons.specs.Leaves.{lacking, notFree, locked, conflicting, blockBarred, blockHeld}
+
+-- ---- the first refusal of a list: v is what the code found of the first
+
+module _ (x y v : Refusal) (xs : List Refusal) (e : v ≡ x) where
+  -- it is refused
+  pub first-here : (v .number ≡ 0 → ⊥) → v ≡ firstOf (x ∷ y ∷ xs)
+  unfolding firstOf
+  first-here h = if-ne (x .number) 0 _ _ v (rw (← e) h) e
+
+  -- it is not
+  pub first-next : (r : Refusal) → v .number ≡ 0 → r ≡ firstOf (y ∷ xs) → r ≡ firstOf (x ∷ y ∷ xs)
+  unfolding firstOf
+  first-next r h q = if-eq (x .number) 0 _ _ r (rw (← e) h) q
+
+-- the last
+pub first-last : (x r : Refusal) → r ≡ x → r ≡ firstOf (x ∷ [])
+unfolding firstOf
+first-last x r q = q
+
+pub ruleset firsts = (needs, first-here, first-next, first-last)
+
+-- ---- two tests, of which the code leaves at the first that fails
+
+module _ (a b : Bool) where
+  -- the first fails
+  pub both-left : a ≡ false → false ≡ a and b
+  unfolding _and_
+  both-left h = rw h
+
+  -- the first holds: the second is asked
+  pub both-asked : (r : Bool) → a ≡ true → r ≡ b → r ≡ a and b
+  unfolding _and_
+  both-asked r h q = rw h q
+
+-- what the code learnt by testing v: that the first holds, that it fails
+module _ (v a : Bool) (e : v ≡ a) where
+  pub test-passes : not v ≡ false → a ≡ true
+  test-passes h = sym e ∙ not-false v h
+
+  pub test-fails : not v ≡ true → a ≡ false
+  test-fails h = sym e ∙ not-true v h
+
+-- what it learnt by holding v against n: that it is n, that it is another
+module _ (v x n : ℕ) (e : v ≡ x) where
+  pub number-same : v ≡ n → eqb x n ≡ true
+  number-same h = eq-eqb x n (sym e ∙ h)
+
+  pub number-other : (v ≡ n → ⊥) → eqb x n ≡ false
+  number-other h = ne-eqb x n (λ z. h (e ∙ z))
+
+  pub number-not-same : (v ≡ n → ⊥) → not (eqb x n) ≡ true
+  number-not-same h = ap not (number-other h)
+
+  pub number-not-other : v ≡ n → not (eqb x n) ≡ false
+  number-not-other h = ap not (number-same h)
+
+pub ruleset boths = (needs, both-left, test-passes, test-fails, number-same, number-other, number-not-same, number-not-other)
+
+-- ---- 7 and 8, by the lowest section that does not read free
+
+module _ (sections : List ℕ) (set g : ℕ) (r : Refusal) (e : g ≡ lowest 64 (lacking sections set)) where
+  -- there is none
+  pub free-all : 64 ≤ g → r ≡ none → r ≡ notFree sections set
+  unfolding notFree
+  free-all h q = if-ge (lowest 64 (lacking sections set)) 64 _ _ r (rw (← e) h) q
+
+  -- it is occupied
+  pub free-occupied : (v : ℕ) → g < 64 → v ≡ reading sections g → v ≡ 2 → r ≡ refused 7 g → r ≡ notFree sections set
+  unfolding notFree
+  free-occupied v l d h q =
+      if-lt (lowest 64 (lacking sections set)) 64 _ _ r (rw (← e) l)
+      (rw (← e) (q ∙ ap (λ n. refused n g) (if-eq (reading sections g) 2 7 8 7 (sym d ∙ h) refl)))
+
+  -- it reads none
+  pub free-none : (v : ℕ) → g < 64 → v ≡ reading sections g → (v ≡ 2 → ⊥) → r ≡ refused 8 g → r ≡ notFree sections set
+  unfolding notFree
+  free-none v l d h q =
+      if-lt (lowest 64 (lacking sections set)) 64 _ _ r (rw (← e) l)
+      (rw (← e) (q ∙ ap (λ n. refused n g) (if-ne (reading sections g) 2 7 8 8 (λ z. h (d ∙ z)) refl)))
+
+-- ---- 5, by the table of conflicts
+
+-- an entry of the table, and what is read past its end
+module _ (m : List ℕ) (r q k x : ℕ) (e : k ≡ placeOf r q) where
+  pub entry-inside : k < 2304 → x ≡ getD m k 0 → x ≡ read 2304 0 m (placeOf r q)
+  unfolding read
+  entry-inside h z = if-lt (placeOf r q) 2304 _ _ x (rw (← e) h) (z ∙ ap (λ n. getD m n 0) e)
+
+  pub entry-outside : 2304 ≤ k → x ≡ 0 → x ≡ read 2304 0 m (placeOf r q)
+  unfolding read
+  entry-outside h z = if-ge (placeOf r q) 2304 _ _ x (rw (← e) h) z
+
+-- the same of a table that ends there
+read-whole : (m : List ℕ) (k : ℕ) → length m ≡ 2304 → Dec (k < 2304) → read 2304 0 m k ≡ getD m k 0
+unfolding read
+read-whole m k e (yes h) = sym (if-lt k 2304 _ _ _ h refl)
+read-whole m k e (no h) = sym (if-ge k 2304 _ _ _ (omega arith) (sym (read-past m k 2304 0 0 e (omega arith) refl)))
+
+-- what is refused by the lowest route that the search finds
+pub conflict-found : (L : Layout) (phases : List ℕ) (r q : ℕ) (x : Refusal) → length (L .conflict) ≡ 2304
+    → q ≡ lowest (L .routes) (λ k. locked phases k and eqb (read 2304 0 (L .conflict) (placeOf r k)) 1)
+    → x ≡ when (ltb q (L .routes)) 5 q → x ≡ conflicting L phases r
+unfolding conflicting found conflict entryOf
+conflict-found L phases r q x e d z =
+    z ∙ ap (λ m. when (ltb m (L .routes)) 5 m)
+    (d ∙ ap (lowest (L .routes)) (fun-ext (λ k. ap (λ n. locked phases k and eqb n 1) (read-whole (L .conflict) (placeOf r k) e (decLt (placeOf r k) 2304)))))
+
+-- ---- 10 and 11, by a table of blocks
+
+-- what is refused by the lowest block of a line that the table has held or barred
+taken-found : (table : List ℕ) (l number g : ℕ) (r : Refusal) (b c : Line) → b ≡ c
+    → g ≡ lowest 64 (λ x. any (b .blocks) (λ i. eqb (getD (b .block) i 0) x and not (isOpen table l i)))
+    → r ≡ when (ltb g 64) number g
+    → r ≡ found number 64 (λ x. any (c .blocks) (λ i. eqb (getD (c .block) i 0) x and not (isOpen table l i)))
+unfolding found
+taken-found table l number g r b c e d q =
+    q ∙ ap (λ m. when (ltb m 64) number m) (d ∙ ap (λ (a : Line). lowest 64 (λ x. any (a .blocks) (λ i. eqb (getD (a .block) i 0) x and not (isOpen table l i)))) e)
+
+module _ (ls : List Line) (table : List ℕ) (l g : ℕ) (r : Refusal) (b : Line) (e : b ≡ line ls l)
+    (d : g ≡ lowest 64 (λ x. any (b .blocks) (λ i. eqb (getD (b .block) i 0) x and not (isOpen table l i)))) where
+  -- by the table of bars
+  pub barred-found : r ≡ when (ltb g 64) 11 g → r ≡ blockBarred ls table l
+  unfolding blockBarred unbarred isOpen
+  barred-found q = taken-found table l 11 g r b (line ls l) e d q
+
+  -- by the table of stages
+  pub held-found : r ≡ when (ltb g 64) 10 g → r ≡ blockHeld ls table l
+  unfolding blockHeld
+  held-found q = taken-found table l 10 g r b (line ls l) e d q
+
+-- ---- a choice by the kind, as the code leaves at the first that it is
+
+module _ {A : Type 0} (m n : ℕ) (x y r : A) where
+  pub if-most : m ≤ n → r ≡ x → r ≡ if leb m n then x else y
+  if-most h q = if-true (leb m n) x y r (le-leb m n h) q
+
+  pub if-more : n < m → r ≡ y → r ≡ if leb m n then x else y
+  if-more h q = if-false (leb m n) x y r (lt-leb m n h) q
+
+pub ruleset kinds = (choices, if-most, if-more)
+
+-- ---- past the last line there is no block
+
+pub no-block : (L : Layout) (l i : ℕ) → length (L .line) ≡ 8 → 8 ≤ l → true ≡ leb (lineIn L l .blocks) i
+unfolding lineIn line noLine
+no-block L l i e h = sym (le-leb 0 i (omega arith)) ∙ ap (λ (b : Line). leb (b .blocks) i) (read-past (L .line) l 8 noLine noLine e h refl)

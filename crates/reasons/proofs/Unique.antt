@@ -1,0 +1,122 @@
+-- No second result meets the contract of a public function. Each `Post` is the contract itself, as the function is proved to meet it.
+use Rattle.laws.proofs.Only.{Determines, only}
+use Rattle.reasons.proofs.none.Reads as none
+use Rattle.reasons.proofs.refuse.Reads as refuse
+use Rattle.reasons.proofs.when_refused.Reads as when-refused
+use Rattle.reasons.proofs.conflicting.Reads as conflicting
+use Rattle.reasons.proofs.by_route.Reads as by-route
+use Rattle.reasons.proofs.by_line.Reads as by-line
+use Rattle.reasons.proofs.exit_locked.Reads as exit-locked
+use Rattle.reasons.proofs.block_barred.Reads as block-barred
+use Rattle.reasons.proofs.block_held.Reads as block-held
+use Rattle.reasons.proofs.line_not_placed.Reads as line-not-placed
+use Rattle.reasons.proofs.route_not_placed.Reads as route-not-placed
+use Rattle.reasons.proofs.route_not_free.Reads as route-not-free
+use Rattle.reasons.proofs.point_not_free.Reads as point-not-free
+use Rattle.reasons.proofs.line_not_free.Reads as line-not-free
+use Rattle.reasons.proofs.already_locked.Reads as already-locked
+use Rattle.reasons.proofs.not_locked.Reads as not-locked
+use Rattle.reasons.proofs.already_cancelling.Reads as already-cancelling
+use Rattle.reasons.proofs.not_secured.Reads as not-secured
+use Rattle.reasons.proofs.already_secured.Reads as already-secured
+use Rattle.reasons.proofs.entered_barred.Reads as entered-barred
+use Rattle.reasons.proofs.entered_held.Reads as entered-held
+use Rattle.reasons.proofs.events.unknown_kind.Reads as unknown-kind
+use Rattle.reasons.proofs.events.no_such_object.Reads as no-such-object
+use Rattle.reasons.proofs.events.wrong_second.Reads as wrong-second
+
+-- no refusal
+pub none-determined : Determines none.Post
+none-determined κs a r q s = only
+
+-- a refusal by its number and detail
+pub refuse-determined : Determines refuse.Post
+refuse-determined κs a r q s = only
+
+-- a refusal where a test holds
+pub when-refused-determined : Determines when-refused.Post
+when-refused-determined κs a r q s = only
+
+-- 5
+pub conflicting-determined : Determines conflicting.Post
+conflicting-determined κs a r q s = only
+
+-- 15
+pub by-route-determined : Determines by-route.Post
+by-route-determined κs a r q s = only
+
+-- 16
+pub by-line-determined : Determines by-line.Post
+by-line-determined κs a r q s = only
+
+-- 17
+pub exit-locked-determined : Determines exit-locked.Post
+exit-locked-determined κs a r q s = only
+
+-- 11, of a line's blocks
+pub block-barred-determined : Determines block-barred.Post
+block-barred-determined κs a r q s = only
+
+-- 10, of a line's blocks
+pub block-held-determined : Determines block-held.Post
+block-held-determined κs a r q s = only
+
+-- 6, of a line's points
+pub line-not-placed-determined : Determines line-not-placed.Post
+line-not-placed-determined κs a r q s = only
+
+-- 6, of a route's points
+pub route-not-placed-determined : Determines route-not-placed.Post
+route-not-placed-determined κs a r q s = only
+
+-- 7 and 8, of a route's path and overlap
+pub route-not-free-determined : Determines route-not-free.Post
+route-not-free-determined κs a r q s = only
+
+-- 7 and 8, of a point's section
+pub point-not-free-determined : Determines point-not-free.Post
+point-not-free-determined κs a r q s = only
+
+-- 7 and 8, of a line's blocks
+pub line-not-free-determined : Determines line-not-free.Post
+line-not-free-determined κs a r q s = only
+
+-- 4
+pub already-locked-determined : Determines already-locked.Post
+already-locked-determined κs a r q s = only
+
+-- 13
+pub not-locked-determined : Determines not-locked.Post
+not-locked-determined κs a r q s = only
+
+-- 14
+pub already-cancelling-determined : Determines already-cancelling.Post
+already-cancelling-determined κs a r q s = only
+
+-- 9
+pub not-secured-determined : Determines not-secured.Post
+not-secured-determined κs a r q s = only
+
+-- 12
+pub already-secured-determined : Determines already-secured.Post
+already-secured-determined κs a r q s = only
+
+-- 11, of the block entered
+pub entered-barred-determined : Determines entered-barred.Post
+entered-barred-determined κs a r q s = only
+
+-- 10, of the block entered
+pub entered-held-determined : Determines entered-held.Post
+entered-held-determined κs a r q s = only
+
+-- 1
+pub unknown-kind-determined : Determines unknown-kind.Post
+unknown-kind-determined κs a r q s = only
+
+-- 2
+pub no-such-object-determined : Determines no-such-object.Post
+no-such-object-determined κs a r q s = only
+
+-- 3
+pub wrong-second-determined : Determines wrong-second.Post
+wrong-second-determined κs a r q s = only

@@ -1,0 +1,3 @@
+pub mod Refusal
+pub mod Leaves
+pub mod Kinds

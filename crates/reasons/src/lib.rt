@@ -1,0 +1,265 @@
+// What is refused, one reason at a time, over a layout and the tables of a state that are lent (section 3). The lowest number to which a
+// reason applies is the detail.
+pub mod events;
+mod searches;
+
+use laws::at8;
+use layout::Layout;
+use searches::direction_at;
+use searches::is_locked;
+use searches::phase_at;
+use searches::section_of;
+use signals::is_open;
+use signals::is_unbarred;
+use signals::nearest_block;
+use signals::section_reads;
+use track::Line;
+use track::Route;
+use track::line_at;
+ghost use mathlib.Core.Path.{_≡_};
+ghost use mathlib.Core.Bool.{not};
+ghost use Prim.Native.Nat.{_+_};
+ghost use lib.Dec.{eqb, ltb};
+ghost use lib.ListN.{getD};
+ghost use Rattle.laws.specs.Tables.{read};
+ghost use Rattle.track.specs.Objects.{line};
+ghost use Rattle.sets.specs.Sets.{joined, union, setOf};
+ghost use Rattle.signals.specs.Signals.{nearest, isOpen, unbarred};
+ghost use Rattle.reasons.specs.Refusal.{refused, none, when};
+ghost use Rattle.reasons.specs.Leaves.{locked, notFree, notPlaced, conflicting, byRoute, byLine, exitLocked, blockBarred, blockHeld};
+
+// A refusal: its number and its detail; number 0 where there is none.
+pub struct Refusal {
+    pub number: u8,
+    pub detail: u32,
+}
+
+// No refusal.
+pub fn none() -> Refusal
+    ensures { λ r. ⌜ r ≡ none ⌝ }
+{
+    Refusal {
+        number: 0,
+        detail: 0,
+    }
+}
+
+// A refusal by its number and detail.
+pub fn refuse(number: u8, detail: u32) -> Refusal
+    ensures { λ r. ⌜ r ≡ refused number detail ⌝ }
+{
+    Refusal { number, detail }
+}
+
+// Refused where the test holds.
+pub fn when_refused(test: bool, number: u8, detail: u32) -> Refusal
+    ensures { λ r. ⌜ r ≡ when test number detail ⌝ }
+{
+    if test {
+        return refuse(number, detail);
+    }
+    none()
+}
+
+// Refused where a search of n found one.
+fn found_at(number: u8, n: u8, at: u8) -> Refusal
+    ensures { λ r. ⌜ r ≡ when (ltb at n) number at ⌝ }
+{
+    when_refused(at < n, number, at as u32)
+}
+
+// 7, 8: a section of the set is occupied, reads none.
+fn not_free(sections: &[u8; 64], set: u64) -> Refusal
+    ensures { λ r. ⌜ r ≡ notFree (now (sections .entry)) set ⌝ }
+{
+    let g = searches::lowest_lacking(sections, set);
+    if 64 <= g {
+        return none();
+    }
+    if section_reads(sections, g) == 2 {
+        return refuse(7, g as u32);
+    }
+    refuse(8, g as u32)
+}
+
+// 6: one of the first n points is not read in position.
+fn not_placed(points: &[u8; 32], n: u8, ps: [u8; 8], ws: [u8; 8]) -> Refusal
+    ensures { λ r. ⌜ r ≡ notPlaced (now (points .entry)) n ps ws ⌝ }
+{
+    let p = searches::lowest_misplaced(points, n, ps, ws);
+    found_at(6, 32, p)
+}
+
+// 5: a route that conflicts with r is locked.
+pub fn conflicting(plan: Layout, phases: &[u8; 48], r: u8) -> Refusal
+    ensures { λ x. ⌜ x ≡ conflicting plan (now (phases .entry)) r ⌝ }
+{
+    let n = plan.routes;
+    let q = searches::lowest_conflicting(&plan.conflict, phases, n, r);
+    found_at(5, n, q)
+}
+
+// 15: a locked route lists the point.
+pub fn by_route(plan: Layout, phases: &[u8; 48], p: u8) -> Refusal
+    ensures { λ r. ⌜ r ≡ byRoute plan (now (phases .entry)) p ⌝ }
+{
+    let rs = plan.route;
+    let n = plan.routes;
+    let route = searches::lowest_route_locking(rs, phases, n, p);
+    found_at(15, n, route)
+}
+
+// 16: a secured line lists the point.
+pub fn by_line(plan: Layout, directions: &[u8; 8], p: u8) -> Refusal
+    ensures { λ r. ⌜ r ≡ byLine plan (now (directions .entry)) p ⌝ }
+{
+    let ls = plan.line;
+    let n = plan.lines;
+    let line = searches::lowest_line_locking(ls, directions, n, p);
+    found_at(16, n, line)
+}
+
+// 17: an exit route of line l is locked.
+pub fn exit_locked(plan: Layout, phases: &[u8; 48], l: u8) -> Refusal
+    ensures { λ r. ⌜ r ≡ exitLocked plan (now (phases .entry)) l ⌝ }
+{
+    let rs = plan.route;
+    let n = plan.routes;
+    let route = searches::lowest_locked_exit(rs, phases, n, l);
+    found_at(17, n, route)
+}
+
+// 11: a block of line l is barred.
+pub fn block_barred(ls: [Line; 8], bars: &[u8; 64], l: u8) -> Refusal
+    ensures { λ r. ⌜ r ≡ blockBarred ls (now (bars .entry)) l ⌝ }
+{
+    let b = line_at(ls, l);
+    let block = b.block;
+    let g = searches::lowest_taken(bars, b.blocks, block, l);
+    found_at(11, 64, g)
+}
+
+// 10: a block of line l is held.
+pub fn block_held(ls: [Line; 8], stages: &[u8; 64], l: u8) -> Refusal
+    ensures { λ r. ⌜ r ≡ blockHeld ls (now (stages .entry)) l ⌝ }
+{
+    let b = line_at(ls, l);
+    let block = b.block;
+    let g = searches::lowest_taken(stages, b.blocks, block, l);
+    found_at(10, 64, g)
+}
+
+// 6: a point of line l is not read in position.
+pub fn line_not_placed(ls: [Line; 8], points: &[u8; 32], l: u8) -> Refusal
+    ensures { λ r. ⌜ r ≡ notPlaced (now (points .entry)) (line ls l .points) (line ls l .point) (line ls l .position) ⌝ }
+{
+    let b = line_at(ls, l);
+    let ps = b.point;
+    let ws = b.position;
+    not_placed(points, b.points, ps, ws)
+}
+
+// 6: a point of a route is not read in position.
+pub fn route_not_placed(points: &[u8; 32], a: Route) -> Refusal
+    ensures { λ r. ⌜ r ≡ notPlaced (now (points .entry)) (a .points) (a .point) (a .position) ⌝ }
+{
+    let ps = a.point;
+    let ws = a.position;
+    not_placed(points, a.points, ps, ws)
+}
+
+// 7, 8: a section of a route's path or overlap does not read free.
+pub fn route_not_free(sections: &[u8; 64], a: Route) -> Refusal
+    ensures { λ r. ⌜ r ≡ notFree (now (sections .entry)) (union (setOf (a .paths) (a .path)) (setOf (a .overlaps) (a .overlap))) ⌝ }
+{
+    let path = a.path;
+    let overlap = a.overlap;
+    let way = sets::of_list(path, a.paths);
+    let beyond = sets::of_list(overlap, a.overlaps);
+    let asked = sets::merged(way, beyond);
+    not_free(sections, asked)
+}
+
+// 7, 8: the section of point p does not read free.
+pub fn point_not_free(own: [u8; 32], sections: &[u8; 64], p: u8) -> Refusal
+    ensures { λ r. ⌜ r ≡ notFree (now (sections .entry)) (joined 0 (read 32 0 own p)) ⌝ }
+{
+    let section = section_of(own, p);
+    let asked = sets::with(0, section);
+    not_free(sections, asked)
+}
+
+// 7, 8: a block of line l does not read free.
+pub fn line_not_free(ls: [Line; 8], sections: &[u8; 64], l: u8) -> Refusal
+    ensures { λ r. ⌜ r ≡ notFree (now (sections .entry)) (setOf (line ls l .blocks) (line ls l .block)) ⌝ }
+{
+    let b = line_at(ls, l);
+    let block = b.block;
+    let asked = sets::of_list(block, b.blocks);
+    not_free(sections, asked)
+}
+
+// 4: the route is already locked.
+pub fn already_locked(phases: &[u8; 48], r: u8) -> Refusal
+    ensures { λ x. ⌜ x ≡ when (locked (now (phases .entry)) r) 4 r ⌝ }
+{
+    let taken = is_locked(phases, r);
+    when_refused(taken, 4, r as u32)
+}
+
+// 13: the route is not locked.
+pub fn not_locked(phases: &[u8; 48], r: u8) -> Refusal
+    ensures { λ x. ⌜ x ≡ when (not (locked (now (phases .entry)) r)) 13 r ⌝ }
+{
+    let taken = is_locked(phases, r);
+    when_refused(!taken, 13, r as u32)
+}
+
+// 14: the route is cancelling already.
+pub fn already_cancelling(phases: &[u8; 48], r: u8) -> Refusal
+    ensures { λ x. ⌜ x ≡ when (eqb (read 48 0 (now (phases .entry)) r) 3) 14 r ⌝ }
+{
+    let phase = phase_at(phases, r);
+    when_refused(phase == 3, 14, r as u32)
+}
+
+// 9: the line is not secured that way.
+pub fn not_secured(directions: &[u8; 8], l: u8, end: u8) -> Refusal
+    ensures { λ r. ⌜ r ≡ when (not (eqb (read 8 0 (now (directions .entry)) l) (end + 1))) 9 l ⌝ }
+{
+    let direction = direction_at(directions, l) as u32;
+    let asked = (end as u32) + 1;
+    when_refused(direction != asked, 9, l as u32)
+}
+
+// 12: the line is already secured; the detail is its direction.
+pub fn already_secured(directions: &[u8; 8], l: u8) -> Refusal
+    ensures { λ r. ⌜ r ≡ when (not (eqb (read 8 0 (now (directions .entry)) l) 0)) 12 (read 8 0 (now (directions .entry)) l) ⌝ }
+{
+    let direction = direction_at(directions, l);
+    when_refused(direction != 0, 12, direction as u32)
+}
+
+// 11: the block that an exit route enters is barred.
+pub fn entered_barred(ls: [Line; 8], bars: &[u8; 64], a: Route) -> Refusal
+    ensures { λ r. ⌜ r ≡ when (not (unbarred (now (bars .entry)) (a .line) (nearest (line ls (a .line)) (a .end)))) 11 (getD (line ls (a .line) .block) (nearest (line ls (a .line)) (a .end)) 0) ⌝ }
+{
+    let b = line_at(ls, a.line);
+    let block = b.block;
+    let i = nearest_block(b, a.end);
+    let section = at8(block, i);
+    let free = is_unbarred(bars, a.line, i);
+    when_refused(!free, 11, section as u32)
+}
+
+// 10: the block that an exit route enters is held.
+pub fn entered_held(ls: [Line; 8], stages: &[u8; 64], a: Route) -> Refusal
+    ensures { λ r. ⌜ r ≡ when (not (isOpen (now (stages .entry)) (a .line) (nearest (line ls (a .line)) (a .end)))) 10 (getD (line ls (a .line) .block) (nearest (line ls (a .line)) (a .end)) 0) ⌝ }
+{
+    let b = line_at(ls, a.line);
+    let block = b.block;
+    let i = nearest_block(b, a.end);
+    let section = at8(block, i);
+    let open = is_open(stages, a.line, i);
+    when_refused(!open, 10, section as u32)
+}

@@ -1,7 +1,0 @@
--- The test itself, on the phase read.
-use borrow.Author.Needs.{needs}
-use Rattle.refusals.proofs.reasons.already_cancelling.Statement.{statement}
-use Rattle.refusals.proofs.reasons.already_cancelling.Tie as tie
-
-pub already-cancelling-spec : {M : Type 1} → statement M
-already-cancelling-spec = tie.close (tie.spec (λ c κs. search needs) (λ c κs. search needs) (λ c. cc))

@@ -1,8 +1,0 @@
--- What the search finds.
-use borrow.Author.Needs.{needs}
-use Rattle.refusals.proofs.Laws.{barred-found}
-use Rattle.refusals.proofs.reasons.block_barred.Statement.{statement}
-use Rattle.refusals.proofs.reasons.block_barred.Tie as tie
-
-pub block-barred-spec : {M : Type 1} → statement M
-block-barred-spec = tie.close (tie.spec (λ c κs. search needs) (λ c κs. search needs) (λ c κs. search needs) (λ c. search (needs, barred-found)))

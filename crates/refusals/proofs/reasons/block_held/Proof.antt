@@ -1,8 +1,0 @@
--- What the search finds.
-use borrow.Author.Needs.{needs}
-use Rattle.refusals.proofs.Laws.{held-found}
-use Rattle.refusals.proofs.reasons.block_held.Statement.{statement}
-use Rattle.refusals.proofs.reasons.block_held.Tie as tie
-
-pub block-held-spec : {M : Type 1} → statement M
-block-held-spec = tie.close (tie.spec (λ c κs. search needs) (λ c κs. search needs) (λ c κs. search needs) (λ c. search (needs, held-found)))

@@ -1,7 +1,0 @@
--- Its own list.
-use borrow.Author.Needs.{needs}
-use Rattle.refusals.proofs.reasons.line_not_placed.Statement.{statement}
-use Rattle.refusals.proofs.reasons.line_not_placed.Tie as tie
-
-pub line-not-placed-spec : {M : Type 1} → statement M
-line-not-placed-spec = tie.close (tie.spec (λ c κs. search needs) (λ c κs. search needs) (λ c. cc))

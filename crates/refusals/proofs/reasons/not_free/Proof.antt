@@ -1,8 +1,0 @@
--- By the lowest section that does not read free.
-use borrow.Author.Needs.{needs}
-use Rattle.refusals.proofs.Laws.{free-all, free-occupied, free-none}
-use Rattle.refusals.proofs.reasons.not_free.Statement.{statement}
-use Rattle.refusals.proofs.reasons.not_free.Tie as tie
-
-pub not-free-spec : {M : Type 1} → statement M
-not-free-spec = tie.close (tie.spec (λ c κs. search (needs, free-all, free-occupied, free-none)) (λ c κs. search (needs, free-all, free-occupied, free-none)) (λ c. search (needs, free-all, free-occupied, free-none)) (λ c κs. search (needs, free-all, free-occupied, free-none)) (λ c. search (needs, free-all, free-occupied, free-none)) (λ c κs. search (needs, free-all, free-occupied, free-none)) (λ c. search (needs, free-all, free-occupied, free-none)) (λ c. search (needs, free-all, free-occupied, free-none)) (λ c κs. search (needs, free-all, free-occupied, free-none)) (λ c. search (needs, free-all, free-occupied, free-none)))

@@ -1,7 +1,0 @@
--- The test itself.
-use borrow.Author.Needs.{needs}
-use Rattle.refusals.proofs.reasons.not_locked.Statement.{statement}
-use Rattle.refusals.proofs.reasons.not_locked.Tie as tie
-
-pub not-locked-spec : {M : Type 1} → statement M
-not-locked-spec = tie.close (tie.spec (λ c κs. search needs) (λ c κs. search needs) (λ c. cc))

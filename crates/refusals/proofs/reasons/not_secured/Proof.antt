@@ -1,7 +1,0 @@
--- The test itself, on the direction read.
-use borrow.Author.Needs.{needs}
-use Rattle.refusals.proofs.reasons.not_secured.Statement.{statement}
-use Rattle.refusals.proofs.reasons.not_secured.Tie as tie
-
-pub not-secured-spec : {M : Type 1} → statement M
-not-secured-spec = tie.close (tie.spec (λ c κs. search needs) (λ c. search needs) (λ c. search needs) (λ c κs. search needs) (λ c. cc))

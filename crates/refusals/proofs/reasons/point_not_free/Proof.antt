@@ -1,7 +1,0 @@
--- Of the set of that one.
-use borrow.Author.Needs.{needs}
-use Rattle.refusals.proofs.reasons.point_not_free.Statement.{statement}
-use Rattle.refusals.proofs.reasons.point_not_free.Tie as tie
-
-pub point-not-free-spec : {M : Type 1} → statement M
-point-not-free-spec = tie.close (tie.spec (λ c κs. search needs) (λ c κs. search needs) (λ c κs. search needs) (λ c. cc))

@@ -1,7 +1,0 @@
--- Of the set of both lists.
-use borrow.Author.Needs.{needs}
-use Rattle.refusals.proofs.reasons.route_not_free.Statement.{statement}
-use Rattle.refusals.proofs.reasons.route_not_free.Tie as tie
-
-pub route-not-free-spec : {M : Type 1} → statement M
-route-not-free-spec = tie.close (tie.spec (λ c κs. search needs) (λ c κs. search needs) (λ c κs. search needs) (λ c κs. search needs) (λ c. cc))

@@ -1,9 +1,0 @@
--- The record itself.
-use mathlib.Core.Path.{refl}
-use Rattle.refusals.specs.Refusal.{refused}
-use Rattle.refusals.proofs.refuse.Statement.{statement}
-use Rattle.refusals.proofs.refuse.Tie as tie
-
-pub refuse-spec : {M : Type 1} → statement M
-unfolding refused
-refuse-spec = tie.close (tie.spec (λ c. refl))

@@ -1,0 +1,167 @@
+-- The test of a state means that each of its codes is in range; what keeps a table in its range; the cold start is in range.
+use Prim.Native.Nat.{ℕ, _<_}
+use mathlib.Core.Path.{_≡_}
+use mathlib.Core.Bool.{true}
+use mathlib.Core.List.{List}
+use mathlib.Core.Logic.{_↔_, Iff·trans}
+use native.Mathlib.Omega.{arith}
+use native.Mathlib.Decide.{decLt}
+use borrow.Author.Tests.{ltb-true}
+use lib.Dec.{eqb, ltb}
+use lib.ListN.{getD, replicate, getD-replicate}
+use Rattle.laws.specs.Tables.{each, put, read}
+use Rattle.laws.proofs.Choice.{if-both}
+use Rattle.laws.proofs.Each.{each-at, each-past}
+use Rattle.layout_facts.proofs.Means.{lastly, _also_, _&_, every-means, all-means}
+use Rattle.layout_facts.proofs.Lists.{between-means}
+use Rattle.interlocking.specs.declared.State.{State}
+use Rattle.interlocking.specs.State.{cold, codes, routesInRange, inRange, withSections, withPoints, withRoutes, withLines, withBars}
+use Rattle.step_facts.specs.Range.{In, Within, InRange}
+
+-- ---- the test
+
+-- each entry of a table
+codes-means : (n low high : ℕ) (xs : List ℕ) → codes n low high xs ≡ true ↔ Within n low high xs
+unfolding codes
+codes-means n low high xs = Iff·trans (all-means (λ i l. between-means _ _ _)) (λ f. record { entry = f }, λ w. w .entry)
+
+-- each table of a state
+pub inRange-means : (s : State) → inRange s ≡ true ↔ InRange s
+unfolding inRange routesInRange
+inRange-means s =
+    Iff·trans (every-means (
+    codes-means _ _ _ _ also codes-means _ _ _ _ also codes-means _ _ _ _ also lastly (every-means (
+    codes-means _ _ _ _ also codes-means _ _ _ _ also codes-means _ _ _ _ also codes-means _ _ _ _ also codes-means _ _ _ _
+    also lastly (codes-means _ _ _ _))))) (
+      λ (section, (point, (order, (phase, (step, (second, (direction, (stage, bar)))))))). record {
+        section = section;
+        point = point;
+        order = order;
+        phase = phase;
+        step = step;
+        second = second;
+        direction = direction;
+        stage = stage;
+        bar = bar;
+      },
+      λ r. r .section & r .point & r .order & r .phase & r .step & r .second & r .direction & r .stage & r .bar,
+    )
+
+-- ---- tables
+
+module _ {n low high : ℕ} {xs : List ℕ} (w : Within n low high xs) where
+  -- a table made anew by a rule that keeps the range
+  pub each-within : (m : ℕ) (f : ℕ → ℕ → ℕ) → ((i was : ℕ) → In low high was → In low high (f i was)) → Within n low high (each m f xs)
+  each-within m f h = record { entry = λ i b. go i b (decLt i m) }
+    where
+      go : (i : ℕ) → i < n → Dec (i < m) → In low high (getD (each m f xs) i 0)
+      go i b (yes l) = rw (each-at m f xs i l) (h i (getD xs i 0) (w .entry i b))
+      go i b (no l) = rw (each-past m f xs i (omega arith)) (w .entry i b)
+
+  -- a code of the range put at a place
+  pub put-within : (m a v : ℕ) → In low high v → Within n low high (put m xs a v)
+  unfolding put
+  put-within m a v h = each-within m _ (λ i was p. if-both (In low high) (eqb i a) (λ t. h) (λ t. p))
+
+  -- what is read of a table, where what is read past its end is a code of the range
+  pub read-within : (d i : ℕ) → In low high d → In low high (read n d xs i)
+  unfolding read
+  read-within d i h = if-both (In low high) (ltb i n) (λ t. w .entry i (ltb-true i n t)) (λ t. h)
+
+-- a table of one code
+alike-within : (n low high v : ℕ) → In low high v → Within n low high (replicate n v)
+alike-within n low high v h = record { entry = λ i b. rw (getD-replicate n i v 0 b) h }
+
+-- ---- states
+
+-- everything reads none, nothing is ordered, locked, secured or barred, and each block is held in stage 0
+pub cold-ranges : InRange cold
+unfolding cold
+cold-ranges = record {
+  section = alike-within 64 1 3 3 (omega arith);
+  point = alike-within 32 1 3 3 (omega arith);
+  order = alike-within 32 0 2 0 (omega arith);
+  phase = alike-within 48 0 3 0 (omega arith);
+  step = alike-within 48 0 3 0 (omega arith);
+  second = alike-within 48 0 89 0 (omega arith);
+  direction = alike-within 8 0 2 0 (omega arith);
+  stage = alike-within 64 0 3 1 (omega arith);
+  bar = alike-within 64 0 1 0 (omega arith);
+}
+
+-- the cold start is in range
+pub cold-in-range : inRange cold ≡ true
+cold-in-range = inRange-means cold .1 cold-ranges
+
+-- a state with some of its tables made anew
+module _ {s : State} (R : InRange s) where
+  pub sections-range : {section stage : List ℕ} → Within 64 1 3 section → Within 64 0 3 stage → InRange (withSections s section stage)
+  unfolding withSections
+  sections-range g k = record {
+    section = g;
+    point = R .point;
+    order = R .order;
+    phase = R .phase;
+    step = R .step;
+    second = R .second;
+    direction = R .direction;
+    stage = k;
+    bar = R .bar;
+  }
+
+  pub points-range : {point order : List ℕ} → Within 32 1 3 point → Within 32 0 2 order → InRange (withPoints s point order)
+  unfolding withPoints
+  points-range p o = record {
+    section = R .section;
+    point = p;
+    order = o;
+    phase = R .phase;
+    step = R .step;
+    second = R .second;
+    direction = R .direction;
+    stage = R .stage;
+    bar = R .bar;
+  }
+
+  pub routes-range : {phase step second : List ℕ} → Within 48 0 3 phase → Within 48 0 3 step → Within 48 0 89 second
+      → InRange (withRoutes s phase step second)
+  unfolding withRoutes
+  routes-range p t c = record {
+    section = R .section;
+    point = R .point;
+    order = R .order;
+    phase = p;
+    step = t;
+    second = c;
+    direction = R .direction;
+    stage = R .stage;
+    bar = R .bar;
+  }
+
+  pub lines-range : {direction stage : List ℕ} → Within 8 0 2 direction → Within 64 0 3 stage → InRange (withLines s direction stage)
+  unfolding withLines
+  lines-range d k = record {
+    section = R .section;
+    point = R .point;
+    order = R .order;
+    phase = R .phase;
+    step = R .step;
+    second = R .second;
+    direction = d;
+    stage = k;
+    bar = R .bar;
+  }
+
+  pub bars-range : {bar : List ℕ} → Within 64 0 1 bar → InRange (withBars s bar)
+  unfolding withBars
+  bars-range b = record {
+    section = R .section;
+    point = R .point;
+    order = R .order;
+    phase = R .phase;
+    step = R .step;
+    second = R .second;
+    direction = R .direction;
+    stage = R .stage;
+    bar = b;
+  }
