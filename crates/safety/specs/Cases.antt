@@ -8,13 +8,9 @@ use Rattle.layout.specs.declared.Layout.{Layout}
 use Rattle.interlocking.specs.declared.State.{State}
 use Rattle.interlocking.specs.State.{cold}
 use Rattle.interlocking.specs.Step.{step}
+use Rattle.step_facts.specs.Run.{Event}
 
--- an event: kind, first, second
-pub record Event : Type 0 where
-  pub kind : ℕ
-  pub first : ℕ
-  pub second : ℕ
-
+-- an event by its numbers
 abbrev pub ev : ℕ → ℕ → ℕ → Event
 ev k a b = record { kind = k; first = a; second = b }
 

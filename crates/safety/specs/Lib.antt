@@ -1,1 +1,5 @@
 pub mod Cases
+pub mod Shown
+pub mod History
+pub mod Demand3
+pub mod WayOut

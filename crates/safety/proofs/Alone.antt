@@ -1,0 +1,121 @@
+-- What the invariant says of signals at proceed: their line is secured, their block open, and no two lead into one block.
+use Prim.Native.Nat.{ℕ, _+_, _-_, _<_, _≤_}
+use mathlib.Core.Path.{_≡_, sym, ap, ap₂, _∙_}
+use mathlib.Core.Logic.{_≢_}
+use mathlib.Core.Bool.{true}
+use native.Mathlib.Decide.{ℕ-discrete}
+use native.Mathlib.Omega.{arith}
+use borrow.Author.Tests.{eqb-true, eq-eqb, ne-eqb, ltb-true}
+use lib.Dec.{eqb, ltb}
+use Rattle.laws.specs.Tests.{_and_}
+use Rattle.laws.proofs.Tests.{and-left, and-right, implied, every-at, any-some}
+use Rattle.signals.specs.Signals.{nearest, isOpen, enterable, letsOut, clear, routeProceeds, mainProceeds}
+use Rattle.layout.specs.declared.Layout.{Layout}
+use Rattle.layout.specs.Layout.{lineIn, routeIn}
+use Rattle.layout_facts.specs.Plain.{block, nearestBlock, Sound, sameEntry}
+use Rattle.layout_facts.proofs.Uses.{same-exit}
+use Rattle.interlocking.specs.declared.State.{State}
+use Rattle.safety.specs.Shown.{Signal, main, into, Panel, stands, routeShows, panel}
+use Rattle.safety.specs.History.{History, shown}
+use Rattle.safety.specs.Demand3.{Proceeds, Enters}
+use Rattle.safety.proofs.Entries.{phase, direction, stage, chosen, passed-over}
+use Rattle.safety.proofs.Signals.{main-shown, into-shown}
+use Rattle.safety.proofs.Invariant.{Inv}
+
+-- no exit signal and block signal lead into one block the same way: a block signal stands behind another block
+not-both-kinds : (L : Layout) (l w i e : ℕ) → 1 ≤ lineIn L l .blocks → nearestBlock L l e ≡ i → e + 1 ≡ w → stands L l i w ≡ true → ⊥
+unfolding stands nearestBlock
+not-both-kinds L l w i e some at way t = go (ℕ-discrete e 0)
+  where
+    go : Dec (e ≡ 0) → ⊥
+    go (yes q) =
+        let first : 0 ≡ i = sym (chosen _ _ _ (eq-eqb e 0 q)) ∙ at in
+        let behind : ltb 0 i ≡ true = sym (chosen _ _ _ (eq-eqb w 1 (omega arith))) ∙ t in
+        let z = ltb-true 0 i behind in
+        omega arith
+    go (no q) =
+        let last : lineIn L l .blocks - 1 ≡ i = sym (passed-over _ _ _ (ne-eqb e 0 q)) ∙ at in
+        let behind : eqb w 2 and ltb (i + 1) (lineIn L l .blocks) ≡ true = sym (passed-over _ _ _ (ne-eqb w 1 (omega arith))) ∙ t in
+        let z = ltb-true (i + 1) (lineIn L l .blocks) (and-right _ _ behind) in
+        omega arith
+
+module _ (L : Layout) (S : Sound L) (s : State) (h : History) (I : Inv L s h) where
+  -- a route that does not show idle is locked
+  pub shown-locked : (r : ℕ) → shown L h .route r ≢ 0 → phase s r ≢ 0
+  unfolding panel routeShows
+  shown-locked r d z = d (ap (λ (p : Panel). p .route r) (I .seen) ∙ chosen _ _ _ (eq-eqb _ 0 z))
+
+  -- a main signal shows proceed for a route in phase 1 that starts at it
+  pub main-for : (x : ℕ) → Proceeds (shown L h) (main x) → (r : ℕ) × (r < L .routes) × (phase s r ≡ 1) × (routeIn L r .entry ≡ x)
+  unfolding panel mainProceeds routeProceeds routeIn
+  main-for x p =
+      let (r, there, t) = any-some _ _ (main-shown L s x (rw (I .seen) at p)) in
+      (r, there, eqb-true _ 1 (and-left _ _ t), eqb-true _ x (and-right _ _ t))
+
+  -- rule 6: two locked routes that start at one signal are one
+  one-entry : (r q : ℕ) → r < L .routes → q < L .routes → routeIn L r .entry ≡ routeIn L q .entry → phase s r ≢ 0 → phase s q ≢ 0 → r ≡ q
+  one-entry r q b c same x y = go (ℕ-discrete r q)
+    where
+      go : Dec (r ≡ q) → r ≡ q
+      go (yes z) = z
+      go (no z) = absurd (I .apart r q b c (S .rule6 .listed r q b c z (sameEntry same)) x y)
+
+  -- rules 5 and 6: two locked exit routes by one end of a line are one
+  one-exit : (r q : ℕ) → r < L .routes → q < L .routes → routeIn L r .kind ≡ 2 → routeIn L q .kind ≡ 2 → routeIn L r .line ≡ routeIn L q .line
+      → routeIn L r .end ≡ routeIn L q .end → phase s r ≢ 0 → phase s q ≢ 0 → r ≡ q
+  one-exit r q b c k j line end x y = go (ℕ-discrete r q)
+    where
+      go : Dec (r ≡ q) → r ≡ q
+      go (yes z) = z
+      go (no z) = absurd (I .apart r q b c (same-exit L S r q b c z k j line end) x y)
+
+  -- a signal that shows proceed into a block: the line is secured its way, and the block is open
+  pub enters-open : (x : Signal) (l i w : ℕ) → Enters L (shown L h) x l i w → (direction s l ≡ w) × (stage s l i ≡ 0)
+  unfolding panel clear letsOut enterable isOpen nearest nearestBlock lineIn
+  enters-open (main x) l i w E =
+      let (r, out) = E .leads in
+      let (q, there, one, starts) = main-for x (E .proceeds) in
+      let locked = shown-locked r (out .locked) in
+      let same = one-entry q r there (out .there) (starts ∙ sym (out .starts)) (omega arith) locked in
+      let c = I .lights r (out .there) (rw same at one) in
+      let let-in = implied _ _ (every-at _ c 3) (eq-eqb _ 2 (out .isExit)) in (
+        ap (direction s) (sym (out .ofLine)) ∙ I .exits r (out .there) (out .isExit) locked ∙ out .way,
+        ap₂ (stage s) (sym (out .ofLine)) (sym (out .enters)) ∙ eqb-true _ 0 (every-at _ let-in 0),
+      )
+  enters-open (into k j v) l i w E =
+      let (a, b, c) = into-shown L s k j v (rw (I .seen) at (E .proceeds)) in
+      let q = E .leads in
+      (ap (direction s) (sym (q .0)) ∙ b ∙ q .2, ap₂ (stage s) (sym (q .0)) (sym (q .1)) ∙ eqb-true _ 0 (every-at _ c 0))
+
+  -- never one of each kind
+  either : (x k j v l i w : ℕ) → Enters L (shown L h) (main x) l i w → Enters L (shown L h) (into k j v) l i w → ⊥
+  unfolding panel
+  either x k j v l i w E F =
+      let (r, out) = E .leads in
+      let q = F .leads in
+      not-both-kinds L k v j (routeIn L r .end) (rw (q .0) (S .ranges .lines l (E .ofLine) .blockCount .0))
+      (ap (λ n. nearestBlock L n (routeIn L r .end)) (q .0 ∙ sym (out .ofLine)) ∙ out .enters ∙ sym (q .1)) (out .way ∙ sym (q .2))
+      (into-shown L s k j v (rw (I .seen) at (F .proceeds)) .0)
+
+  -- at most one signal shows proceed into a block in one direction
+  one-signal : (x y : Signal) (l i w : ℕ) → Enters L (shown L h) x l i w → Enters L (shown L h) y l i w → y ≡ x
+  one-signal (main x) (main y) l i w E F =
+      let (r, out) = E .leads in
+      let (q, off) = F .leads in
+      let ways : routeIn L q .end + 1 ≡ routeIn L r .end + 1 = off .way ∙ sym (out .way) in
+      let same = one-exit q r (off .there) (out .there) (off .isExit) (out .isExit) (off .ofLine ∙ sym (out .ofLine)) (omega arith)
+      (shown-locked q (off .locked)) (shown-locked r (out .locked)) in
+      ap main (sym (off .starts) ∙ ap (λ k. routeIn L k .entry) same ∙ out .starts)
+  one-signal (main x) (into k j v) l i w E F = absurd (either x k j v l i w E F)
+  one-signal (into k j v) (main y) l i w E F = absurd (either y k j v l i w F E)
+  one-signal (into k j v) (into m n u) l i w E F =
+      let p = E .leads in
+      let q = F .leads in
+      rw (p .0, p .1, p .2, q .0, q .1, q .2)
+
+  -- rule 1: nor into its section as a block of any line
+  pub alone : (x y : Signal) (l i w k j v : ℕ) → Enters L (shown L h) x l i w → Enters L (shown L h) y k j v → block L k j ≡ block L l i → y ≡ x
+  alone x y l i w k j v E F same =
+      let (line, number) = S .rule1 .once k j l i (F .ofLine) (F .ofBlock) (E .ofLine) (E .ofBlock) same in
+      let way : v ≡ w = sym (enters-open y k j v F .0) ∙ ap (direction s) line ∙ enters-open x l i w E .0 in
+      one-signal x y l i w E (rw (line, number, way) at F)

@@ -1,0 +1,43 @@
+-- What a run on branch T is computed with.
+use Prim.Native.Nat.{ℕ}
+use Rattle.laws.specs.Choice.{if_then_else_}
+use Rattle.laws.specs.Tests.{_and_, _or_, implies, every, all, any, lowestFrom, lowest}
+use Rattle.laws.specs.Tables.{iter, read, eachFrom, each, put}
+use Rattle.sets.specs.Sets.{holds, joined, union, addEntry, setOf}
+use Rattle.signals.specs.Readings.{recorded, reading, lies, allFree, inPosition}
+use Rattle.signals.specs.Signals.{linePlaced, routePlaced, place, nearest, isOpen, unbarred, enterable, letsOut, clear, fallen, routeProceeds, mainProceeds, blockProceeds}
+use Rattle.passage.specs.Passage.{ownStage, arrival, nextBlock, farSection, farStage}
+use Rattle.release.specs.Release.{given, endBlock, firstWatched, secondWatched, earlyStep, stepFrom, stepAfter, leftSections, left, secondsAfter, goes, heldAfter}
+use Rattle.layout_facts.specs.Plain.{block, innerSection, entranceSignal, nearestBlock}
+use Rattle.layout_facts.proofs.BranchT.{computed}
+use Rattle.reasons.specs.Refusal.{refused, none, when, found, firstOf}
+use Rattle.reasons.specs.Leaves.{lacking, notFree, misplaced, notPlaced, locked, conflicting, byRoute, byLine, exitLocked, blockBarred, blockHeld}
+use Rattle.refusals.specs.Orders.{throwRefusal, exitRefusal, routeRefusal, setRefusal, cancelRefusal, secureRefusal, manualRefusal}
+use Rattle.refusals.specs.Events.{objects, secondWrong, eventRefusal}
+use Rattle.interlocking.specs.State.{cold, codes, routesInRange, inRange, withSections, withPoints, withRoutes, withLines, withBars}
+use Rattle.interlocking.specs.Own.{blockAt, ownStageAt, ownSection, ownPoint, throwReading, ownThrow, ownSet, ownCancel, ownSecure, openAt, ownManual, ownBar}
+use Rattle.interlocking.specs.Settle.{fallenAt, signals, stationProceeds, farProceeds, farDropped, farReading, farMoved, farAfter, farSections, heldOf, routeAfter, unlessIdle, routesBy, routes, lastBlock, exitLockedBy, passable, wasPassed, ends, directionAfter, lineRelease, settle}
+use Rattle.interlocking.specs.Settle as settling
+use Rattle.interlocking.specs.Step.{orderRefusal, refusal, meant, gives, own, after, refusedBy, answer, stepWhere, step}
+use Rattle.safety.specs.Shown.{shownBy, stands, signalShows, routeShows, lineShows, panel}
+use Rattle.safety.specs.History.{says, gave, shown, sinceSpell, untilSpell, moment, goesOn, history}
+use Rattle.safety.specs.History as told
+use Rattle.safety.specs.Demand3.{beyond}
+
+-- whoever unfolds this unfolds all that a run, its history and what shows in it are made of
+unfoldable pub runComputed : ℕ
+unfolding computed
+    if_then_else_ _and_ _or_ implies every all any lowestFrom lowest iter read eachFrom each put holds joined union addEntry setOf
+    recorded reading lies allFree inPosition linePlaced routePlaced place nearest isOpen unbarred enterable letsOut clear fallen routeProceeds mainProceeds blockProceeds
+    ownStage arrival nextBlock farSection farStage
+    given endBlock firstWatched secondWatched earlyStep stepFrom stepAfter leftSections left secondsAfter goes heldAfter
+    block innerSection entranceSignal nearestBlock
+    refused none when found firstOf lacking notFree misplaced notPlaced locked conflicting byRoute byLine exitLocked blockBarred blockHeld
+    throwRefusal exitRefusal routeRefusal setRefusal cancelRefusal secureRefusal manualRefusal
+    cold codes routesInRange inRange withSections withPoints withRoutes withLines withBars
+    blockAt ownStageAt ownSection ownPoint throwReading ownThrow ownSet ownCancel ownSecure openAt ownManual ownBar
+    fallenAt signals stationProceeds farProceeds farDropped farReading farMoved farAfter farSections heldOf routeAfter unlessIdle routesBy routes
+    lastBlock exitLockedBy passable wasPassed ends directionAfter lineRelease settle settling.exitLocked
+    objects secondWrong eventRefusal orderRefusal refusal meant gives own after refusedBy answer stepWhere step
+    shownBy stands signalShows routeShows lineShows panel says gave told.reading shown sinceSpell untilSpell moment goesOn history beyond
+runComputed = 0

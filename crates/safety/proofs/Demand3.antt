@@ -1,0 +1,108 @@
+-- Demand 3 holds: every event keeps the invariant, so every run has it, and it says what is demanded.
+use Prim.Native.Nat.{ℕ, _<_}
+use mathlib.Core.Path.{_≡_, refl, ap, _∙_}
+use mathlib.Core.Bool.{true}
+use mathlib.Core.List.{List, [], _∷_}
+use native.Mathlib.Omega.{arith}
+use borrow.Author.Tests.{eqb-true, eqb-false, ne-eqb}
+use lib.Dec.{eqb}
+use Rattle.laws.specs.Tests.{_and_}
+use Rattle.layout.specs.declared.Layout.{Layout}
+use Rattle.layout.specs.Layout.{routeIn}
+use Rattle.layout.specs.Sound.{sound}
+use Rattle.layout_facts.specs.Plain.{Sound}
+use Rattle.layout_facts.proofs.Sound.{sound-says}
+use Rattle.layout_facts.proofs.Loaded.{loaded-sound}
+use Rattle.interlocking.specs.declared.State.{State}
+use Rattle.interlocking.specs.State.{cold, inRange}
+use Rattle.interlocking.specs.Step.{refusal, refusedBy, answer, stepWhere, step}
+use Rattle.step_facts.specs.Run.{Event}
+use Rattle.safety.specs.Cases.{stateAfter}
+use Rattle.safety.specs.Shown.{Signal, main, Panel, routeShows, lineShows, panel}
+use Rattle.safety.specs.History.{History, shown, moment, goesOn, history}
+use Rattle.safety.specs.Demand3.{Proceeds, Enters, Guarded, Safe, Demand3}
+use Rattle.safety.proofs.Entries.{phase, Is, holds, fails, which, chosen, passed-over}
+use Rattle.safety.proofs.Invariant.{Inv, cold-has, refused}
+use Rattle.safety.proofs.Routes.{granted, reads-on, apart-on, lights-on, exits-on}
+use Rattle.safety.proofs.Held.{opened-then, entered-then}
+use Rattle.safety.proofs.Far.{passing-then}
+use Rattle.safety.proofs.Alone.{shown-locked, main-for, enters-open, alone}
+use Rattle.safety.proofs.Within.{end}
+
+-- ---- the invariant says what is demanded
+
+module _ (L : Layout) (S : Sound L) (s : State) (h : History) (I : Inv L s h) where
+  -- a main signal at proceed has a route in phase 1, and that shows locked
+  backed : (x : ℕ) → Proceeds (shown L h) (main x) → (r : ℕ) × (r < L .routes) × (routeIn L r .entry ≡ x) × (shown L h .route r ≡ 1)
+  unfolding panel routeShows
+  backed x p =
+      let (r, there, one, starts) = main-for L S s h I x p in (
+        r,
+        there,
+        starts,
+        ap (λ (q : Panel). q .route r) (I .seen) ∙ passed-over _ _ _ (ne-eqb (phase s r) 0 (omega arith))
+            ∙ passed-over _ _ _ (ne-eqb (phase s r) 3 (omega arith)),
+      )
+
+  -- a signal at proceed into a block has its line secured and its block open; an open block reads free and was cleared
+  guarded : (x : Signal) (l i w : ℕ) → Enters L (shown L h) x l i w → Guarded L h x l i w
+  unfolding panel lineShows
+  guarded x l i w E =
+      let (way, open-now) = enters-open L S s h I x l i w E in
+      let c = I .opened l i (E .ofLine) (E .ofBlock) open-now in
+      record {
+        secured = ap (λ (p : Panel). p .line l) (I .seen) ∙ way;
+        alone = λ y k j v F same. alone L S s h I x y l i w k j v E F same;
+        isFree = c .isFree;
+        cleared = c .cleared;
+      }
+
+  -- together
+  safe : Safe L h
+  safe = record {
+    apart = λ r q b c t x y. I .apart r q b c t (shown-locked L S s h I r x) (shown-locked L S s h I q y);
+    backed = backed;
+    guarded = guarded;
+  }
+
+-- ---- every event keeps it
+
+module _ (L : Layout) (S : Sound L) (s : State) (h : History) (I : Inv L s h) (e : Event) where
+  -- an accepted event, part by part
+  accepted : refusal (sound L and inRange s) L s (e .kind) (e .first) (e .second) .number ≡ 0 → Inv L (end L s e) (granted L s e ∷ h)
+  unfolding shown
+  accepted pass = record {
+    seen = refl;
+    reads = reads-on L S s h I e pass;
+    apart = apart-on L S s h I e pass;
+    lights = lights-on L S s h I e pass;
+    exits = exits-on L S s h I e pass;
+    opened = opened-then L S s h I e pass;
+    entered = entered-then L S s h I e pass;
+    passing = passing-then L S s h I e pass;
+  }
+
+  -- accepted or refused
+  kept : Inv L (step L s (e .kind) (e .first) (e .second) .next) (moment L e (step L s (e .kind) (e .first) (e .second)) ∷ h)
+  unfolding step stepWhere answer refusedBy moment
+  kept = go (which (eqb (refusal (sound L and inRange s) L s (e .kind) (e .first) (e .second) .number) 0))
+    where
+      go : Is (eqb (refusal (sound L and inRange s) L s (e .kind) (e .first) (e .second) .number) 0)
+          → Inv L (step L s (e .kind) (e .first) (e .second) .next) (moment L e (step L s (e .kind) (e .first) (e .second)) ∷ h)
+      go (holds t) = rw (chosen _ _ _ t) (accepted (eqb-true _ 0 t))
+      go (fails f) = rw (passed-over _ _ _ f) (refused L s h _ I (eqb-false _ 0 f) refl)
+
+-- so every run has it
+ran : (L : Layout) → Sound L → (s : State) (h : History) → Inv L s h → (es : List Event) → Inv L (stateAfter L s es) (goesOn L s h es)
+unfolding goesOn
+ran L S s h I [] = I
+ran L S s h I (e ∷ es) = ran L S _ _ (kept L S s h I e) es
+
+-- on any sound layout, loaded or assembled by hand
+pub safe-run : (L : Layout) → sound L ≡ true → (es : List Event) → Safe L (history L es)
+unfolding history
+safe-run L ok es = let S = sound-says L ok in safe L S _ _ (ran L S cold [] (cold-has L S) es)
+
+-- on any layout file that loads with 0
+pub demand3 : Demand3
+demand3 bytes ok es = safe-run _ (loaded-sound bytes ok) es

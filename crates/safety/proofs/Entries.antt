@@ -1,0 +1,92 @@
+-- What stands at an entry of a table, and what stands there once the table was made anew; a state, read by number.
+use Prim.Native.Nat.{ℕ, _+_, _*_, _/_, _%_, _<_, _≤_}
+use mathlib.Core.Path.{_≡_, refl, sym, ap, _∙_}
+use mathlib.Core.Bool.{Bool, true, false}
+use mathlib.Core.List.{List}
+use native.Mathlib.Nat.{mul-comm}
+use native.Mathlib.Omega.{arith}
+use lib.Arith.{digits-div, digits-mod}
+use lib.Dec.{eqb}
+use lib.ListN.{getD, replicate, getD-replicate}
+use Rattle.laws.specs.Choice.{if_then_else_}
+use Rattle.laws.specs.Tables.{read, each, put}
+use Rattle.laws.proofs.Choice.{if-lt}
+use Rattle.laws.proofs.Each.{each-at}
+use Rattle.signals.specs.Signals.{place}
+use Rattle.interlocking.specs.declared.State.{State}
+
+-- ---- a test, with what it said
+
+-- with the equation, for proofs that go by cases
+pub data Is (t : Bool) : Type 0 where
+  holds : t ≡ true → Is t
+  fails : t ≡ false → Is t
+
+-- by its two values
+pub which : (t : Bool) → Is t
+which true = holds refl
+which false = fails refl
+
+-- a choice whose test is known
+module _ {A : Type 0} (t : Bool) (x y : A) where
+  pub chosen : t ≡ true → (if t then x else y) ≡ x
+  unfolding if_then_else_
+  chosen e = rw e
+
+  -- and one whose test is known to fail
+  pub passed-over : t ≡ false → (if t then x else y) ≡ y
+  unfolding if_then_else_
+  passed-over e = rw e
+
+-- ---- tables
+
+-- an entry that there is
+pub read-at : (n d : ℕ) (xs : List ℕ) (i : ℕ) → i < n → read n d xs i ≡ getD xs i 0
+unfolding read
+read-at n d xs i b = sym (if-lt i n _ _ _ b refl)
+
+-- one that was made anew
+pub read-each : (n d m : ℕ) (f : ℕ → ℕ → ℕ) (xs : List ℕ) (i : ℕ) → i < n → i < m → read n d (each m f xs) i ≡ f i (read n d xs i)
+read-each n d m f xs i b c = read-at n d (each m f xs) i b ∙ each-at m f xs i c ∙ ap (f i) (sym (read-at n d xs i b))
+
+-- one of a table with v at a
+pub read-put : (n d : ℕ) (xs : List ℕ) (a v i : ℕ) → i < n → read n d (put n xs a v) i ≡ if eqb i a then v else read n d xs i
+unfolding put
+read-put n d xs a v i b = read-each n d n _ xs i b b
+
+-- one of a table of one thing
+pub read-same : (n d v i : ℕ) → i < n → read n d (replicate n v) i ≡ v
+read-same n d v i b = read-at n d (replicate n v) i b ∙ getD-replicate n i v 0 b
+
+-- ---- the tables of blocks
+
+module _ (l i : ℕ) (b : i < 8) where
+  -- the line and the block that stand at a place
+  pub place-line : place l i / 8 ≡ l
+  unfolding place
+  place-line = ap (λ k. (k + i) / 8) (mul-comm 8 l) ∙ digits-div l b
+
+  -- and the block
+  pub place-block : place l i % 8 ≡ i
+  unfolding place
+  place-block = ap (λ k. (k + i) % 8) (mul-comm 8 l) ∙ digits-mod l b
+
+  -- block i of a line that there is
+  pub read-block : (n : ℕ) (f : ℕ → ℕ → ℕ) (xs : List ℕ) → l < n → n ≤ 8
+      → read 64 1 (each (8 * n) f xs) (place l i) ≡ f (place l i) (read 64 1 xs (place l i))
+  unfolding place
+  read-block n f xs c d = read-each 64 1 (8 * n) f xs (8 * l + i) (omega arith) (omega arith)
+
+-- ---- a state, read by number
+
+-- the phase of route r
+abbrev pub phase : State → ℕ → ℕ
+phase s r = read 48 0 (s .phase) r
+
+-- the direction of line l
+abbrev pub direction : State → ℕ → ℕ
+direction s l = read 8 0 (s .direction) l
+
+-- the stage of block i of line l
+abbrev pub stage : State → ℕ → ℕ → ℕ
+stage s l i = read 64 1 (s .stage) (place l i)

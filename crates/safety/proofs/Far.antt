@@ -1,0 +1,207 @@
+-- An accepted event keeps what the invariant says of a block in stage 2: a passage in the secured direction waits for the free reading that closes it.
+use Prim.Native.Nat.{ℕ, _+_, _<_, _≤_}
+use mathlib.Core.Path.{_≡_, refl, sym, ap, _∙_}
+use mathlib.Core.Logic.{_≢_, inl, inr}
+use mathlib.Core.Bool.{true, false}
+use mathlib.Core.List.{_∷_}
+use native.Mathlib.Decide.{ℕ-discrete}
+use native.Mathlib.Omega.{arith}
+use borrow.Author.Tests.{eqb-true, eq-eqb, ne-eqb, lt-ltb, not-true}
+use Rattle.laws.specs.Tests.{_and_}
+use Rattle.laws.proofs.Tests.{and-left, and-right, and-both, not-both, fails-from, every-at, all-at, any-at, any-some}
+use Rattle.signals.specs.Readings.{allFree}
+use Rattle.signals.specs.Readings as readings
+use Rattle.signals.specs.Signals.{isOpen, enterable, clear, routeProceeds, mainProceeds, blockProceeds}
+use Rattle.layout.specs.declared.Layout.{Layout}
+use Rattle.layout.specs.Layout.{lineIn, routeIn}
+use Rattle.layout.specs.Sound.{sound}
+use Rattle.layout_facts.specs.Plain.{block, path, Sound}
+use Rattle.layout_facts.proofs.Uses.{block-below, inner-below, entrance-path}
+use Rattle.interlocking.specs.declared.State.{State}
+use Rattle.interlocking.specs.State.{inRange, withRoutes, withLines}
+use Rattle.interlocking.specs.Settle.{signals, farDropped, farReading, farSections, routesBy, routes, lineRelease, settle}
+use Rattle.interlocking.specs.Step.{refusal, after}
+use Rattle.step_facts.specs.Run.{Event}
+use Rattle.safety.specs.Shown.{stands, lineShows, panel}
+use Rattle.safety.specs.History.{History, says, gave, reading, Since}
+use Rattle.safety.specs.Demand3.{Beyond, beyond, sectionAt, signalAt, farSection, Proceeds, Stops, Passage}
+use Rattle.safety.proofs.Entries.{phase, direction, stage, chosen, passed-over}
+use Rattle.safety.proofs.Passed.{two-ways, secure-neutral}
+use Rattle.safety.proofs.Within.{On, done, lit, end, says-of-one, says-other, phase-kept, direction-same, direction-held}
+use Rattle.safety.proofs.Blocks.{OwnCase, byHand, unread, frees, shuts, takes, FarCase, keeps, proves, loses}
+use Rattle.safety.proofs.Beyond.{BeyondCase, aBlock, aStation, beyond-case, far-section, farUp, far-proceeds}
+use Rattle.safety.proofs.Signals.{main-lit, main-stops, into-lit, into-stops}
+use Rattle.safety.proofs.Told.{reading-kept, reading-given}
+use Rattle.safety.proofs.Invariant.{Inv}
+use Rattle.safety.proofs.Routes.{granted, gave-granted, was-enterable, reads-on}
+use Rattle.safety.proofs.Held.{own-of, far-of}
+
+-- ---- the far section
+
+module _ (L : Layout) (S : Sound L) (l i w : ℕ) (b : l < L .lines) (c : i < lineIn L l .blocks) where
+  -- it is one of 64
+  far-below : (x : Beyond) → BeyondCase L l i w x → sectionAt L l x < 64
+  far-below x (aBlock j h d n up down) = block-below L S l j b h
+  far-below x (aStation e h a n) = inner-below L S l e b h
+
+  -- rule 1: it is another section than the block
+  far-other : (x : Beyond) → BeyondCase L l i w x → block L l i ≢ sectionAt L l x
+  far-other x (aBlock j h d n up down) q = d (S .rule1 .once l i l j b c b h q .1)
+  far-other x (aStation e h a n) q = S .rule1 .noInner l i l e b c b h q
+
+  -- while the far signal shows proceed it reads free: the next block is open; or, rules 2 and 5, a route in from the line has the inner section first
+  -- in its path
+  far-free : (s : State) (h : History) → Inv L s h → (x : Beyond) → BeyondCase L l i w x → farUp L s l w x ≡ true
+      → readings.reading (s .section) (sectionAt L l x) ≡ 1
+  unfolding blockProceeds enterable isOpen mainProceeds routeProceeds clear allFree path routeIn
+  far-free s h I x (aBlock j k d n up down) p =
+      I .reads _ (block-below L S l j b k) ∙ I .opened l j b k (eqb-true _ 0 (every-at _ (and-right _ _ p) 0)) .isFree
+  far-free s h I x (aStation e k a n) p =
+      let (r, there, lit) = any-some _ _ p in
+      let free = I .lights r there (eqb-true _ 1 (and-left _ _ lit)) in
+      let paths = S .ranges .routes r there .pathCount in
+      ap (readings.reading (s .section)) (sym (entrance-path L S r l e there b k (eqb-true _ _ (and-right _ _ lit))))
+      ∙ eqb-true _ 1 (all-at _ _ (every-at _ free 0) 0 (omega arith))
+
+-- ---- the far signal
+
+-- the block signal into the block beyond, in a direction that there is
+far-stands : (L : Layout) (l w j : ℕ) → (w ≡ 1 → 0 < j) → (w ≢ 1 → j + 1 < lineIn L l .blocks) → w ≢ 0 → w ≤ 2
+    → stands L l j w ≡ true
+unfolding stands
+far-stands L l w j up down z few = go (ℕ-discrete w 1)
+  where
+    go : Dec (w ≡ 1) → stands L l j w ≡ true
+    go (yes q) = chosen _ _ _ (eq-eqb w 1 q) ∙ lt-ltb 0 j (up q)
+    go (no q) = passed-over _ _ _ (ne-eqb w 1 q) ∙ and-both _ _ (eq-eqb w 2 (omega arith)) (lt-ltb (j + 1) _ (down q))
+
+module _ (L : Layout) (S : Sound L) (s : State) (e : Event) (l i w : ℕ) (b : l < L .lines) where
+  -- a signal at proceed shows so
+  far-showed : (x : Beyond) → BeyondCase L l i w x → w ≢ 0 → direction s l ≤ 2 → farUp L s l w x ≡ true → Proceeds (panel L s) (signalAt L l w x)
+  unfolding panel blockProceeds
+  far-showed x (aBlock j h d n up down) z few p =
+      let way = eqb-true (direction s l) w (and-left _ _ p) in
+      into-lit L s l j w (far-stands L l w j up down z (omega arith)) way (and-right _ _ p)
+  far-showed x (aStation k h a n) z few p = main-lit L s _ p
+
+  -- one that fell within the event still shows stop at its end: phases never return to 1, and the far sections open no block
+  far-stops : (x : Beyond) → BeyondCase L l i w x → w ≢ 0 → direction s l ≤ 2 → direction (done L s e) l ≡ w → direction (end L s e) l ≡ w
+      → farUp L s l w x ≡ true → farUp L (lit L s e) l w x ≡ false → Stops (panel L (end L s e)) (signalAt L l w x)
+  unfolding panel blockProceeds mainProceeds routeProceeds signals withRoutes
+  far-stops x (aBlock j h d n up down) z few own now p f =
+      let way = eqb-true (direction s l) w (and-left _ _ p) in
+      into-stops L (end L s e) l j w (far-stands L l w j up down z (omega arith)) now
+      (fails-from _ (λ t. not-both (and-both _ _ (eq-eqb _ w own) (was-enterable L S s e l j b h t)) f))
+  far-stops x (aStation k h a n) z few own now p f =
+      main-stops L (end L s e) _
+      (fails-from _ (λ t.
+      let (r, there, lit) = any-some _ _ t in
+      let one = eqb-true (phase (end L s e) r) 1 (and-left _ _ lit) in
+      let kept = phase-kept L (S .ranges .routeCount) s e r there (omega arith) in
+      not-both (any-at _ _ r there (and-both _ _ (eq-eqb _ 1 (sym kept ∙ one)) (and-right _ _ lit))) f))
+
+-- ---- an accepted event
+
+module _ (L : Layout) (S : Sound L) (s : State) (h : History) (I : Inv L s h) (e : Event)
+    (pass : refusal (sound L and inRange s) L s (e .kind) (e .first) (e .second) .number ≡ 0) (l i : ℕ) (b : l < L .lines) (c : i < lineIn L l .blocks) where
+  -- a line has at most eight blocks
+  few : lineIn L l .blocks ≤ 8
+  few = S .ranges .lines l b .blockCount .1
+
+  -- what lies beyond the block
+  there : (w : ℕ) → BeyondCase L l i w (beyond L l i w)
+  there w = beyond-case L l i w c
+
+  -- what the event gave is what it said
+  gives : (g : ℕ) → gave (granted L s e) g ≡ says e g
+  gives = gave-granted L s e
+
+  -- what the far section reads within the event is what the history tells of it
+  far-reads : (w : ℕ) → farReading L (lit L s e) l i w ≡ reading (farSection L l i w) (granted L s e ∷ h)
+  unfolding farReading lineIn after settle lineRelease withLines routes routesBy withRoutes farSections signals
+  far-reads w =
+      ap (readings.reading (lit L s e .section)) (far-section few (there w))
+      ∙ reads-on L S s h I e pass (farSection L l i w) (far-below L S l i w b c (beyond L l i w) (there w))
+
+  -- a block that was in stage 2 and stays there: the passage waits on
+  waits-on : stage (done L s e) l i ≡ 3 → (direction (done L s e) l ≢ 0 → farReading L (lit L s e) l i (direction (done L s e) l) ≢ 3)
+      → (direction (done L s e) l ≢ 0) × Passage L l i (direction (done L s e) l) (granted L s e ∷ h)
+  unfolding Since
+  waits-on z far = go (own-of L S s h I e pass l i b c)
+    where
+      on : stage s l i ≡ 3 → ¬ On 7 e l → gave (granted L s e) (block L l i) ≢ 3 → gave (granted L s e) (block L l i) ≢ 1
+          → (direction (done L s e) l ≢ 0) × Passage L l i (direction (done L s e) l) (granted L s e ∷ h)
+      on was hand none free =
+          let P = I .passing l i b c was in
+          let same : direction (done L s e) l ≡ direction s l =
+          direction-same L (S .ranges .lineCount) s e l b (λ u. P .0 (ap (direction s) (sym (u .1)) ∙ secure-neutral L s e pass (u .0))) hand in (
+            λ q. P .0 (sym same ∙ q),
+            inr ((none, free, λ q. far (λ y. P .0 (sym same ∙ y)) (far-reads _ ∙ reading-given _ h _ 3 q (omega arith))), rw same (P .1)),
+          )
+
+      go : OwnCase L e l i (stage s l i) (stage (done L s e) l i) → (direction (done L s e) l ≢ 0) × Passage L l i (direction (done L s e) l) (granted L s e ∷ h)
+      go (byHand k q x) = absurd (omega arith)
+      go (unread n q x) = on (sym x ∙ z) n (omega (arith, gives (block L l i))) (omega (arith, gives (block L l i)))
+      go (frees k q was x) = absurd (omega arith)
+      go (shuts k x) = absurd (omega arith)
+      go (takes k q (inl x) y) = absurd (omega arith)
+      go (takes k q (inr x) y) = on (sym x ∙ z) (λ u. let v = u .0 in omega arith) (omega (arith, gives (block L l i))) (omega (arith, gives (block L l i)))
+
+  -- a block that goes from stage 1 to 2: this event dropped the far signal and left the far section occupied. The far section read free before, so
+  -- this event gave it occupied, so it gave the block nothing: the block was entered by an event before
+  module _ (w : ℕ) (own : direction (done L s e) l ≡ w) (z : stage (done L s e) l i ≡ 2) (d : w ≢ 0) (taken : farReading L (lit L s e) l i w ≡ 2)
+      (up : farUp L s l w (beyond L l i w) ≡ true) where
+    now : reading (farSection L l i w) (granted L s e ∷ h) ≡ 2
+    now = sym (far-reads w) ∙ taken
+
+    of-far : says e (farSection L l i w) ≢ 0
+    of-far q =
+        let was = sym (I .reads _ (far-below L S l i w b c (beyond L l i w) (there w))) ∙ far-free L S l i w b c s h I (beyond L l i w) (there w) up in
+        let still = reading-kept (granted L s e) h _ (gives _ ∙ q) in
+        omega (arith, now)
+
+    of-block : says e (block L l i) ≡ 0
+    of-block = says-other e _ (λ q. far-other L S l i w b c (beyond L l i w) (there w) (sym q ∙ says-of-one e _ of-far .1))
+
+    entered-before : 2 ≤ stage s l i
+    entered-before = go (own-of L S s h I e pass l i b c)
+      where
+        go : OwnCase L e l i (stage s l i) (stage (done L s e) l i) → 2 ≤ stage s l i
+        go (byHand k q x) = absurd (omega arith)
+        go (unread n q x) = omega arith
+        go (frees k q was x) = absurd (omega arith)
+        go (shuts k x) = absurd (omega arith)
+        go (takes k q x y) = absurd (omega (arith, of-block))
+
+  -- so this is the drop of a passage
+  dropped : stage (done L s e) l i ≡ 2 → direction (done L s e) l ≢ 0 → direction (end L s e) l ≡ direction (done L s e) l
+      → farReading L (lit L s e) l i (direction (done L s e) l) ≡ 2 → farDropped L s (lit L s e) l i (direction (done L s e) l) ≡ true
+      → Passage L l i (direction (done L s e) l) (granted L s e ∷ h)
+  unfolding Since farDropped panel lineShows
+  dropped z d same taken fell =
+      let w : ℕ = direction (done L s e) l in
+      let x : Beyond = beyond L l i w in
+      let up : farUp L s l w x ≡ true = sym (far-proceeds s few (there w)) ∙ and-left _ _ fell in
+      let down : farUp L (lit L s e) l w x ≡ false = sym (far-proceeds (lit L s e) few (there w)) ∙ not-true _ (and-right _ _ fell) in
+      let ways : direction s l ≤ 2 = two-ways L s e pass l (omega (arith, S .ranges .lineCount)) in
+      inl (record {
+        entered = I .entered l i b c (entered-before w refl z d taken up);
+        stays = let quiet = gives _ ∙ of-block w refl z d taken up in (omega arith, omega arith);
+        secured = (same, d);
+        taken = now w refl z d taken up;
+        fromProceed = rw (I .seen) (far-showed L S s e l i w b x (there w) d ways up);
+        toStop = far-stops L S s e l i w b x (there w) d ways refl same up down;
+      })
+
+  -- a line with a held block keeps its direction through the event; then by what the far section did
+  pub passing-then : stage (end L s e) l i ≡ 3 → (direction (end L s e) l ≢ 0) × Passage L l i (direction (end L s e) l) (granted L s e ∷ h)
+  passing-then z = rw unmoved (go (far-of L S s h I e pass l i b c))
+    where
+      unmoved : direction (end L s e) l ≡ direction (done L s e) l
+      unmoved = direction-held L (S .ranges .lineCount) s e l b i c (omega arith)
+
+      go : FarCase L s (lit L s e) l i (direction (done L s e) l) (stage (done L s e) l i) (stage (end L s e) l i)
+          → (direction (done L s e) l ≢ 0) × Passage L l i (direction (done L s e) l) (granted L s e ∷ h)
+      go (keeps x f) = waits-on (sym x ∙ z) (f z)
+      go (proves x was d o p) = (d, dropped was d unmoved o p)
+      go (loses x was) = absurd (omega arith)

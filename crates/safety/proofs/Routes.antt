@@ -1,0 +1,129 @@
+-- An accepted event keeps what the invariant says of sections, routes and signals.
+use Prim.Native.Nat.{ℕ, _+_, _<_}
+use mathlib.Core.Path.{_≡_, refl, sym, ap, _∙_}
+use mathlib.Core.Logic.{_≢_, _⊎_, inl, inr}
+use mathlib.Core.Bool.{true}
+use mathlib.Core.List.{_∷_}
+use native.Mathlib.Omega.{arith}
+use borrow.Author.Tests.{eqb-true, eq-eqb}
+use lib.Dec.{eqb}
+use Rattle.laws.specs.Choice.{if_then_else_}
+use Rattle.laws.specs.Tests.{_and_}
+use Rattle.laws.proofs.Tests.{implied, implies-from, every-at, every-one, every-more}
+use Rattle.signals.specs.Readings as readings
+use Rattle.signals.specs.Signals.{nearest, isOpen, enterable, letsOut, clear}
+use Rattle.layout.specs.declared.Layout.{Layout}
+use Rattle.layout.specs.Layout.{lineIn, routeIn, conflict}
+use Rattle.layout.specs.Sound.{sound}
+use Rattle.layout_facts.specs.Plain.{nearestBlock, Sound}
+use Rattle.layout_facts.proofs.Uses.{entered-block}
+use Rattle.interlocking.specs.declared.State.{State}
+use Rattle.interlocking.specs.State.{inRange, withRoutes, withLines}
+use Rattle.interlocking.specs.Settle.{signals, farSections, routesBy, routes, lineRelease, settle}
+use Rattle.interlocking.specs.Step.{refusal, after}
+use Rattle.step_facts.specs.Run.{Event}
+use Rattle.safety.specs.Shown.{panel}
+use Rattle.safety.specs.History.{Moment, History, says, gave, reading}
+use Rattle.safety.proofs.Entries.{phase, direction, stage}
+use Rattle.safety.proofs.Passed.{set-alone, set-secured, cancel-locked, secure-neutral, release-unlocked}
+use Rattle.safety.proofs.Within.{On, done, lit, end, section-done, phase-clear, was-locked, direction-same, direction-locked}
+use Rattle.safety.proofs.Blocks.{FarCase, keeps, proves, loses, stage-end}
+use Rattle.safety.proofs.Invariant.{Inv}
+
+-- the moment of an accepted event
+abbrev pub granted : Layout → State → Event → Moment
+granted L s e = record { event = e; number = 0; shows = panel L (end L s e) }
+
+-- it gave what it said
+pub gave-granted : (L : Layout) (s : State) (e : Event) (g : ℕ) → gave (granted L s e) g ≡ says e g
+unfolding gave if_then_else_
+gave-granted L s e g = refl
+
+module _ (L : Layout) (S : Sound L) (s : State) (e : Event) where
+  -- a block is open at the end of an event if its own reading left it open
+  module _ (l i : ℕ) (b : l < L .lines) (h : i < lineIn L l .blocks) where
+    far-of : FarCase L s (lit L s e) l i (direction (done L s e) l) (stage (done L s e) l i) (stage (end L s e) l i)
+    far-of = stage-end L (S .ranges .lineCount) s e l i b (omega (arith, S .ranges .lines l b .blockCount))
+
+    pub still-open : stage (done L s e) l i ≡ 0 → stage (end L s e) l i ≡ 0
+    still-open z = go far-of
+      where
+        go : FarCase L s (lit L s e) l i (direction (done L s e) l) (stage (done L s e) l i) (stage (end L s e) l i) → stage (end L s e) l i ≡ 0
+        go (keeps x f) = x ∙ z
+        go (proves x was d o p) = absurd (omega arith)
+        go (loses x was) = absurd (omega arith)
+
+    -- and only then
+    pub was-open : stage (end L s e) l i ≡ 0 → stage (done L s e) l i ≡ 0
+    was-open z = go far-of
+      where
+        go : FarCase L s (lit L s e) l i (direction (done L s e) l) (stage (done L s e) l i) (stage (end L s e) l i) → stage (done L s e) l i ≡ 0
+        go (keeps x f) = sym x ∙ z
+        go (proves x was d o p) = absurd (omega arith)
+        go (loses x was) = absurd (omega arith)
+
+    -- so a train may be let into it at the end just where it may after the event's own reading
+    pub still-enterable : enterable (L .line) (done L s e .point) (done L s e .stage) (done L s e .bar) l i ≡ true
+        → enterable (L .line) (end L s e .point) (end L s e .stage) (end L s e .bar) l i ≡ true
+    unfolding enterable isOpen after settle lineRelease withLines routes routesBy withRoutes farSections signals
+    still-enterable t =
+        every-more _ _ _ (eq-eqb _ 0 (still-open (eqb-true _ 0 (every-at _ t 0)))) (every-more _ _ _ (every-at _ t 1) (every-one _ (every-at _ t 2)))
+
+    pub was-enterable : enterable (L .line) (end L s e .point) (end L s e .stage) (end L s e .bar) l i ≡ true
+        → enterable (L .line) (done L s e .point) (done L s e .stage) (done L s e .bar) l i ≡ true
+    unfolding enterable isOpen after settle lineRelease withLines routes routesBy withRoutes farSections signals
+    was-enterable t =
+        every-more _ _ _ (eq-eqb _ 0 (was-open (eqb-true _ 0 (every-at _ t 0)))) (every-more _ _ _ (every-at _ t 1) (every-one _ (every-at _ t 2)))
+
+module _ (L : Layout) (S : Sound L) (s : State) (h : History) (I : Inv L s h) (e : Event)
+    (pass : refusal (sound L and inRange s) L s (e .kind) (e .first) (e .second) .number ≡ 0) where
+  -- what sections read
+  pub reads-on : (g : ℕ) → g < 64 → readings.reading (end L s e .section) g ≡ reading g (granted L s e ∷ h)
+  unfolding after settle lineRelease withLines routes routesBy withRoutes farSections signals reading gave if_then_else_
+  reads-on g b = section-done L s e g b ∙ ap (λ n. if eqb (says e g) 0 then n else says e g) (I .reads g b)
+
+  -- a route that is locked afterwards was locked before, or is set by the event
+  locked-before : (r : ℕ) → r < L .routes → phase (end L s e) r ≢ 0 → On 4 e r ⊎ (phase s r ≢ 0)
+  locked-before r b = was-locked L (S .ranges .routeCount) s e r b (cancel-locked L s e pass)
+
+  -- a route is set only where none that conflicts with it is locked
+  pub apart-on : (r q : ℕ) → r < L .routes → q < L .routes → conflict L r q ≡ true → phase (end L s e) r ≢ 0 → phase (end L s e) q ≢ 0 → ⊥
+  apart-on r q b c t x y = go (locked-before r b x) (locked-before q c y)
+    where
+      go : On 4 e r ⊎ (phase s r ≢ 0) → On 4 e q ⊎ (phase s q ≢ 0) → ⊥
+      go (inl u) (inl v) = S .conflicts .notItself r b (rw (sym (v .1) ∙ u .1) at t)
+      go (inl u) (inr v) = v (set-alone L s e pass (u .0) q c (rw (u .1) t))
+      go (inr u) (inl v) = u (set-alone L s e pass (v .0) r b (rw (v .1) (S .conflicts .bothWays r q b c t)))
+      go (inr u) (inr v) = I .apart r q b c t u v
+
+  -- a signal that still shows proceed has all that keeps it there
+  pub lights-on : (r : ℕ) → r < L .routes → phase (end L s e) r ≡ 1
+      → clear (L .line) (end L s e .section) (end L s e .point) (end L s e .stage) (end L s e .bar) (routeIn L r) ≡ true
+  unfolding clear letsOut nearest nearestBlock lineIn after settle lineRelease withLines routes routesBy withRoutes farSections signals
+  lights-on r b p =
+      let c = phase-clear L (S .ranges .routeCount) s e r b p in
+      every-more _ _ _ (every-at _ c 0) (every-more _ _ _ (every-at _ c 1) (every-more _ _ _ (every-at _ c 2) (every-one _ (implies-from _ _ (λ k.
+      let x = eqb-true (routeIn L r .kind) 2 k in
+      still-enterable L S s e _ _ (S .ranges .routes r b .line (inr x) .0) (entered-block L S r b x) (implied _ _ (every-at _ c 3) k))))))
+
+  -- the line of a locked exit route stays secured its way
+  pub exits-on : (r : ℕ) → r < L .routes → routeIn L r .kind ≡ 2 → phase (end L s e) r ≢ 0 → direction (end L s e) (routeIn L r .line) ≡ routeIn L r .end + 1
+  exits-on r b k x =
+      direction-locked L (S .ranges .lineCount) s e (routeIn L r .line) there r b k refl x ∙ go (locked-before r b x)
+    where
+      there : routeIn L r .line < L .lines
+      there = S .ranges .routes r b .line (inr k) .0
+
+      unmoved : ¬ On 6 e (routeIn L r .line) → ¬ On 7 e (routeIn L r .line)
+          → direction (done L s e) (routeIn L r .line) ≡ direction s (routeIn L r .line)
+      unmoved = direction-same L (S .ranges .lineCount) s e (routeIn L r .line) there
+
+      go : On 4 e r ⊎ (phase s r ≢ 0) → direction (done L s e) (routeIn L r .line) ≡ routeIn L r .end + 1
+      go (inl u) =
+          unmoved (λ v. let z = u .0 in let y = v .0 in omega arith) (λ v. let z = u .0 in let y = v .0 in omega arith)
+          ∙ rw (u .1) at (set-secured L s e pass (u .0) (rw (u .1) k))
+      go (inr u) =
+          unmoved
+          (λ v. let z : routeIn L r .end + 1 ≡ 0 = sym (I .exits r b k u) ∙ ap (direction s) (sym (v .1)) ∙ secure-neutral L s e pass (v .0) in omega arith)
+          (λ v. u (release-unlocked L s e pass (v .0) r b k (sym (v .1))))
+          ∙ I .exits r b k u

@@ -1,0 +1,254 @@
+-- Within one accepted event: what it does itself to sections, routes, lines and blocks, and what becomes of routes and lines by its end.
+use Prim.Native.Nat.{ℕ, _<_, _≤_}
+use mathlib.Core.Path.{_≡_, refl, sym, ap, _∙_}
+use mathlib.Core.Logic.{_≢_, _⊎_, inl, inr, ⊎-elim}
+use mathlib.Core.Bool.{true}
+use native.Mathlib.Decide.{ℕ-discrete}
+use native.Mathlib.Omega.{arith}
+use borrow.Author.Tests.{eqb-true, eqb-false, eq-eqb, ne-eqb, le-leb, not-true}
+use lib.Dec.{eqb}
+use Rattle.laws.specs.Choice.{if_then_else_}
+use Rattle.laws.specs.Tests.{_and_, any}
+use Rattle.laws.specs.Tables.{read, put}
+use Rattle.laws.proofs.Choice.{if-both}
+use Rattle.laws.proofs.Tests.{and-left, and-right, and-both, not-both, fails-from, fails-not, every-at, all-at, any-at}
+use Rattle.signals.specs.Readings.{recorded}
+use Rattle.signals.specs.Readings as readings
+use Rattle.signals.specs.Signals.{isOpen, clear, fallen}
+use Rattle.release.specs.declared.Gives.{Gives}
+use Rattle.release.specs.declared.Held.{Held}
+use Rattle.release.specs.Release.{heldAfter}
+use Rattle.layout.specs.declared.Layout.{Layout}
+use Rattle.layout.specs.Layout.{lineIn, routeIn}
+use Rattle.interlocking.specs.declared.State.{State}
+use Rattle.interlocking.specs.State.{withSections, withPoints, withRoutes, withLines, withBars}
+use Rattle.interlocking.specs.Own.{ownSection, ownPoint, ownThrow, ownSet, ownCancel, ownSecure, ownManual, ownBar}
+use Rattle.interlocking.specs.Settle.{fallenAt, signals, farSections, heldOf, routeAfter, unlessIdle, routesBy, routes, exitLockedBy, exitLocked, passable, ends, directionAfter, lineRelease, settle}
+use Rattle.interlocking.specs.Step.{meant, gives, own, after}
+use Rattle.step_facts.specs.Run.{Event}
+use Rattle.safety.specs.History.{says}
+use Rattle.safety.proofs.Entries.{phase, direction, stage, chosen, passed-over, read-each, read-put}
+
+-- ---- the states within one event
+
+-- after what it does itself; after the signals; after far sections and routes; at its end
+abbrev pub done : Layout → State → Event → State
+done L s e = own L s (e .kind) (e .first) (meant (e .kind) (e .second))
+
+abbrev pub lit : Layout → State → Event → State
+lit L s e = signals L (done L s e)
+
+abbrev pub moved : Layout → State → Event → State
+moved L s e = routes L (farSections L s (lit L s e)) (gives (e .kind) (e .first) (meant (e .kind) (e .second)))
+
+abbrev pub end : Layout → State → Event → State
+end L s e = after L s (e .kind) (e .first) (meant (e .kind) (e .second))
+
+-- ---- what an event does itself, by its kind
+
+-- it is of kind k, for object a
+abbrev pub On : ℕ → Event → ℕ → Type 0
+On k e a = (e .kind ≡ k) × (e .first ≡ a)
+
+-- the other kinds leave sections, phases, directions and stages as they are
+pub data Done (L : Layout) (s : State) (e : Event) : State → Type 0 where
+  reads : e .kind ≡ 1 → Done L s e (ownSection (L .line) (L .lines) s (e .first) (meant (e .kind) (e .second)))
+  sets : e .kind ≡ 4 → Done L s e (ownSet s (e .first))
+  cancels : e .kind ≡ 5 → Done L s e (ownCancel s (e .first))
+  secures : e .kind ≡ 6 → Done L s e (ownSecure s (e .first) (meant (e .kind) (e .second)))
+  opens : e .kind ≡ 7 → Done L s e (ownManual (L .line) (L .lines) s (e .first))
+  leaves : {t : State} → (e .kind ≢ 1) × (e .kind ≢ 4) × (e .kind ≢ 5) × (e .kind ≢ 6) × (e .kind ≢ 7)
+      → (t .section ≡ s .section) × (t .phase ≡ s .phase) × (t .direction ≡ s .direction) × (t .stage ≡ s .stage) → Done L s e t
+
+pub is-done : (L : Layout) (s : State) (e : Event) → Done L s e (done L s e)
+unfolding own ownPoint ownThrow ownBar withPoints withBars
+is-done L s e =
+    if-both D (eqb k 1) (λ t. reads (eqb-true k 1 t))
+    (λ f1. if-both D (eqb k 2) (λ t. let q = eqb-true k 2 t in leaves (omega arith) (refl, refl, refl, refl))
+    (λ f2. if-both D (eqb k 3) (λ t. let q = eqb-true k 3 t in leaves (omega arith) (refl, refl, refl, refl))
+    (λ f3. if-both D (eqb k 4) (λ t. sets (eqb-true k 4 t))
+    (λ f4. if-both D (eqb k 5) (λ t. cancels (eqb-true k 5 t))
+    (λ f5. if-both D (eqb k 6) (λ t. secures (eqb-true k 6 t))
+    (λ f6. if-both D (eqb k 7) (λ t. opens (eqb-true k 7 t))
+    (λ f7. if-both D (eqb k 8) (λ t. let q = eqb-true k 8 t in leaves (omega arith) (refl, refl, refl, refl))
+    (λ f8. if-both D (eqb k 9) (λ t. let q = eqb-true k 9 t in leaves (omega arith) (refl, refl, refl, refl))
+    (λ f9. leaves (eqb-false k 1 f1, eqb-false k 4 f4, eqb-false k 5 f5, eqb-false k 6 f6, eqb-false k 7 f7) (refl, refl, refl, refl))))))))))
+  where
+    k : ℕ
+    k = e .kind
+
+    D : State → Type 0
+    D = Done L s e
+
+-- ---- sections
+
+-- what an event says of a section: nothing, unless it is a reading of that section; then what is recorded of its code
+pub says-nothing : (e : Event) (g : ℕ) → e .kind ≢ 1 → says e g ≡ 0
+unfolding says _and_
+says-nothing e g d = passed-over _ _ 0 (rw (ne-eqb _ 1 d))
+
+pub says-of-one : (e : Event) (g : ℕ) → says e g ≢ 0 → (e .kind ≡ 1) × (e .first ≡ g)
+unfolding says
+says-of-one e g =
+    if-both (λ n. n ≢ 0 → (e .kind ≡ 1) × (e .first ≡ g)) _ (λ t d. (eqb-true _ 1 (and-left _ _ t), eqb-true _ g (and-right _ _ t))) (λ f d. absurd (d refl))
+
+pub says-other : (e : Event) (g : ℕ) → e .first ≢ g → says e g ≡ 0
+unfolding says
+says-other e g d = passed-over _ _ 0 (fails-from _ (λ t. d (eqb-true _ g (and-right _ _ t))))
+
+pub says-recorded : (e : Event) (g : ℕ) → e .kind ≡ 1 → e .first ≡ g → says e g ≡ recorded (e .second)
+unfolding says recorded _and_
+says-recorded e g k f = chosen _ _ 0 (rw (eq-eqb _ 1 k, eq-eqb _ g f))
+
+pub recorded-is : (b : ℕ) → (1 ≤ recorded b) × (recorded b ≤ 3)
+unfolding recorded
+recorded-is b = if-both R (eqb b 1) (λ t. omega arith) (λ f. if-both R (eqb b 2) (λ t. omega arith) (λ g. omega arith))
+  where
+    R : ℕ → Type 0
+    R n = (1 ≤ n) × (n ≤ 3)
+
+pub meant-reading : (e : Event) → e .kind ≡ 1 → meant (e .kind) (e .second) ≡ recorded (e .second)
+unfolding meant
+meant-reading e k = chosen _ _ _ (le-leb (e .kind) 2 (omega arith))
+
+-- what a section reads then: what was said, or what it read
+pub section-done : (L : Layout) (s : State) (e : Event) (g : ℕ) → g < 64
+    → readings.reading (done L s e .section) g ≡ if eqb (says e g) 0 then readings.reading (s .section) g else says e g
+unfolding ownSection ownSet ownCancel ownSecure ownManual withSections withRoutes withLines readings.reading
+section-done L s e g b = go (is-done L s e)
+  where
+    kept : e .kind ≢ 1 → read 64 3 (s .section) g ≡ if eqb (says e g) 0 then read 64 3 (s .section) g else says e g
+    kept d = sym (chosen _ _ _ (eq-eqb _ 0 (says-nothing e g d)))
+
+    at : e .kind ≡ 1 → Dec (g ≡ e .first)
+        → (if eqb g (e .first) then meant (e .kind) (e .second) else read 64 3 (s .section) g)
+        ≡ if eqb (says e g) 0 then read 64 3 (s .section) g else says e g
+    at k (yes q) =
+        let told = says-recorded e g k (sym q) in
+        let some = recorded-is (e .second) in
+        chosen _ _ _ (eq-eqb _ _ q) ∙ meant-reading e k ∙ sym told ∙ sym (passed-over _ _ _ (ne-eqb (says e g) 0 (omega arith)))
+    at k (no d) = passed-over _ _ _ (ne-eqb _ _ d) ∙ sym (chosen _ _ _ (eq-eqb _ 0 (says-other e g (λ q. d (sym q)))))
+
+    go : {t : State} → Done L s e t
+        → read 64 3 (t .section) g ≡ if eqb (says e g) 0 then read 64 3 (s .section) g else says e g
+    go (reads k) = read-put 64 3 (s .section) (e .first) _ g b ∙ at k (ℕ-discrete g (e .first))
+    go (sets k) = kept (omega arith)
+    go (cancels k) = kept (omega arith)
+    go (secures k) = kept (omega arith)
+    go (opens k) = kept (omega arith)
+    go (leaves d u) = rw (u .0) (kept (d .0))
+
+-- ---- routes
+
+-- only a signal at proceed can fall, and one that still shows proceed had all that keeps it there
+module _ (L : Layout) (s : State) (r was : ℕ) where
+  pub fallen-else : was ≢ 1 → fallenAt (L .line) (L .route) s r was ≡ was
+  unfolding fallenAt fallen
+  fallen-else d = passed-over _ _ _ (ne-eqb was 1 d)
+
+  fallen-not : fallenAt (L .line) (L .route) s r was ≡ 1 → clear (L .line) (s .section) (s .point) (s .stage) (s .bar) (routeIn L r) ≡ true
+  unfolding fallenAt fallen routeIn
+  fallen-not = if-both R (eqb was 1) (λ t. if-both R _ (λ c z. c) (λ c z. absurd (omega arith))) (λ f z. absurd (eqb-false _ _ f z))
+    where
+      R : ℕ → Type 0
+      R n = n ≡ 1 → clear (L .line) (s .section) (s .point) (s .stage) (s .bar) (routeIn L r) ≡ true
+
+-- letting routes go makes a route idle, or leaves its phase
+let-go : (L : Layout) (s : State) (g : Gives) (r : ℕ) → unlessIdle s r (phase s r) (routeAfter (L .line) (L .route) s g r .phase) ≢ 0
+    → unlessIdle s r (phase s r) (routeAfter (L .line) (L .route) s g r .phase) ≡ phase s r
+unfolding unlessIdle routeAfter heldAfter heldOf
+let-go L s g r =
+    if-both (λ n. n ≢ 0 → n ≡ phase s r) _ (λ t d. refl)
+    (λ f. if-both (λ (h : Held). h .phase ≢ 0 → h .phase ≡ phase s r) _ (λ t d. absurd (d refl)) (λ t d. refl))
+
+module _ (L : Layout) (few : L .routes ≤ 48) (s : State) (e : Event) (r : ℕ) (b : r < L .routes) where
+  pub phase-lit : phase (lit L s e) r ≡ fallenAt (L .line) (L .route) (done L s e) r (phase (done L s e) r)
+  unfolding signals withRoutes
+  phase-lit = read-each 48 0 (L .routes) _ _ r (omega arith) b
+
+  -- by the end of the event a route is idle, or in the phase that its signal left it in
+  pub phase-kept : phase (end L s e) r ≢ 0 → phase (end L s e) r ≡ phase (lit L s e) r
+  unfolding after settle lineRelease withLines routes routesBy withRoutes farSections
+  phase-kept = rw (read-each 48 0 (L .routes) _ (lit L s e .phase) r (omega arith) b) (let-go L (farSections L s (lit L s e)) _ r)
+
+  -- a route whose signal is not at proceed after the event's own effect goes, or keeps its phase
+  pub phase-stays : phase (done L s e) r ≢ 1
+      → (phase (end L s e) r ≡ 0) ⊎ (phase (end L s e) r ≡ phase (done L s e) r)
+  phase-stays d = go (ℕ-discrete (phase (end L s e) r) 0)
+    where
+      go : Dec (phase (end L s e) r ≡ 0) → (phase (end L s e) r ≡ 0) ⊎ (phase (end L s e) r ≡ phase (done L s e) r)
+      go (yes z) = inl z
+      go (no z) = inr (phase-kept z ∙ phase-lit ∙ fallen-else L (done L s e) r _ d)
+
+  -- a signal that shows proceed at the end had after the event's own effect all that keeps it there
+  pub phase-clear : phase (end L s e) r ≡ 1
+      → clear (L .line) (done L s e .section) (done L s e .point) (done L s e .stage) (done L s e .bar) (routeIn L r) ≡ true
+  phase-clear p = fallen-not L (done L s e) r _ (sym phase-lit ∙ sym (phase-kept (omega arith)) ∙ p)
+
+  -- a route that is locked at the end was locked before, or is set by the event
+  pub was-locked : (e .kind ≡ 5 → phase s (e .first) ≢ 0) → phase (end L s e) r ≢ 0
+      → On 4 e r ⊎ (phase s r ≢ 0)
+  unfolding ownSection ownSet ownCancel ownSecure ownManual withSections withRoutes withLines
+  was-locked cancelled d = go (is-done L s e) own-locked
+    where
+      own-locked : phase (done L s e) r ≢ 0
+      own-locked z = d (phase-kept d ∙ phase-lit ∙ fallen-else L (done L s e) r _ (omega arith) ∙ z)
+
+      stored : (v : ℕ) → (e .first ≡ r → On 4 e r ⊎ (phase s r ≢ 0)) → Dec (r ≡ e .first)
+          → read 48 0 (put 48 (s .phase) (e .first) v) r ≢ 0 → On 4 e r ⊎ (phase s r ≢ 0)
+      stored v here (yes q) x = here (sym q)
+      stored v here (no q) x = inr (λ z. x (read-put 48 0 (s .phase) (e .first) v r (omega arith) ∙ passed-over _ _ _ (ne-eqb r _ q) ∙ z))
+
+      go : {t : State} → Done L s e t → phase t r ≢ 0
+          → On 4 e r ⊎ (phase s r ≢ 0)
+      go (reads k) x = inr x
+      go (sets k) x = stored 1 (λ q. inl (k, q)) (ℕ-discrete r (e .first)) x
+      go (cancels k) x = stored 3 (λ q. inr (λ z. cancelled k (ap (phase s) q ∙ z))) (ℕ-discrete r (e .first)) x
+      go (secures k) x = inr x
+      go (opens k) x = inr x
+      go (leaves f u) x = inr (λ z. x (rw (u .1) z))
+
+-- ---- lines
+
+module _ (L : Layout) (few : L .lines ≤ 8) (s : State) (e : Event) (l : ℕ) (b : l < L .lines) where
+  -- neither secured nor released by hand
+  pub direction-same : ¬ On 6 e l → ¬ On 7 e l → direction (done L s e) l ≡ direction s l
+  unfolding ownSection ownSet ownCancel ownSecure ownManual withSections withRoutes withLines
+  direction-same n m = go (is-done L s e)
+    where
+      elsewhere : (v : ℕ) → (e .first ≡ l → ⊥) → read 8 0 (put 8 (s .direction) (e .first) v) l ≡ direction s l
+      elsewhere v d = read-put 8 0 (s .direction) (e .first) v l (omega arith) ∙ passed-over _ _ _ (ne-eqb l _ (λ z. d (sym z)))
+
+      go : {t : State} → Done L s e t → direction t l ≡ direction s l
+      go (reads k) = refl
+      go (sets k) = refl
+      go (cancels k) = refl
+      go (secures k) = elsewhere _ (λ q. n (k, q))
+      go (opens k) = elsewhere _ (λ q. m (k, q))
+      go (leaves f u) = rw (u .2) refl
+
+  -- by the end of the event the line is as its own effect left it, or the line release made it neutral
+  pub released : (direction (end L s e) l ≡ direction (done L s e) l)
+      ⊎ ((direction (end L s e) l ≡ 0) × (ends L s (moved L s e) l (direction (done L s e) l) ≡ true))
+  unfolding after settle lineRelease withLines routes routesBy withRoutes farSections signals directionAfter
+  released =
+      rw (read-each 8 0 (L .lines) _ (done L s e .direction) l (omega arith) b)
+      (if-both R _ (λ t. inl refl) (λ f. if-both R _ (λ t. inr (refl, t)) (λ t. inl refl)))
+    where
+      R : ℕ → Type 0
+      R n = (n ≡ direction (done L s e) l) ⊎ ((n ≡ 0) × (ends L s (moved L s e) l (direction (done L s e) l) ≡ true))
+
+  -- a line with a held block does not become neutral by itself
+  pub direction-held : (i : ℕ) → i < lineIn L l .blocks → stage (end L s e) l i ≢ 0
+      → direction (end L s e) l ≡ direction (done L s e) l
+  unfolding after settle lineRelease withLines ends passable isOpen lineIn
+  direction-held i h d = ⊎-elim (λ q. q) (λ t. absurd (d (eqb-true _ 0 (and-left _ _ (all-at _ _ (every-at _ (t .1) 1) i h))))) released
+
+  -- nor does one with an exit route locked
+  pub direction-locked : (r : ℕ) → r < L .routes → routeIn L r .kind ≡ 2 → routeIn L r .line ≡ l → phase (end L s e) r ≢ 0
+      → direction (end L s e) l ≡ direction (done L s e) l
+  unfolding after settle lineRelease withLines ends exitLocked exitLockedBy routeIn
+  direction-locked r h k q d = ⊎-elim (λ z. z) (λ t. not-both locked (not-true _ (every-at _ (t .1) 2))) released
+    where
+      locked : any (L .routes) (exitLocked (L .route) (end L s e .phase) l) ≡ true
+      locked = any-at _ _ r h (and-both _ _ (fails-not _ (ne-eqb _ 0 d)) (and-both _ _ (eq-eqb _ 2 k) (eq-eqb _ l q)))

@@ -1,0 +1,105 @@
+-- A run, told by its history: each event, the number of its answer, and what showed after it. What is told of a history looks at nothing else.
+use Prim.Native.Nat.{ℕ}
+use mathlib.Core.Path.{_≡_}
+use mathlib.Core.Logic.{_⊎_}
+use mathlib.Core.List.{List, [], _∷_}
+use lib.Dec.{eqb}
+use Rattle.laws.specs.Choice.{if_then_else_}
+use Rattle.laws.specs.Tests.{_and_}
+use Rattle.layout.specs.declared.Layout.{Layout}
+use Rattle.interlocking.specs.declared.State.{State}
+use Rattle.interlocking.specs.declared.Answer.{Answer}
+use Rattle.interlocking.specs.State.{cold}
+use Rattle.interlocking.specs.Step.{step}
+use Rattle.step_facts.specs.Run.{Event}
+use Rattle.safety.specs.Shown.{Panel, panel}
+
+-- ---- moments
+
+-- one event of a run: kind, first, second; the number of its answer, 0 where it was accepted; what shows after it
+pub record Moment : Type 0 where
+  pub event : Event
+  pub number : ℕ
+  pub shows : Panel
+
+-- the moments of a run, newest first: m ∷ h is the history h and then the moment m, [] the cold start
+abbrev pub History : Type 0
+History = List Moment
+
+-- ---- readings (section 1)
+
+-- what an event gives a section: nothing, or a reading
+abbrev pub nothing : ℕ
+nothing = 0
+
+abbrev pub free : ℕ
+free = 1
+
+abbrev pub occupied : ℕ
+occupied = 2
+
+abbrev pub none : ℕ
+none = 3
+
+-- what an event says of section g: kind 1 is a reading of the section that it names first; code 1 is free, 2 is occupied, every other code is none
+unfoldable pub says : Event → ℕ → ℕ
+says e g =
+    if eqb (e .kind) 1 and eqb (e .first) g then (if eqb (e .second) 1 then free else if eqb (e .second) 2 then occupied else none) else nothing
+
+-- what it gave section g: only an accepted event, answered by 0, gives
+unfoldable pub gave : Moment → ℕ → ℕ
+gave m g = if eqb (m .number) 0 then says (m .event) g else nothing
+
+-- what section g reads: what was last given; none at the cold start
+unfoldable pub reading : ℕ → History → ℕ
+reading g [] = none
+reading g (m ∷ h) = if eqb (gave m g) nothing then reading g h else gave m g
+
+-- ---- what showed, and what was done
+
+-- what shows at the end of a history: after the last event, or at the cold start
+unfoldable pub shown : Layout → History → Panel
+shown L [] = panel L cold
+shown L (m ∷ h) = m .shows
+
+-- a manual release of line l was accepted
+abbrev pub Releases : ℕ → Moment → Type 0
+Releases l m = (m .number ≡ 0) × (m .event .kind ≡ 7) × (m .event .first ≡ l)
+
+-- ---- earlier and later
+
+-- one of these events is as P says
+unfoldable pub Sometime : (Moment → Type 0) → History → Type 0
+Sometime P [] = ⊥
+Sometime P (m ∷ h) = P m ⊎ Sometime P h
+
+-- an event was as `Began` says, of it and of what was before it, and every later one was as `Kept` says
+unfoldable pub Since : (Moment → History → Type 0) → (Moment → Type 0) → History → Type 0
+Since Began Kept [] = ⊥
+Since Began Kept (m ∷ h) = Began m h ⊎ (Kept m × Since Began Kept h)
+
+-- the events since section g last did not read free: it has read free ever since
+unfoldable pub sinceSpell : ℕ → History → History
+sinceSpell g [] = []
+sinceSpell g (m ∷ h) = if eqb (reading g (m ∷ h)) free then m ∷ sinceSpell g h else []
+
+-- the history before those: it ends with the last spell of not reading free, and the next event is the free reading that ended that spell. The cold
+-- start counts as a spell
+unfoldable pub untilSpell : ℕ → History → History
+untilSpell g [] = []
+untilSpell g (m ∷ h) = if eqb (reading g (m ∷ h)) free then untilSpell g h else m ∷ h
+
+-- ---- runs
+
+-- the moment of an event and its answer
+unfoldable pub moment : Layout → Event → Answer → Moment
+moment L e a = record { event = e; number = a .number; shows = panel L (a .next) }
+
+-- a history that goes on from state s through a list of events
+unfoldable pub goesOn : Layout → State → History → List Event → History
+goesOn L s h [] = h
+goesOn L s h (e ∷ es) = let a = step L s (e .kind) (e .first) (e .second) in goesOn L (a .next) (moment L e a ∷ h) es
+
+-- the history of a list of events from the cold start
+unfoldable pub history : Layout → List Event → History
+history L es = goesOn L cold [] es
