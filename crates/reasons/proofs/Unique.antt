@@ -37,86 +37,86 @@ refuse-determined κs a r q s = only
 pub when-refused-determined : Determines when-refused.Post
 when-refused-determined κs a r q s = only
 
--- 5
+-- 5: a conflicting route is locked
 pub conflicting-determined : Determines conflicting.Post
 conflicting-determined κs a r q s = only
 
--- 15
+-- 15: a locked route lists the point
 pub by-route-determined : Determines by-route.Post
 by-route-determined κs a r q s = only
 
--- 16
+-- 16: a secured line lists the point
 pub by-line-determined : Determines by-line.Post
 by-line-determined κs a r q s = only
 
--- 17
+-- 17: an exit route is locked
 pub exit-locked-determined : Determines exit-locked.Post
 exit-locked-determined κs a r q s = only
 
--- 11, of a line's blocks
+-- 11: a block of a line is barred
 pub block-barred-determined : Determines block-barred.Post
 block-barred-determined κs a r q s = only
 
--- 10, of a line's blocks
+-- 10: a block of a line is held
 pub block-held-determined : Determines block-held.Post
 block-held-determined κs a r q s = only
 
--- 6, of a line's points
+-- 6: a line's point is not read in position
 pub line-not-placed-determined : Determines line-not-placed.Post
 line-not-placed-determined κs a r q s = only
 
--- 6, of a route's points
+-- 6: a route's point is not read in position
 pub route-not-placed-determined : Determines route-not-placed.Post
 route-not-placed-determined κs a r q s = only
 
--- 7 and 8, of a route's path and overlap
+-- 7, 8: a section of a path or an overlap does not read free
 pub route-not-free-determined : Determines route-not-free.Post
 route-not-free-determined κs a r q s = only
 
--- 7 and 8, of a point's section
+-- 7, 8: a point's section does not read free
 pub point-not-free-determined : Determines point-not-free.Post
 point-not-free-determined κs a r q s = only
 
--- 7 and 8, of a line's blocks
+-- 7, 8: a block does not read free
 pub line-not-free-determined : Determines line-not-free.Post
 line-not-free-determined κs a r q s = only
 
--- 4
+-- 4: the route is locked
 pub already-locked-determined : Determines already-locked.Post
 already-locked-determined κs a r q s = only
 
--- 13
+-- 13: the route is not locked
 pub not-locked-determined : Determines not-locked.Post
 not-locked-determined κs a r q s = only
 
--- 14
+-- 14: the route is cancelling
 pub already-cancelling-determined : Determines already-cancelling.Post
 already-cancelling-determined κs a r q s = only
 
--- 9
+-- 9: the line is not secured that way
 pub not-secured-determined : Determines not-secured.Post
 not-secured-determined κs a r q s = only
 
--- 12
+-- 12: the line is secured
 pub already-secured-determined : Determines already-secured.Post
 already-secured-determined κs a r q s = only
 
--- 11, of the block entered
+-- 11: the block entered is barred
 pub entered-barred-determined : Determines entered-barred.Post
 entered-barred-determined κs a r q s = only
 
--- 10, of the block entered
+-- 10: the block entered is held
 pub entered-held-determined : Determines entered-held.Post
 entered-held-determined κs a r q s = only
 
--- 1
+-- 1: the kind is unknown
 pub unknown-kind-determined : Determines unknown-kind.Post
 unknown-kind-determined κs a r q s = only
 
--- 2
+-- 2: there is no such object
 pub no-such-object-determined : Determines no-such-object.Post
 no-such-object-determined κs a r q s = only
 
--- 3
+-- 3: the second number is wrong
 pub wrong-second-determined : Determines wrong-second.Post
 wrong-second-determined κs a r q s = only

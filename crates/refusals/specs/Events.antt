@@ -8,6 +8,7 @@ use Rattle.track.specs.Lists.{between}
 use Rattle.layout.specs.declared.Layout.{Layout}
 use Rattle.reasons.specs.declared.Refusal.{Refusal}
 use Rattle.reasons.specs.Refusal.{when, firstOf}
+-- how many objects of a kind there are, and when the second number is wrong
 unfoldable pub use Rattle.reasons.specs.Kinds.{objects, secondWrong}
 
 -- 18 unless layout and state are sound, 1 for an unknown kind, 2 for no such object, 3 for a wrong second number

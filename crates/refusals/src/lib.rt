@@ -180,10 +180,10 @@ pub fn manual_refusal<'a>(
 ) -> Refusal
     ensures { λ r. ⌜ r ≡ manualRefusal plan (now (sections .entry)) (now (phases .entry)) l ⌝ }
 {
+    let ls = plan.line;
     let route = reasons::exit_locked(plan, phases, l);
     if route.number != 0 {
         return route;
     }
-    let ls = plan.line;
     reasons::line_not_free(ls, sections, l)
 }
