@@ -1,0 +1,87 @@
+-- The image from its parts, its length, and what is answered.
+use Prim.Native.Nat.{ℕ, _+_, _<_, _≤_}
+use mathlib.Core.Path.{_≡_, sym, ap, _∙_}
+use mathlib.Core.List.{List, _++_, append-assoc}
+use native.Mathlib.Omega.{arith}
+use borrow.Author.Tests.{lt-ltb}
+use lib.ListN.{length, getD, length-append}
+use lib.Seq.{sets, ext-getD}
+use Rattle.laws.specs.Choice.{if_then_else_}
+use Rattle.laws.specs.Tables.{table, read}
+use Rattle.laws.proofs.Tables.{length-table, table-at}
+use Rattle.signals.specs.Readings.{reading, lies}
+use Rattle.layout.specs.declared.Layout.{Layout}
+use Rattle.interlocking.specs.declared.State.{State}
+use Rattle.panel.specs.Panel.{join, signalByte, routeByte, lineBytes, image, panelLength}
+use Rattle.panel.specs.Writes.{Wrote, Within, readingBytes, objectBytes}
+use Rattle.panel.proofs.Blocks.{length-lines}
+use Rattle.panel.proofs.Writes.{wrote-then}
+
+-- ---- tables, as the code copies them
+
+-- two tables of n whose entries agree
+table-same : (n : ℕ) (f g : ℕ → ℕ) → ((k : ℕ) → k < n → f k ≡ g k) → table n f ≡ table n g
+table-same n f g h =
+    ext-getD 0 (table n f) (table n g) (length-table n f ∙ sym (length-table n g)) (λ k b.
+    let c : length (table n f) ≡ n = length-table n f in
+    table-at n f 0 k (omega arith) ∙ h k (omega arith) ∙ sym (table-at n g 0 k (omega arith)))
+
+-- the first n entries of a table of m
+table-read : (g : ℕ → ℕ) (n m d : ℕ) (xs : List ℕ) → n ≤ m → table n (λ i. g (getD xs i 0)) ≡ table n (λ i. g (read m d xs i))
+unfolding read if_then_else_
+table-read g n m d xs b = table-same n _ _ (λ k c. rw (lt-ltb k m (omega arith)))
+
+-- the first n entries of a table that was made
+table-made : (n m : ℕ) (f : ℕ → ℕ) (xs : List ℕ) → xs ≡ table m f → n ≤ m → table n (λ i. getD xs i 0) ≡ table n f
+table-made n m f xs e b = table-same n _ _ (λ k c. ap (λ (ys : List ℕ). getD ys k 0) e ∙ table-at m f 0 k (omega arith))
+
+-- the place after a table
+pub table-next : (n : ℕ) (f : ℕ → ℕ) {a b : List ℕ} {k m : ℕ} → Wrote a k (table n f) b m → m ≡ k + n
+table-next n f {k = k} p = p .place ∙ ap (λ w. k + w) (length-table n f)
+
+-- ---- the parts of the image
+
+module _ (L : Layout) (s : State) (w : Within L) where
+  pub readings-made : (a b c : List ℕ) (k m : ℕ) → Wrote a 0 (table (L .sections) (λ i. getD (s .section) i 0)) b k
+      → Wrote b k (table (L .points) (λ i. getD (s .point) i 0)) c m → Wrote a 0 (readingBytes L s) c m
+  unfolding readingBytes reading lies
+  readings-made a b c k m p q =
+      rw (← table-read (λ x. x) (L .sections) 64 3 (s .section) (w .sections), ← table-read (λ x. x) (L .points) 32 3 (s .point) (w .points)) (wrote-then p q)
+
+  pub objects-made : (a b c e shown : List ℕ) (k m i j : ℕ) → shown ≡ table 32 (signalByte (L .routes) (L .route) (s .phase))
+      → Wrote a k (table (L .signals) (λ x. getD shown x 0)) b m → Wrote b m (table (L .routes) (λ r. routeByte (getD (s .phase) r 0))) c i
+      → Wrote c i (table (L .lines) (λ l. getD (s .direction) l 0)) e j → Wrote a k (objectBytes L s) e j
+  unfolding objectBytes
+  objects-made a b c e shown k m i j q f g h =
+      rw (
+        ← table-made (L .signals) 32 _ shown q (w .signals),
+        ← table-read routeByte (L .routes) 48 0 (s .phase) (w .routes),
+        ← table-read (λ x. x) (L .lines) 8 0 (s .direction) (w .lines),
+      ) (wrote-then (wrote-then f g) h)
+
+-- ---- the places after them
+
+module _ (L : Layout) (s : State) {a b : List ℕ} {k m : ℕ} where
+  pub readings-next : Wrote a k (readingBytes L s) b m → m ≡ k + (L .sections + L .points)
+  unfolding readingBytes
+  readings-next p = p .place ∙ ap (λ w. k + w) (simp (length-append, length-table))
+
+  pub objects-next : Wrote a k (objectBytes L s) b m → m ≡ k + (L .signals + L .routes + L .lines)
+  unfolding objectBytes
+  objects-next p = p .place ∙ ap (λ w. k + w) (simp (length-append, length-table))
+
+-- ---- the whole
+
+-- the image from its parts
+image-parts : (L : Layout) (s : State) → readingBytes L s ++ objectBytes L s ++ join (L .lines) (lineBytes (L .line) (s .direction) (s .point) (s .stage) (s .bar)) ≡ image L s
+unfolding image readingBytes objectBytes
+image-parts L s = simp append-assoc
+
+pub image-made : (L : Layout) (s : State) (a b c e : List ℕ) (k m n : ℕ) → Wrote a 0 (readingBytes L s) b k → Wrote b k (objectBytes L s) c m
+    → Wrote c m (join (L .lines) (lineBytes (L .line) (s .direction) (s .point) (s .stage) (s .bar))) e n → e ≡ sets a 0 (image L s)
+image-made L s a b c e k m n p q r = wrote-then (wrote-then p q) r .buffer ∙ ap (λ xs. sets a 0 xs) (image-parts L s)
+
+-- the image has as many bytes as the layout says, sound or not
+pub length-image : (L : Layout) (s : State) → length (image L s) ≡ panelLength L
+unfolding image panelLength
+length-image L s = simp (length-append, length-table, length-lines)

@@ -1,0 +1,80 @@
+-- Bytes written one after the other into a buffer.
+use Prim.Native.Nat.{ℕ, zero, suc, _+_, _≤_}
+use mathlib.Core.Path.{_≡_, refl, sym, ap, ap₂, _∙_}
+use mathlib.Core.List.{List, [], _∷_, _++_}
+use native.Mathlib.Nat.{add-zero, add-suc, suc-add, zero-add, add-assoc}
+use native.Mathlib.Numerals.{add-one}
+use native.Mathlib.Omega.{arith}
+use borrow.Author.Needs.{needs}
+use lib.ListN.{length, set, length-append}
+use lib.Seq.{sets, length-sets}
+use Rattle.laws.specs.Tables.{tableFrom, table}
+use Rattle.panel.specs.Panel.{join}
+use Rattle.panel.specs.Writes.{Wrote}
+
+-- ---- tables and runs of bytes that grow by one
+
+from-more : (k i : ℕ) (f : ℕ → ℕ) → tableFrom i (suc k) f ≡ tableFrom i k f ++ (f (i + k) ∷ [])
+unfolding tableFrom
+from-more zero i f = ap (λ m. f m ∷ []) (sym (add-zero i))
+from-more (suc k) i f =
+    ap (λ xs. f i ∷ xs) (from-more k (suc i) f ∙ ap (λ m. tableFrom (suc i) k f ++ (f m ∷ [])) (suc-add i k ∙ sym (add-suc i k)))
+
+table-more : (n : ℕ) (f : ℕ → ℕ) → table (n + 1) f ≡ table n f ++ (f n ∷ [])
+unfolding table
+table-more n f = rw add-one (from-more n 0 f ∙ ap (λ m. tableFrom 0 n f ++ (f m ∷ [])) (zero-add n))
+
+join-more : (n : ℕ) (f : ℕ → List ℕ) → join (n + 1) f ≡ join n f ++ f n
+unfolding join
+join-more n f = rw (add-one, join)
+
+-- ---- what is written after what was written
+
+sets-append : (xs ys l : List ℕ) (i : ℕ) → sets (sets l i xs) (i + length xs) ys ≡ sets l i (xs ++ ys)
+sets-append [] ys l i = ap (λ k. sets l k ys) (add-zero i)
+sets-append (x ∷ xs) ys l i =
+    ap (λ k. sets (sets (set l i x) (suc i) xs) k ys) (add-suc i (length xs) ∙ sym (suc-add i (length xs))) ∙ sets-append xs ys (set l i x) (suc i)
+
+module _ {a : List ℕ} {k : ℕ} where
+  -- nothing; one byte; one run of bytes after another
+  wrote-none : Wrote a k [] a k
+  wrote-none = record { buffer = refl; place = sym (add-zero k) }
+
+  pub wrote-one : (x : ℕ) → Wrote a k (x ∷ []) (set a k x) (k + 1)
+  wrote-one x = record { buffer = refl; place = refl }
+
+  pub wrote-then : {xs ys b c : List ℕ} {m n : ℕ} → Wrote a k xs b m → Wrote b m ys c n → Wrote a k (xs ++ ys) c n
+  wrote-then {xs} {ys} p q = record {
+    buffer = q .buffer ∙ ap₂ (λ l i. sets l i ys) (p .buffer) (p .place) ∙ sets-append xs ys a k;
+    place = q .place ∙ ap (λ i. i + length ys) (p .place) ∙ add-assoc k (length xs) (length ys) ∙ ap (λ i. k + i) (sym (length-append xs ys));
+  }
+
+  -- a buffer keeps its length
+  pub wrote-length : {xs b : List ℕ} {m : ℕ} → Wrote a k xs b m → length b ≡ length a
+  wrote-length {xs} p = ap length (p .buffer) ∙ length-sets a k xs
+
+-- ---- loops that write a byte, or a run of bytes, in each turn
+
+module _ (f : ℕ → ℕ) (a : List ℕ) (k : ℕ) where
+  pub table-start : Wrote a k (table 0 f) a k
+  unfolding table tableFrom
+  table-start = wrote-none
+
+  pub table-on : (b : List ℕ) (m i v : ℕ) → Wrote a k (table i f) b m → v ≡ f i → Wrote a k (table (i + 1) f) (set b m v) (m + 1)
+  table-on b m i v p e = rw (table-more i f, ← e) (wrote-then p (wrote-one v))
+
+  pub table-end : (b : List ℕ) (m i n : ℕ) → Wrote a k (table i f) b m → i ≤ n → n ≤ i → Wrote a k (table n f) b m
+  table-end b m i n p g h = let e : n ≡ i = omega arith in rw e p
+
+module _ (f : ℕ → List ℕ) (a : List ℕ) (k : ℕ) where
+  pub join-start : Wrote a k (join 0 f) a k
+  unfolding join
+  join-start = wrote-none
+
+  pub join-on : (b c : List ℕ) (m n i : ℕ) → Wrote a k (join i f) b m → Wrote b m (f i) c n → Wrote a k (join (i + 1) f) c n
+  join-on b c m n i p q = rw (join-more i f) (wrote-then p q)
+
+  pub join-end : (b : List ℕ) (m i n : ℕ) → Wrote a k (join i f) b m → i ≤ n → n ≤ i → Wrote a k (join n f) b m
+  join-end b m i n p g h = let e : n ≡ i = omega arith in rw e p
+
+pub ruleset writes = (needs, table-start, table-on, table-end, join-start, join-on, join-end)

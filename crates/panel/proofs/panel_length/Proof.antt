@@ -1,0 +1,19 @@
+-- The counts and the blocks, added up.
+use native.Mathlib.Omega.{arith}
+use borrow.Author.Needs.{needs}
+use Rattle.panel.specs.Panel.{panelLength}
+use Rattle.panel.proofs.panel_length.Statement.{statement}
+use Rattle.panel.proofs.panel_length.Tie as tie
+
+mul-result : tie.Need-mul-result
+mul-result c = record { fits = omega (arith, c .before .before .before .before .before .count-blocks .ensures .1) }
+
+add-result-4 : tie.Need-add-result-4
+add-result-4 c = record { fits = omega (arith, c .before .before .before .before .before .count-blocks .ensures .1) }
+
+returns : tie.Need-returns
+unfolding panelLength
+returns c = omega (arith, c .before .before .before .before .before .count-blocks .ensures .0)
+
+pub panel-length-spec : {M : Type 1} → statement M
+panel-length-spec = tie.close (tie.spec (λ c κs. search needs) (λ c. search needs) (λ c. search needs) (λ c. search needs) (λ c. search needs) (λ c. search needs) (λ c. search needs) (λ c. search needs) (λ c. search needs) (λ c. search needs) mul-result add-result-4 returns)
