@@ -14,13 +14,13 @@ use std::time::Instant;
 
 extern "C" {
     // The answer in the lowest byte, then 16 bits of the detail, then the overlap section at a place of a route.
-    fn hiruketawha_load(bytes: *const u8, length: usize, route: u8, place: u8) -> u64;
+    fn load_bench_answer(bytes: *const u8, length: usize, route: u8, place: u8) -> u64;
 }
 
 /// What the box answers, with an overlap section of its layout.
 fn by_box(file: &[u8], route: u8, place: u8) -> u64 {
     // SAFETY: the library reads these bytes during the call and keeps nothing.
-    unsafe { hiruketawha_load(file.as_ptr(), file.len(), route, place) }
+    unsafe { load_bench_answer(file.as_ptr(), file.len(), route, place) }
 }
 
 /// The same by the peer.

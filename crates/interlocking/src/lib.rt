@@ -18,6 +18,7 @@ ghost use Rattle.interlocking.specs.Step.{step, stepInRun};
 // A code for each section, point, route, line and block. section, point: 1 free or left, 2 occupied or right, 3 none. order: 0 none, 1, 2.
 // phase: 0 idle, 1 locked and its signal at proceed, 2 locked and fallen, 3 cancelling. direction: 0 neutral, 1 A to B, 2 B to A.
 // stage and bar stand at 8 * line + block; stage: 0 open, 1 2 3 held in stage 0 1 2.
+#[repr(C)]
 pub struct State {
     pub section: [u8; 64],
     pub point: [u8; 32],

@@ -16,6 +16,7 @@ ghost use Rattle.layout.specs.Load.{refused, finished, load};
 
 // conflict: 1 at 48 * i + j where the routes i and j conflict, else 0.
 // Entries past a count are not looked at; in a layout that was loaded they are 0.
+#[repr(C)]
 pub struct Layout {
     pub sections: u8,
     pub points: u8,
@@ -36,7 +37,7 @@ pub struct Loaded {
 }
 
 // The layout with no objects.
-fn no_layout() -> Layout
+pub fn no_layout() -> Layout
     ensures { λ r. ⌜ r ≡ noLayout ⌝ }
 {
     let pointsection = reading::no_sections();

@@ -26,7 +26,7 @@ fn pack(number: u8, detail: usize, section: u8) -> u64
 
 // What loading a file answers, with an overlap section of the layout, so that the layout is made and not only judged.
 #[no_mangle]
-pub extern "C" fn hiruketawha_load(bytes: &[u8], r: u8, place: u8) -> u64
+pub extern "C" fn load_bench_answer(bytes: &[u8], r: u8, place: u8) -> u64
     ensures { λ a. ⌜ a ≡ packed (load (now (bytes .entry))) r place ⌝ }
 {
     let loaded = layout::load(bytes);

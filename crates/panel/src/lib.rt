@@ -12,6 +12,7 @@ ghost use Rattle.panel.specs.Panel.{image, panelLength, answer, drawn};
 ghost use Rattle.panel.specs.Writes.{Within};
 
 // The answer to a request for the image: 0 and how many bytes it has; 18 or 27 and 0.
+#[repr(C)]
 pub struct Drawn {
     pub number: u8,
     pub length: usize,

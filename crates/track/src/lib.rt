@@ -10,6 +10,7 @@ ghost use Rattle.track.specs.Ranges.{placed, lineFits, routeFits};
 
 // A line: its blocks from end A to end B, the inner section and the entrance signal at each end, its points with their positions.
 // Entries past a count are not looked at; in a layout that was loaded they are 0.
+#[repr(C)]
 pub struct Line {
     pub blocks: u8,
     pub block: [u8; 8],
@@ -23,6 +24,7 @@ pub struct Line {
 }
 
 // A route: kind 0 inner, 1 entrance, 2 exit; end 0 is A, 1 is B; path in order of travel.
+#[repr(C)]
 pub struct Route {
     pub entry: u8,
     pub kind: u8,

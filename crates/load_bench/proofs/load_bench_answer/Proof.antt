@@ -1,0 +1,6 @@
+use borrow.Author.Needs.{needs}
+use Rattle.load_bench.proofs.load_bench_answer.Statement.{statement}
+use Rattle.load_bench.proofs.load_bench_answer.Tie as tie
+
+pub load-bench-answer-spec : {M : Type 1} → statement M
+load-bench-answer-spec = tie.close (tie.spec (λ c κs. search needs) (λ c κs. search needs) (λ c κs. search needs) (λ c. cc))
