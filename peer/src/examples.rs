@@ -19,7 +19,7 @@ pub fn needed_pairs(routes: &[Route]) -> Vec<(usize, usize)> {
 }
 
 // Eight different points of 32, counted on from `first`, each in the position that the rule gives it.
-fn eight_points(first: usize, position: impl Fn(usize) -> usize) -> Vec<(usize, u8)> {
+pub fn eight_points(first: usize, position: impl Fn(usize) -> usize) -> Vec<(usize, u8)> {
     let point = |k: usize| (first + 5 * k) % 32;
     (0..8).map(|k| (point(k), 1 + (position(point(k)) % 2) as u8)).collect()
 }
@@ -31,7 +31,7 @@ fn four_sections(first: usize) -> Vec<usize> {
 
 // Eight lines, their blocks numbered last, and for each of their 16 ends an entrance, an exit and an inner route of full size.
 // `way` gives a line's eight path sections from its inner section at A to the one at B.
-fn full(blocks: usize, way: impl Fn(usize, usize) -> Vec<usize>, position: impl Fn(usize, usize) -> usize) -> Layout {
+pub fn full(blocks: usize, way: impl Fn(usize, usize) -> Vec<usize>, position: impl Fn(usize, usize) -> usize) -> Layout {
     let mut l = Layout { nsec: 64, own: (0..32).map(|p| 63 - 2 * p).collect(), nsig: 32, ..Layout::default() };
     for line in 0..8 {
         let first = 64 - 8 * blocks + line * blocks;

@@ -1,11 +1,16 @@
+mod bench;
 mod cases;
 mod examples;
 mod fuzz;
+mod hand_cases;
 mod layout;
 mod lbox;
 mod num;
 mod number_cases;
+mod records;
 mod rule_cases;
+mod run_cases;
+mod runs;
 
 use std::io::Write;
 
@@ -141,9 +146,13 @@ fn main() {
         }
         ["layouts", data, expected] => store(data, expected, 1),
         ["layouts", data, expected, seed] => store(data, expected, seed.parse().expect("a number")),
+        ["runs", data, expected] => runs::store(data, expected, 1),
+        ["runs", data, expected, seed] => runs::store(data, expected, seed.parse().expect("a number")),
+        ["bench", l, prefix, e, turns] => writeln!(out, "{}", bench::play(l, prefix, e, turns.parse().expect("a number"))).unwrap(),
+        ["bench-files", folder] => bench::files(folder),
         ["answers", data] => out.write_all(cases::answers(&slurp(data)).as_bytes()).unwrap(),
         _ => {
-            eprintln!("peer [-v VARIANT].. run|trace LAYOUT EVENTS | load LAYOUT | pack TEXT FILE | gen SEED LEN LFILE EFILE | genbad SEED LFILE | check SEED RUNS | compare VARIANT|all SEED RUNS | layouts DATA-FILE EXPECTED-FILE [SEED] | answers DATA-FILE");
+            eprintln!("peer [-v VARIANT].. run|trace LAYOUT EVENTS | load LAYOUT | pack TEXT FILE | gen SEED LEN LFILE EFILE | genbad SEED LFILE | check SEED RUNS | compare VARIANT|all SEED RUNS | layouts DATA-FILE EXPECTED-FILE [SEED] | answers DATA-FILE | runs DATA-FILE EXPECTED-FILE [SEED] | bench LAYOUT PREFIX EVENTS TURNS | bench-files FOLDER");
             std::process::exit(2);
         }
     }

@@ -24,16 +24,16 @@ use Rattle.panel.proofs.Answers.{too-short, done}
 use Rattle.panel_facts.specs.Cases.{coldPanel, cases}
 
 -- whoever unfolds this unfolds all that the panel of branch T is made of
-unfoldable shown : ℕ
+unfoldable pub panelComputed : ℕ
 unfolding computed
     if_then_else_ _and_ every all lowestFrom lowest tableFrom table read line route between reading lies inPosition
     linePlaced place isOpen unbarred enterable routeProceeds cold codes routesInRange inRange join blocks
     proceedByte shownBy byteOf signalByte routeByte stands lamp blockSignal blockBytes lineBytes image panelLength refused answer drawn
-shown = 0
+panelComputed = 0
 
 -- P2, P7
 pub cases-hold : every (cases (load branchT .layout)) ≡ true
-unfolding shown
+unfolding panelComputed
 cases-hold = refl
 
 -- ---- P7, whatever the buffer holds
@@ -42,19 +42,19 @@ T : Layout
 T = load branchT .layout
 
 T-sound : true ≡ sound T
-unfolding shown T
+unfolding panelComputed T
 T-sound = refl
 
 cold-sound : true ≡ inRange cold
-unfolding shown
+unfolding panelComputed
 cold-sound = refl
 
 T-length : 16 ≡ panelLength T
-unfolding shown T
+unfolding panelComputed T
 T-length = refl
 
 T-panel : image T cold ≡ coldPanel
-unfolding shown T
+unfolding panelComputed T
 T-panel = refl
 
 -- 15 bytes: 27 and length 0, and the buffer stays as it was

@@ -1,13 +1,15 @@
 -- The proved cases of section 8 as one list: runs on branch T, with what each must give.
 use Prim.Native.Nat.{ℕ}
-use mathlib.Core.Bool.{Bool, true, false}
+use mathlib.Core.Bool.{Bool}
 use mathlib.Core.List.{List, [], _∷_, _++_}
-use lib.Dec.{eqb}
-use lib.ListN.{getD, replicate}
+use lib.ListN.{getD, replicate, take}
 use Rattle.layout.specs.declared.Layout.{Layout}
 use Rattle.interlocking.specs.declared.State.{State}
 use Rattle.interlocking.specs.State.{cold}
 use Rattle.interlocking.specs.Step.{step}
+use Rattle.layout.specs.Load.{load}
+use Rattle.panel_facts.specs.Cases.{same}
+use Rattle.panel_facts.specs.Cases as panels
 use Rattle.step_facts.specs.Run.{Event}
 
 -- an event by its numbers
@@ -33,13 +35,6 @@ route0 L s (e ∷ es) = let t = step L s (e .kind) (e .first) (e .second) .next 
 abbrev pub look : State → List ℕ
 look s = getD (s .phase) 0 0 ∷ getD (s .direction) 0 0 ∷ getD (s .stage) 0 0 ∷ []
 
--- two lists are the same
-abbrev pub same : List ℕ → List ℕ → Bool
-same [] [] = true
-same [] (y ∷ ys) = false
-same (x ∷ xs) [] = false
-same (x ∷ xs) (y ∷ ys) = elim (eqb x y) [ true ↦ same xs ys | false ↦ false ]
-
 -- P1: the events of section 8
 abbrev pub p1 : List Event
 p1 = ev 4 0 0 ∷ ev 1 0 1 ∷ ev 1 1 1 ∷ ev 1 2 1 ∷ ev 1 3 1 ∷ ev 2 0 1 ∷ ev 6 0 1 ∷ ev 7 0 1 ∷ ev 6 0 1 ∷ ev 4 1 0 ∷ ev 4 0 0 ∷ ev 4 2 0 ∷ []
@@ -55,9 +50,9 @@ p4 = ev 1 2 2 ∷ ev 1 3 2 ∷ ev 1 1 1 ∷ []
 abbrev pub p5 : List Event
 p5 = ev 1 2 2 ∷ ev 1 3 2 ∷ ev 1 1 0 ∷ ev 1 1 1 ∷ []
 
--- each case computed on a layout, against what section 8 says
-abbrev pub cases : Layout → List Bool
-cases L =
+-- the runs computed on a layout, against what section 8 says
+abbrev pub runs : Layout → List Bool
+runs L =
     -- P1: the answers
     same (answers L cold p1) (8 ∷ 0 ∷ 0 ∷ 0 ∷ 0 ∷ 0 ∷ 0 ∷ 0 ∷ 0 ∷ 0 ∷ 0 ∷ 0 ∷ 10 ∷ 1 ∷ 0 ∷ 0 ∷ 0 ∷ 0 ∷ 0 ∷ 0 ∷ 0 ∷ 0 ∷ 5 ∷ 1 ∷ [])
     -- P3: route 0 is released, the line secured, the block held in stage 1
@@ -69,3 +64,11 @@ cases L =
     -- P6: cancelling after 89 seconds, idle after 90
     ∷ same (route0 L (stateAfter L cold (p1 ++ (ev 5 0 0 ∷ []))) (replicate 90 (ev 10 0 0))) (replicate 89 3 ++ (0 ∷ []))
     ∷ []
+
+-- P8: the layout file less its last byte gets 21 at 48
+abbrev pub cut : List ℕ → List Bool
+cut bytes = let r = load (take 48 bytes) in same (r .number ∷ r .detail ∷ []) (21 ∷ 48 ∷ []) ∷ []
+
+-- all of them on a layout file: P1 and P3 to P6, P2 and P7, P8
+abbrev pub cases : List ℕ → List Bool
+cases bytes = runs (load bytes .layout) ++ (panels.cases (load bytes .layout) ++ cut bytes)

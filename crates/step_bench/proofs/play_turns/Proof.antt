@@ -1,0 +1,15 @@
+use borrow.Author.Needs.{needs}
+use Rattle.step_bench.proofs.play_turns.Statement.{statement}
+use Rattle.step_bench.proofs.play_turns.Tie as tie
+
+abbrev Inv-loop : tie.InvT-loop
+Inv-loop plan asking events turns played₀ left₀ played left = Unit {0}
+
+abbrev μ-loop : tie.MeasureT-loop
+μ-loop plan asking events turns played₀ left₀ played left = left
+
+pub play-turns-spec : {M : Type 1} → statement M
+play-turns-spec =
+    tie.close
+    (tie.spec Inv-loop μ-loop (λ c. search needs) (λ c κs. search needs) (λ c. search needs) (λ c. search needs) (λ c. search needs)
+    (λ c. search needs))

@@ -1,0 +1,15 @@
+use borrow.Author.Needs.{needs}
+use Rattle.step_cases.proofs.change_all.Statement.{statement}
+use Rattle.step_cases.proofs.change_all.Tie as tie
+
+abbrev Inv-loop : tie.InvT-loop
+Inv-loop archive records₀ left₀ records left = Unit {0}
+
+abbrev μ-loop : tie.MeasureT-loop
+μ-loop archive records₀ left₀ records left = left
+
+pub change-all-spec : {M : Type 1} → statement M
+change-all-spec =
+    tie.close
+    (tie.spec Inv-loop μ-loop (λ c κs. search needs) (λ c. search needs) (λ c κs. search needs) (λ c κs. search needs) (λ c. search needs)
+    (λ c. search needs) (λ c. search needs) (λ c. search needs))

@@ -1,0 +1,15 @@
+use borrow.Author.Needs.{needs}
+use Rattle.step_cases.proofs.play.Statement.{statement}
+use Rattle.step_cases.proofs.play.Tie as tie
+
+abbrev Inv-loop : tie.InvT-loop
+Inv-loop archive plan n state₀ left₀ state left = Unit {0}
+
+abbrev μ-loop : tie.MeasureT-loop
+μ-loop archive plan n state₀ left₀ state left = left
+
+pub play-spec : {M : Type 1} → statement M
+play-spec =
+    tie.close
+    (tie.spec Inv-loop μ-loop (λ c κs. search needs) (λ c κs. search needs) (λ c. search needs) (λ c κs. search needs) (λ c. search needs)
+    (λ c. search needs) (λ c. search needs) (λ c. search needs))

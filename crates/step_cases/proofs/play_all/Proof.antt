@@ -1,0 +1,15 @@
+use borrow.Author.Needs.{needs}
+use Rattle.step_cases.proofs.play_all.Statement.{statement}
+use Rattle.step_cases.proofs.play_all.Tie as tie
+
+abbrev Inv-loop : tie.InvT-loop
+Inv-loop archive turns₀ turns = Unit {0}
+
+abbrev μ-loop : tie.MeasureT-loop
+μ-loop archive turns₀ turns = turns
+
+pub play-all-spec : {M : Type 1} → statement M
+play-all-spec =
+    tie.close
+    (tie.spec Inv-loop μ-loop (λ c. search needs) (λ c κs. search needs) (λ c. search needs) (λ c. search needs) (λ c. search needs)
+    (λ c. search needs) (λ c. search needs))

@@ -1,0 +1,198 @@
+/* What a host may get wrong: empty and cut files, short buffers, numbers of any size, records of any bytes. Each gets an answer, and no
+ * byte is touched that the header doesn't name. What is lent lies right before a page that nobody may touch, so that a byte read or
+ * written past its end stops the test. */
+#include <string.h>
+#include <sys/mman.h>
+#include <ucontext.h>
+
+#include "expect.h"
+#include "hiruketawha.h"
+
+enum { PAGE = 65536, STACK = 49152, UNTOUCHED = 0xEE };
+
+static const uint8_t branch_t[] = {1, 4, 1, 2, 4, 1, 1, 1, 0, 2, 1, 2, 0, 3, 0, 2, 0, 0, 0, 1, 0, 0, 0, 2, 1,
+                                   0, 1, 0, 2, 2, 3, 0, 1, 0, 1, 3, 2, 0, 1, 0, 1, 2, 0, 1, 0, 1, 1, 1, 2};
+
+/* So many bytes, the last right before a page that may not be touched; what stands before them is UNTOUCHED. */
+static uint8_t *before_a_wall(size_t count) {
+    uint8_t *pages = mmap(NULL, 2 * PAGE, PROT_READ | PROT_WRITE, MAP_PRIVATE | MAP_ANONYMOUS, -1, 0);
+    EXPECT(pages != MAP_FAILED && mprotect(pages + PAGE, PAGE, PROT_NONE) == 0);
+    memset(pages, UNTOUCHED, PAGE);
+    return pages + PAGE - count;
+}
+
+/* Nothing stands before them but what was there. */
+static int kept_before(const uint8_t *bytes) {
+    for (int i = 1; i <= 64; i++)
+        if (bytes[-i] != UNTOUCHED) return 0;
+    return 1;
+}
+
+static struct hiruketawha_layout *layout;
+static struct hiruketawha_state *state;
+
+static uint32_t seed = 1;
+
+static uint8_t random_byte(void) {
+    seed = seed * 1664525 + 1013904223;
+    return seed >> 24;
+}
+
+/* A file that is refused so: the layout keeps every byte. */
+static void refused(const uint8_t *bytes, size_t length, uint8_t number, size_t detail) {
+    struct hiruketawha_layout kept = *layout;
+    struct hiruketawha_load_reply reply = hiruketawha_load(bytes, length, layout);
+    EXPECT(reply.number == number && reply.detail == detail);
+    EXPECT(memcmp(layout, &kept, sizeof kept) == 0 && kept_before((uint8_t *)layout));
+}
+
+/* Cut files, each beginning of branch T; none at all; one with a byte too many; one of another version. P8 is the cut at 48. */
+static void test_files(void) {
+    for (size_t length = 0; length < sizeof branch_t; length++) {
+        uint8_t *file = before_a_wall(length);
+        memcpy(file, branch_t, length);
+        refused(file, length, HIRUKETAWHA_FILE_ENDS, length);
+    }
+    refused(NULL, 0, HIRUKETAWHA_FILE_ENDS, 0);
+    uint8_t *file = before_a_wall(sizeof branch_t + 1);
+    memcpy(file, branch_t, sizeof branch_t);
+    file[sizeof branch_t] = 0;
+    refused(file, sizeof branch_t + 1, HIRUKETAWHA_BYTES_LEFT, sizeof branch_t);
+    file[0] = 2;
+    refused(file, sizeof branch_t, HIRUKETAWHA_OUT_OF_RANGE, 0);
+    uint8_t *without_end = before_a_wall(3);
+    memset(without_end, 0xFF, 3);
+    refused(without_end, 3, HIRUKETAWHA_BAD_NUMBER, 0);
+}
+
+/* An event: 0 to 18; a refusal leaves the state as it was; the layout stays. */
+static uint8_t answer(uint32_t kind, uint32_t first, uint32_t second) {
+    struct hiruketawha_layout on = *layout;
+    struct hiruketawha_state before = *state;
+    struct hiruketawha_reply reply = hiruketawha_event(state, layout, kind, first, second);
+    EXPECT(reply.number <= 18 && memcmp(layout, &on, sizeof on) == 0 && kept_before((uint8_t *)layout) && kept_before((uint8_t *)state));
+    EXPECT(reply.number == 0 || memcmp(state, &before, sizeof before) == 0);
+    return reply.number;
+}
+
+/* Numbers of any size, on branch T: kinds past 10 and objects that there aren't are refused so. */
+static void test_numbers(void) {
+    static const uint32_t any[] = {0,   1,   2,   3,   4,     7,     8,     10,         11,         47,         48,         63,         64,
+                                   127, 128, 255, 256, 257, 65535, 65536, 65537, 0x7FFFFFFF, 0x80000000, 0x80000001, 0xFFFFFFFF};
+    enum { MANY = sizeof any / sizeof any[0] };
+    for (int k = 0; k < MANY; k++)
+        for (int i = 0; i < MANY; i++)
+            for (int j = 0; j < MANY; j++) {
+                uint8_t number = answer(any[k], any[i], any[j]);
+                if (any[k] == 0 || any[k] > 10) EXPECT(number == HIRUKETAWHA_UNKNOWN_KIND);
+                else if (any[k] < 10 && any[i] > 3) EXPECT(number == HIRUKETAWHA_NO_SUCH_OBJECT);
+                else if (any[k] > 2 && any[k] < 10 && any[j] > 3)
+                    EXPECT(number == HIRUKETAWHA_SECOND_WRONG || number == HIRUKETAWHA_NO_SUCH_OBJECT);
+            }
+}
+
+/* Buffers of 0 to 40 bytes for branch T's image of 16; none at all (P7). */
+static void test_buffers(void) {
+    for (size_t length = 0; length <= 40; length++) {
+        uint8_t *image = before_a_wall(length);
+        memset(image, UNTOUCHED, length);
+        struct hiruketawha_drawn drawn = hiruketawha_panel(state, layout, image, length);
+        EXPECT(drawn.number == (length < 16 ? HIRUKETAWHA_BUFFER_SHORT : 0) && drawn.length == (length < 16 ? 0 : 16));
+        EXPECT(kept_before(image));
+        for (size_t i = drawn.length; i < length; i++) EXPECT(image[i] == UNTOUCHED);
+        for (size_t i = 0; i < drawn.length; i++) EXPECT(image[i] != UNTOUCHED);
+    }
+    struct hiruketawha_drawn drawn = hiruketawha_panel(state, layout, NULL, 0);
+    EXPECT(drawn.number == HIRUKETAWHA_BUFFER_SHORT && drawn.length == 0);
+}
+
+/* A record that isn't sound: every event and every panel gets 18, whatever the buffer. */
+static void unsound(void) {
+    for (uint32_t kind = 0; kind <= 11; kind++) EXPECT(answer(kind, random_byte() % 4, random_byte() % 4) == HIRUKETAWHA_NOT_SOUND);
+    uint8_t image[512];
+    memset(image, UNTOUCHED, sizeof image);
+    struct hiruketawha_drawn drawn = hiruketawha_panel(state, layout, image, sizeof image);
+    struct hiruketawha_drawn none = hiruketawha_panel(state, layout, NULL, 0);
+    EXPECT(drawn.number == HIRUKETAWHA_NOT_SOUND && drawn.length == 0 && none.number == HIRUKETAWHA_NOT_SOUND && none.length == 0);
+    for (size_t i = 0; i < sizeof image; i++) EXPECT(image[i] == UNTOUCHED);
+}
+
+/* No layout; a layout of zeros, of 255s, of any bytes; a state of them. */
+static void test_records(void) {
+    struct hiruketawha_layout sound = *layout;
+    hiruketawha_no_layout(layout);
+    unsound();
+    memset(layout, 0, sizeof *layout);
+    unsound();
+    memset(layout, 255, sizeof *layout);
+    unsound();
+    for (int i = 0; i < 300; i++) {
+        for (size_t j = 0; j < sizeof *layout; j++) ((uint8_t *)layout)[j] = random_byte();
+        unsound();
+    }
+    *layout = sound;
+    for (int i = 0; i < 300; i++) {
+        for (size_t j = 0; j < sizeof *state; j++) ((uint8_t *)state)[j] = random_byte();
+        unsound();
+    }
+    hiruketawha_cold(state);
+}
+
+/* One byte of branch T's layout or of a state, any value: an answer, whichever it is. */
+static void test_one_byte(void) {
+    struct hiruketawha_layout sound = *layout;
+    uint8_t image[512];
+    for (size_t j = 0; j < sizeof *layout; j++) {
+        ((uint8_t *)layout)[j] = random_byte();
+        answer(HIRUKETAWHA_READ_SECTION, random_byte(), random_byte());
+        answer(HIRUKETAWHA_SET_ROUTE, random_byte() % 48, 0);
+        hiruketawha_panel(state, layout, image, sizeof image);
+        *layout = sound;
+    }
+    for (size_t j = 0; j < sizeof *state; j++) {
+        hiruketawha_cold(state);
+        ((uint8_t *)state)[j] = 4 + random_byte() % 252;
+        uint8_t number = answer(HIRUKETAWHA_SECOND, 0, 0);
+        EXPECT(number == HIRUKETAWHA_NOT_SOUND || (number == 0 && ((uint8_t *)state)[j] < 90));
+    }
+    hiruketawha_cold(state);
+}
+
+static void every_call(void) {
+    uint8_t image[16];
+    hiruketawha_no_layout(layout);
+    hiruketawha_cold(state);
+    hiruketawha_load(branch_t, sizeof branch_t, layout);
+    for (uint32_t kind = 1; kind <= 10; kind++) hiruketawha_event(state, layout, kind, 0, kind < 4 || kind == 6 || kind == 7);
+    hiruketawha_panel(state, layout, image, sizeof image);
+}
+
+/* Every call on a stack of 48 KB that ends at a page that may not be touched. */
+static void test_stack(void) {
+    static ucontext_t here, there;
+    uint8_t *pages = mmap(NULL, PAGE + STACK, PROT_READ | PROT_WRITE, MAP_PRIVATE | MAP_ANONYMOUS, -1, 0);
+    EXPECT(pages != MAP_FAILED && mprotect(pages, PAGE, PROT_NONE) == 0 && getcontext(&there) == 0);
+    there.uc_stack.ss_sp = pages + PAGE;
+    there.uc_stack.ss_size = STACK;
+    there.uc_link = &here;
+    makecontext(&there, every_call, 0);
+    EXPECT(swapcontext(&here, &there) == 0);
+}
+
+int main(void) {
+    layout = (struct hiruketawha_layout *)before_a_wall(sizeof *layout);
+    state = (struct hiruketawha_state *)before_a_wall(sizeof *state);
+    hiruketawha_no_layout(layout);
+    hiruketawha_cold(state);
+    test_files();
+    struct hiruketawha_load_reply loaded = hiruketawha_load(branch_t, sizeof branch_t, layout);
+    EXPECT(loaded.number == 0 && loaded.detail == 0);
+    test_files();
+    test_buffers();
+    test_numbers();
+    test_records();
+    test_one_byte();
+    test_stack();
+    printf("bad input: answered, and no other byte touched\n");
+    return 0;
+}

@@ -1,0 +1,200 @@
+/* Holds the header's records to the library's own: how large they are, and where each field lies.
+ * C fills a layout by the header's fields and writes it as a layout file; what the library loads from the file must be the same bytes.
+ * Then events that touch the first and the last entry of each table of a state must change the bytes that C finds under that name, and
+ * no other. */
+#include <string.h>
+
+#include "expect.h"
+#include "hiruketawha.h"
+#include "wide.h"
+
+enum { UNTOUCHED = 0xEE, GUARD = 64 };
+
+/* A record with bytes before and after it that nobody lends. */
+#define GUARDED(type, name)                                                          \
+    static struct {                                                                  \
+        uint8_t before[GUARD];                                                       \
+        struct type record;                                                          \
+        uint8_t after[GUARD];                                                        \
+    } name
+
+GUARDED(hiruketawha_layout, layout);
+GUARDED(hiruketawha_state, state);
+static struct hiruketawha_layout wide;
+static struct hiruketawha_state want;
+
+static int all(uint8_t byte, const uint8_t *bytes, size_t count) {
+    for (size_t i = 0; i < count; i++)
+        if (bytes[i] != byte) return 0;
+    return 1;
+}
+
+/* ---- the tests */
+
+/* The library writes every byte of each record, and none beside it. */
+static void test_sizes(void) {
+    memset(&state, UNTOUCHED, sizeof state);
+    hiruketawha_cold(&state.record);
+    EXPECT(all(UNTOUCHED, state.before, GUARD) && all(UNTOUCHED, state.after, GUARD));
+    EXPECT(memchr(&state.record, UNTOUCHED, sizeof state.record) == NULL);
+    memset(&layout, UNTOUCHED, sizeof layout);
+    hiruketawha_no_layout(&layout.record);
+    EXPECT(all(UNTOUCHED, layout.before, GUARD) && all(UNTOUCHED, layout.after, GUARD));
+    EXPECT(all(0, (const uint8_t *)&layout.record, sizeof layout.record));
+}
+
+static void test_layout(void) {
+    fill_layout(&wide);
+    put_layout(&wide);
+    memset(&layout, UNTOUCHED, sizeof layout);
+    struct hiruketawha_load_reply loaded = hiruketawha_load(file, length, &layout.record);
+    EXPECT(loaded.number == 0 && loaded.detail == 0);
+    EXPECT(memcmp(&layout.record, &wide, sizeof wide) == 0);
+    EXPECT(all(UNTOUCHED, layout.before, GUARD) && all(UNTOUCHED, layout.after, GUARD));
+}
+
+/* An event that is done and makes the state what is wanted. */
+static void done(uint32_t kind, uint32_t first, uint32_t second) {
+    struct hiruketawha_reply reply = hiruketawha_event(&state.record, &layout.record, kind, first, second);
+    EXPECT(reply.number == 0 && reply.detail == 0);
+    EXPECT(memcmp(&state.record, &want, sizeof want) == 0);
+}
+
+static void read_section(int section, uint8_t code) {
+    want.section[section] = code;
+    done(HIRUKETAWHA_READ_SECTION, section, code);
+}
+
+static void read_point(int point, uint8_t code) {
+    want.point[point] = code;
+    done(HIRUKETAWHA_READ_POINT, point, code);
+}
+
+static void test_cold(void) {
+    memset(want.section, 3, sizeof want.section);
+    memset(want.point, 3, sizeof want.point);
+    memset(want.stage, 1, sizeof want.stage);
+    hiruketawha_cold(&state.record);
+    EXPECT(memcmp(&state.record, &want, sizeof want) == 0);
+}
+
+static void test_points(void) {
+    for (int i = 0; i < 64; i++) read_section(i, 1);
+    for (int i = 0; i < 32; i += 31) {
+        want.order[i] = 2;
+        done(HIRUKETAWHA_THROW, i, 2);
+        read_point(i, 2);
+    }
+}
+
+static void test_lines(void) {
+    for (int l = 0; l < 8; l += 7) {
+        for (int i = 0; i < wide.line[l].blocks; i++) want.stage[8 * l + i] = 0;
+        done(HIRUKETAWHA_RELEASE_LINE, l, 1);
+        for (int i = 0; i < 8; i++) read_point(wide.line[l].point[i], wide.line[l].position[i]);
+        want.direction[l] = 2;
+        done(HIRUKETAWHA_SECURE_LINE, l, 2);
+        int last = wide.line[l].blocks - 1;
+        want.bar[8 * l + last] = 1;
+        done(HIRUKETAWHA_BAR, l, last);
+        want.stage[8 * l + last] = 2;
+        read_section(wide.line[l].block[last], 2);
+        want.stage[8 * l + last] = 1;
+        read_section(wide.line[l].block[last], 1);
+    }
+}
+
+/* Locked, its first watched section occupied, cancelled, a second, and released by the 90th. */
+static void test_route(int r) {
+    const struct hiruketawha_route *route = &wide.route[r];
+    for (int i = 0; i < 8; i++) read_point(route->point[i], route->position[i]);
+    want.phase[r] = 1;
+    done(HIRUKETAWHA_SET_ROUTE, r, 0);
+    want.phase[r] = 2;
+    want.step[r] = 1;
+    read_section(route->path[6], 2);
+    want.phase[r] = 3;
+    done(HIRUKETAWHA_CANCEL_ROUTE, r, 0);
+    for (int second = 1; second < 90; second++) {
+        want.second[r] = second;
+        done(HIRUKETAWHA_SECOND, 0, 0);
+    }
+    want.phase[r] = want.step[r] = want.second[r] = 0;
+    done(HIRUKETAWHA_SECOND, 0, 0);
+    read_section(route->path[6], 1);
+}
+
+/* ---- where each field lies, as C has it */
+
+#define FIELD(type, name)                                                                                                         \
+    printf("%s.%s at %zu, %zu bytes\n", #type, #name, offsetof(struct hiruketawha_##type, name),                                          \
+           sizeof((struct hiruketawha_##type *)0)->name)
+
+static void print_line(void) {
+    FIELD(line, blocks);
+    FIELD(line, block);
+    FIELD(line, innera);
+    FIELD(line, innerb);
+    FIELD(line, entrancea);
+    FIELD(line, entranceb);
+    FIELD(line, points);
+    FIELD(line, point);
+    FIELD(line, position);
+}
+
+static void print_route(void) {
+    FIELD(route, entry);
+    FIELD(route, kind);
+    FIELD(route, line);
+    FIELD(route, end);
+    FIELD(route, diverging);
+    FIELD(route, paths);
+    FIELD(route, path);
+    FIELD(route, overlaps);
+    FIELD(route, overlap);
+    FIELD(route, points);
+    FIELD(route, point);
+    FIELD(route, position);
+}
+
+static void print_layout(void) {
+    FIELD(layout, sections);
+    FIELD(layout, points);
+    FIELD(layout, pointsection);
+    FIELD(layout, signals);
+    FIELD(layout, lines);
+    FIELD(layout, line);
+    FIELD(layout, routes);
+    FIELD(layout, route);
+    FIELD(layout, conflict);
+}
+
+static void print_state(void) {
+    FIELD(state, section);
+    FIELD(state, point);
+    FIELD(state, order);
+    FIELD(state, phase);
+    FIELD(state, step);
+    FIELD(state, second);
+    FIELD(state, direction);
+    FIELD(state, stage);
+    FIELD(state, bar);
+}
+
+int main(void) {
+    test_sizes();
+    test_layout();
+    test_cold();
+    test_points();
+    test_route(0);
+    test_route(47);
+    test_lines();
+    EXPECT(sizeof(struct hiruketawha_line) == 30 && sizeof(struct hiruketawha_route) == 40);
+    EXPECT(sizeof(struct hiruketawha_layout) == 4501 && sizeof(struct hiruketawha_state) == 408);
+    print_line();
+    print_route();
+    print_layout();
+    print_state();
+    printf("as the library has them\n");
+    return 0;
+}

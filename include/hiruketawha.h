@@ -1,0 +1,186 @@
+/* Hiruketawha, the control box for private branch lines, as a static library: libcabinet.a.
+ *
+ * A controller keeps two records from power-on, a layout and a state, and lends them to the functions below. The library keeps nothing
+ * between calls, allocates nothing, reads and writes no file, and calls no function of the C library but memcpy, memmove and memset.
+ * Every call returns. Each function is proved to do what is said here, for every input, on every byte that it is lent; what is lent must be
+ * what the types say: records of the sizes below, `length` bytes behind a pointer, and no byte lent to a call twice if the call writes it.
+ * A pointer to zero bytes is never followed, and may be null. The archive is for x86-64 Linux.
+ *
+ * "Section" in a comment is a section of the scope of work, which decides what is right. */
+#ifndef HIRUKETAWHA_H
+#define HIRUKETAWHA_H
+
+#include <stddef.h>
+#include <stdint.h>
+
+#ifdef __cplusplus
+extern "C" {
+#endif
+
+/* ---- The answers: the number and its detail. 0 is done; any other number is a refusal, and a refusal changes no byte that is lent. */
+
+enum {
+    HIRUKETAWHA_DONE = 0, /* detail 0 */
+
+    /* Of an event (section 3), in this order: 18, 1, 2, 3, then by its kind. */
+    HIRUKETAWHA_UNKNOWN_KIND = 1,        /* detail 0 */
+    HIRUKETAWHA_NO_SUCH_OBJECT = 2,      /* detail: the first number */
+    HIRUKETAWHA_SECOND_WRONG = 3,        /* the second number is wrong (both, for kind 10); detail 0 */
+    HIRUKETAWHA_ROUTE_LOCKED = 4,        /* the route is locked already; detail: the route */
+    HIRUKETAWHA_CONFLICT_LOCKED = 5,     /* a conflicting route is locked; detail: that route */
+    HIRUKETAWHA_POINT_NOT_SET = 6,       /* a point is not read in position; detail: the point */
+    HIRUKETAWHA_SECTION_OCCUPIED = 7,    /* detail: the section */
+    HIRUKETAWHA_SECTION_NONE = 8,        /* a section reads none; detail: the section */
+    HIRUKETAWHA_LINE_NOT_SECURED = 9,    /* the line is not secured that way; detail: the line */
+    HIRUKETAWHA_BLOCK_HELD = 10,         /* detail: the block's section */
+    HIRUKETAWHA_BLOCK_BARRED = 11,       /* detail: the block's section */
+    HIRUKETAWHA_LINE_SECURED = 12,       /* the line is secured already; detail: its direction */
+    HIRUKETAWHA_ROUTE_NOT_LOCKED = 13,   /* detail: the route */
+    HIRUKETAWHA_CANCELLING = 14,         /* the route is being cancelled already; detail: the route */
+    HIRUKETAWHA_POINT_IN_ROUTE = 15,     /* the point is locked by a route; detail: the route */
+    HIRUKETAWHA_POINT_IN_LINE = 16,      /* the point is locked by a line; detail: the line */
+    HIRUKETAWHA_EXIT_LOCKED = 17,        /* an exit route is locked; detail: the route */
+    HIRUKETAWHA_NOT_SOUND = 18,          /* a record breaks section 2 or has a code outside its range; detail 0. Also of the panel */
+
+    /* Of a layout file (section 2): the first fault met. Detail: the offset of the number's first byte. */
+    HIRUKETAWHA_FILE_ENDS = 21,          /* the file ends early; where nothing is left of it the detail is its length */
+    HIRUKETAWHA_BAD_NUMBER = 22,         /* a number is badly formed or too large */
+    HIRUKETAWHA_OUT_OF_RANGE = 23,       /* a version, count or code is outside its range, or a conflict pair is out of order */
+    HIRUKETAWHA_NO_REFERENCE = 24,       /* a reference to an object that doesn't exist */
+    HIRUKETAWHA_RULE_BROKEN = 25,        /* detail: the first broken rule's number, 1 to 6 */
+    HIRUKETAWHA_BYTES_LEFT = 26,         /* bytes are left over; the detail is the offset of the first of them */
+
+    /* Of the panel (section 7), length 0 with it. */
+    HIRUKETAWHA_BUFFER_SHORT = 27        /* the lent buffer is too short */
+};
+
+/* ---- The kinds of events, with their first and second number (section 3). A number that is not used must be 0. */
+
+enum {
+    HIRUKETAWHA_READ_SECTION = 1,        /* section, code: 1 free, 2 occupied, every other none */
+    HIRUKETAWHA_READ_POINT = 2,          /* point, code: 1 left, 2 right, every other none */
+    HIRUKETAWHA_THROW = 3,               /* point, position: 1 left, 2 right */
+    HIRUKETAWHA_SET_ROUTE = 4,           /* route */
+    HIRUKETAWHA_CANCEL_ROUTE = 5,        /* route */
+    HIRUKETAWHA_SECURE_LINE = 6,         /* line, direction: 1 from A to B, 2 from B to A */
+    HIRUKETAWHA_RELEASE_LINE = 7,        /* line, ground: 1 not left, 2 in siding, 3 returned */
+    HIRUKETAWHA_BAR = 8,                 /* line, block counted from 0 */
+    HIRUKETAWHA_UNBAR = 9,               /* line, block counted from 0 */
+    HIRUKETAWHA_SECOND = 10              /* one second has passed */
+};
+
+/* ---- The records. Every field is a byte or bytes, so there is no padding; a test holds sizes and places to the library's. */
+
+/* A line: its blocks from end A to end B, the inner section and the entrance signal at each end, its points with their positions (1 left,
+ * 2 right). Entries past a count are not looked at; in a layout that was loaded they are 0. 30 bytes. */
+struct hiruketawha_line {
+    uint8_t blocks; /* 1 to 8 */
+    uint8_t block[8];
+    uint8_t innera;
+    uint8_t innerb;
+    uint8_t entrancea;
+    uint8_t entranceb;
+    uint8_t points; /* 0 to 8 */
+    uint8_t point[8];
+    uint8_t position[8];
+};
+
+/* A route: its entry signal, its kind (0 inner, 1 entrance, 2 exit), for kinds 1 and 2 the line and the end (0 is A, 1 is B), diverging 0
+ * or 1, its path in order of travel, its overlap, its points with their positions. Entries past a count as above. 40 bytes. */
+struct hiruketawha_route {
+    uint8_t entry;
+    uint8_t kind;
+    uint8_t line;
+    uint8_t end;
+    uint8_t diverging;
+    uint8_t paths; /* 1 to 8 */
+    uint8_t path[8];
+    uint8_t overlaps; /* 0 to 4 */
+    uint8_t overlap[8];
+    uint8_t points; /* 0 to 8 */
+    uint8_t point[8];
+    uint8_t position[8];
+};
+
+/* A layout (section 2). `pointsection` has each point's own section; `conflict` has 1 at 48 * i + j where the routes i and j conflict, and
+ * else 0. A record of zeros is the layout with no objects. 4,501 bytes. */
+struct hiruketawha_layout {
+    uint8_t sections; /* 1 to 64 */
+    uint8_t points;   /* 0 to 32 */
+    uint8_t pointsection[32];
+    uint8_t signals; /* 0 to 32 */
+    uint8_t lines;   /* 0 to 8 */
+    struct hiruketawha_line line[8];
+    uint8_t routes; /* 0 to 48 */
+    struct hiruketawha_route route[48];
+    uint8_t conflict[2304];
+};
+
+/* A state: a code for each section, point, route, line and block. Read it by the panel; a code outside its range gets every event 18.
+ * 408 bytes. */
+struct hiruketawha_state {
+    uint8_t section[64]; /* 1 free, 2 occupied, 3 none */
+    uint8_t point[32];   /* 1 left, 2 right, 3 none */
+    uint8_t order[32];   /* the last throw: 0 none, 1 left, 2 right */
+    uint8_t phase[48];   /* of a route: 0 idle, 1 locked and its signal at proceed, 2 locked and fallen, 3 cancelling */
+    uint8_t step[48];    /* steps done of letting a route go: 0 to 3 */
+    uint8_t second[48];  /* seconds since a cancel: 0 to 89 */
+    uint8_t direction[8]; /* of a line: 0 neutral, 1 from A to B, 2 from B to A */
+    uint8_t stage[64];   /* of a block, at 8 * line + block: 0 open; 1, 2, 3 held in stage 0, 1, 2 */
+    uint8_t bar[64];     /* of a block, likewise: 1 barred, else 0 */
+};
+
+/* What is told of an event. 8 bytes. */
+struct hiruketawha_reply {
+    uint8_t number;
+    uint32_t detail;
+};
+
+/* What is told of a layout file. 16 bytes. */
+struct hiruketawha_load_reply {
+    uint8_t number;
+    size_t detail;
+};
+
+/* What is told of a panel image: 0 and how many bytes it has; 18 or 27 and 0. 16 bytes. */
+struct hiruketawha_drawn {
+    uint8_t number;
+    size_t length;
+};
+
+/* The most bytes that a panel image has: 64 + 32 + 32 + 48 + 8 + 3 * 64. */
+#define HIRUKETAWHA_PANEL_MOST 376
+
+/* ---- The functions. */
+
+/* The state's record at power-on (sections 1 and 5): everything reads none, no order, no route, no line secured, every block held in stage
+ * 0, no bar. Writes the whole record, whatever it held. */
+void hiruketawha_cold(struct hiruketawha_state *state);
+
+/* The layout's record at power-on: no objects. It is not sound, so every event and every panel gets 18 until a file is loaded. Writes the
+ * whole record, whatever it held. */
+void hiruketawha_no_layout(struct hiruketawha_layout *layout);
+
+/* A layout file of `length` bytes into the layout's record (section 2). Where it is accepted, 0 and 0, and the whole record is written.
+ * Where it is refused, 21 to 26 with the detail, and the record keeps what it held: a layout that was in use stays in use. */
+struct hiruketawha_load_reply hiruketawha_load(const uint8_t *bytes, size_t length, struct hiruketawha_layout *layout);
+
+/* One event (sections 3 to 6) on the state's record, on that layout; numbers of any size. 0 and 0, and the record is the next state; or a
+ * refusal, 1 to 18, and the record is as it was. */
+struct hiruketawha_reply hiruketawha_event(struct hiruketawha_state *state, const struct hiruketawha_layout *layout, uint32_t kind,
+                                           uint32_t first, uint32_t second);
+
+/* The panel image (section 7) into a buffer of `length` bytes, in this order: sections, points, signals, routes, lines, blocks. 0 and the
+ * image's length: the image stands in the buffer's first bytes, and later bytes are as they were. 18 for a record that is not sound, then
+ * 27 for a buffer that is too short: length 0, and no byte of the buffer is written.
+ * A byte each: a section or a point 1, 2 or 3 as in the state; a signal 20 stop, 21 or 22 proceed, diverging or not; a route 0 idle,
+ * 1 locked, 2 cancelling; a line its direction. Per block, line by line from A: its stage as in the state, its signal from A to B, its
+ * signal from B to A; a block signal 20 or 22, or 0 where it is dark or there is none. */
+struct hiruketawha_drawn hiruketawha_panel(const struct hiruketawha_state *state, const struct hiruketawha_layout *layout, uint8_t *image,
+                                           size_t length);
+
+#ifdef __cplusplus
+}
+#endif
+
+#endif

@@ -1,0 +1,196 @@
+// Records as the box holds them, tables of fixed size: one byte can be changed by hand to what no file and no event would bring there.
+use crate::layout::{self, Layout, Line, Route};
+use crate::lbox::{self, State};
+
+/// The fields of one record, in the order in which the box declares them; one that is no table has one place.
+pub type Fields = Vec<Vec<u8>>;
+
+/// A change by hand: record 0 the layout, 1 the state, 2 a line, 3 a route; which line or route; field; place; byte.
+#[derive(Clone, Copy)]
+pub struct Change {
+    pub record: u8,
+    pub number: u8,
+    pub field: u8,
+    pub place: u16,
+    pub byte: u8,
+}
+
+impl Change {
+    /// A change as the archive has it.
+    pub fn bytes(&self) -> [u8; 6] {
+        let [low, high] = self.place.to_le_bytes();
+        [self.record, self.number, self.field, low, high, self.byte]
+    }
+}
+
+// A table of n, the rest filled.
+fn table(xs: impl Iterator<Item = usize>, n: usize, fill: u8) -> Vec<u8> {
+    let mut t: Vec<u8> = xs.map(|x| x as u8).collect();
+    t.resize(n, fill);
+    t
+}
+
+fn line_fields(l: &Line) -> Fields {
+    let points = table(l.points.iter().map(|p| p.0), 8, 0);
+    let positions = table(l.points.iter().map(|p| p.1 as usize), 8, 0);
+    let one = |x: usize| vec![x as u8];
+    vec![
+        one(l.blocks.len()), table(l.blocks.iter().copied(), 8, 0), one(l.inner[0]), one(l.inner[1]), one(l.ent[0]), one(l.ent[1]),
+        one(l.points.len()), points, positions,
+    ]
+}
+
+fn route_fields(r: &Route) -> Fields {
+    let points = table(r.points.iter().map(|p| p.0), 8, 0);
+    let positions = table(r.points.iter().map(|p| p.1 as usize), 8, 0);
+    let one = |x: usize| vec![x as u8];
+    vec![
+        one(r.entry), one(r.kind as usize), one(r.line), one(r.end), one(r.div as usize), one(r.path.len()),
+        table(r.path.iter().copied(), 8, 0), one(r.overlap.len()), table(r.overlap.iter().copied(), 8, 0), one(r.points.len()), points, positions,
+    ]
+}
+
+/// A layout's record with those of its lines and routes.
+pub struct Plan {
+    own: Fields,
+    lines: Vec<Fields>,
+    routes: Vec<Fields>,
+}
+
+impl Plan {
+    pub fn of(l: &Layout) -> Plan {
+        let one = |x: usize| vec![x as u8];
+        let mut conflict = vec![0; 48 * 48];
+        for &(a, b) in &l.conf {
+            conflict[48 * a + b] = 1;
+            conflict[48 * b + a] = 1;
+        }
+        let mut lines: Vec<Fields> = l.lines.iter().map(line_fields).collect();
+        let mut routes: Vec<Fields> = l.routes.iter().map(route_fields).collect();
+        lines.resize(8, line_fields(&Line::default()));
+        routes.resize(48, route_fields(&Route::default()));
+        let own = vec![
+            one(l.nsec), one(l.own.len()), table(l.own.iter().copied(), 32, 0), one(l.nsig), one(l.lines.len()), vec![], one(l.routes.len()), vec![],
+            conflict,
+        ];
+        Plan { own, lines, routes }
+    }
+
+    pub fn sections(&self) -> usize {
+        self.own[0][0] as usize
+    }
+    pub fn points(&self) -> usize {
+        self.own[1][0] as usize
+    }
+    pub fn line_count(&self) -> usize {
+        self.own[4][0] as usize
+    }
+    pub fn route_count(&self) -> usize {
+        self.own[6][0] as usize
+    }
+
+    /// The layout, where the record is as section 2 has it.
+    pub fn sound(&self) -> Option<Layout> {
+        let (n, m) = (self.line_count(), self.route_count());
+        if self.points() > 32 || n > 8 || m > 48 {
+            return None;
+        }
+        let listed = |a: usize, b: usize| self.own[8][48 * a + b];
+        for a in 0..m {
+            if listed(a, a) != 0 || (0..m).any(|b| listed(a, b) > 1 || listed(a, b) != listed(b, a)) {
+                return None;
+            }
+        }
+        let l = Layout {
+            nsec: self.sections(),
+            own: first(&self.own[2], self.points())?,
+            nsig: self.own[3][0] as usize,
+            lines: self.lines[..n].iter().map(line_of).collect::<Option<_>>()?,
+            routes: self.routes[..m].iter().map(route_of).collect::<Option<_>>()?,
+            conf: (0..m).flat_map(|a| (a + 1..m).map(move |b| (a, b))).filter(|&(a, b)| listed(a, b) == 1).collect(),
+        };
+        layout::load(&layout::encode(&l)).ok()
+    }
+}
+
+// The first n of a table, which it must have.
+fn first(t: &[u8], n: usize) -> Option<Vec<usize>> {
+    Some(t.get(..n)?.iter().map(|&x| x as usize).collect())
+}
+
+// The first n points with their positions.
+fn placed(points: &[u8], positions: &[u8], n: usize) -> Option<Vec<(usize, u8)>> {
+    Some(first(points, n)?.into_iter().zip(positions.iter().copied()).collect())
+}
+
+fn line_of(f: &Fields) -> Option<Line> {
+    let one = |k: usize| f[k][0] as usize;
+    Some(Line {
+        blocks: first(&f[1], one(0))?,
+        inner: [one(2), one(3)],
+        ent: [one(4), one(5)],
+        points: placed(&f[7], &f[8], one(6))?,
+    })
+}
+
+fn route_of(f: &Fields) -> Option<Route> {
+    let one = |k: usize| f[k][0] as usize;
+    Some(Route {
+        entry: one(0),
+        kind: f[1][0],
+        line: one(2),
+        end: one(3),
+        div: f[4][0],
+        path: first(&f[6], one(5))?,
+        overlap: first(&f[8], one(7))?,
+        points: placed(&f[10], &f[11], one(9))?,
+    })
+}
+
+/// The tables of a state: section, point, order, phase, step, second, direction, stage, bar. A route at proceed is in phase 1, one locked and
+/// fallen in 2, one cancelling in 3.
+pub fn tables(l: &Layout, s: &State) -> Fields {
+    let bytes = |xs: &[u8], n: usize, fill: u8| table(xs.iter().map(|&x| x as usize), n, fill);
+    let phase = |r: usize| match s.rt[r].st {
+        1 if s.sig[l.routes[r].entry] != 20 => 1,
+        0 => 0,
+        held => held as usize + 1,
+    };
+    let mut stage = vec![lbox::ST0; 64];
+    let mut bar = vec![0; 64];
+    for (k, line) in s.ln.iter().enumerate() {
+        for (i, block) in line.blocks.iter().enumerate() {
+            stage[8 * k + i] = block.st;
+            bar[8 * k + i] = block.barred as u8;
+        }
+    }
+    vec![
+        bytes(&s.sec, 64, lbox::NONE), bytes(&s.pt, 32, lbox::NONE), bytes(&s.order, 32, 0), table((0..s.rt.len()).map(phase), 48, 0),
+        table(s.rt.iter().map(|r| r.step as usize), 48, 0), table(s.rt.iter().map(|r| r.secs as usize), 48, 0),
+        table(s.ln.iter().map(|x| x.dir as usize), 8, 0), stage, bar,
+    ]
+}
+
+/// The lowest and the highest code of each table of a state.
+pub const CODES: [(u8, u8); 9] = [(1, 3), (1, 3), (0, 2), (0, 3), (0, 3), (0, 89), (0, 2), (0, 3), (0, 1)];
+
+/// No code of a state is outside its range.
+pub fn in_range(state: &Fields) -> bool {
+    state.iter().zip(CODES).all(|(t, (low, high))| t.iter().all(|&x| low <= x && x <= high))
+}
+
+/// A layout and a state with a change; one that there is no place for changes nothing, and a field that is no table has its one place.
+pub fn change(plan: &mut Plan, state: &mut Fields, c: &Change) {
+    let record = match c.record {
+        0 => Some(&mut plan.own),
+        1 => Some(state),
+        2 => plan.lines.get_mut(c.number as usize),
+        3 => plan.routes.get_mut(c.number as usize),
+        _ => None,
+    };
+    let Some(field) = record.and_then(|r| r.get_mut(c.field as usize)) else { return };
+    let place = if field.len() == 1 { 0 } else { c.place as usize };
+    if let Some(byte) = field.get_mut(place) {
+        *byte = c.byte;
+    }
+}

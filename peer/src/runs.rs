@@ -1,0 +1,156 @@
+// Stored runs: a layout file, changes by hand, events, and what the peer answers, with its state every sixteen events.
+use crate::layout::{self, Layout};
+use crate::lbox::{self, Var};
+use crate::records::{change, in_range, tables, Change, Fields, Plan};
+use crate::{hand_cases, run_cases};
+use std::collections::BTreeMap;
+
+pub type Event = [u32; 3];
+
+/// A run: changes by hand are made to the layout that was loaded and to the cold state.
+pub struct Run {
+    pub file: Vec<u8>,
+    pub changes: Vec<Change>,
+    pub events: Vec<Event>,
+}
+
+/// Where a run starts: what loading answered, the records, and the layout, where both are sound.
+struct Start {
+    loaded: (u32, usize),
+    plan: Plan,
+    state: Fields,
+    sound: Option<Layout>,
+}
+
+fn start(run: &Run) -> Start {
+    let (loaded, l) = match layout::load(&run.file) {
+        Ok(l) => ((0, 0), l),
+        Err(fault) => (fault, Layout::default()),
+    };
+    let mut plan = Plan::of(&l);
+    let mut state = tables(&l, &lbox::cold(&l));
+    for c in &run.changes {
+        change(&mut plan, &mut state, c);
+    }
+    let sound = if in_range(&state) { plan.sound() } else { None };
+    Start { loaded, plan, state, sound }
+}
+
+// Each code as a digit.
+fn digits(codes: &[u8], n: usize) -> String {
+    let digit = |&x: &u8| if x < 10 { (b'0' + x) as char } else { '?' };
+    codes.iter().take(n).map(digit).collect()
+}
+
+// The tables of a state, as far as the layout has objects.
+fn shown(plan: &Plan, t: &Fields) -> String {
+    let (sections, points, routes, lines) = (plan.sections(), plan.points(), plan.route_count(), plan.line_count());
+    let counts = [sections, points, points, routes, routes, 0, lines, 8 * lines, 8 * lines];
+    let groups = t.iter().zip(counts).enumerate().filter(|(k, _)| *k != 5);
+    groups.map(|(_, (codes, n))| digits(codes, n) + " ").collect()
+}
+
+/// The answers to a run, and its text. A state that was changed by hand is only asked for refusals.
+pub fn play(run: &Run, v: &Var) -> (Vec<(u32, u32)>, String) {
+    let Start { loaded, plan, state, sound } = start(run);
+    let by_hand = run.changes.iter().any(|c| c.record == 1);
+    let mut s = lbox::cold(&sound.clone().unwrap_or_default());
+    let (mut answers, mut text, mut left) = (vec![], format!("{} {}\n", loaded.0, loaded.1), run.events.len());
+    let line = |s: &lbox::State| match &sound {
+        Some(l) if !by_hand => format!("| {}\n", shown(&plan, &tables(l, s))),
+        _ => format!("| {}\n", shown(&plan, &state)),
+    };
+    if left % 16 == 0 {
+        text += &line(&s);
+    }
+    for event in &run.events {
+        let (number, detail) = match &sound {
+            None => (18, 0),
+            Some(l) => {
+                let (number, detail, next) = lbox::event(l, &s, *event, v);
+                assert!(number != 0 || !by_hand, "a state that was changed by hand is only asked for refusals");
+                s = next;
+                (number, detail)
+            }
+        };
+        text += &format!("{number}:{detail} ");
+        answers.push((number, detail));
+        left -= 1;
+        if left % 16 == 0 {
+            text += &line(&s);
+        }
+    }
+    (answers, text)
+}
+
+/// The runs so far, as the archive has them, and what the peer answers.
+#[derive(Default)]
+pub struct Runs {
+    pub archive: Vec<u8>,
+    pub expected: String,
+    pub tally: BTreeMap<u32, usize>,
+    pub all: Vec<Run>,
+}
+
+impl Runs {
+    // A length or a number, in two bytes.
+    fn count(&mut self, n: usize) {
+        self.archive.extend(u16::try_from(n).expect("at most 65,535").to_le_bytes());
+    }
+
+    /// A run, whatever the peer answers.
+    pub fn any(&mut self, file: &[u8], changes: &[Change], events: &[Event]) -> Vec<(u32, u32)> {
+        let run = Run { file: file.to_vec(), changes: changes.to_vec(), events: events.to_vec() };
+        let (answers, text) = play(&run, &Var::default());
+        self.count(file.len());
+        self.archive.extend(file);
+        self.count(changes.len());
+        self.archive.extend(changes.iter().flat_map(|c| c.bytes()));
+        self.count(events.len());
+        self.archive.extend(events.iter().flatten().flat_map(|n| n.to_le_bytes()));
+        self.expected += &text;
+        for (number, _) in &answers {
+            *self.tally.entry(*number).or_default() += 1;
+        }
+        self.all.push(run);
+        answers
+    }
+
+    /// A run that was made for the answers to its last events.
+    pub fn made(&mut self, label: &str, file: &[u8], events: &[Event], last: &[(u32, u32)]) {
+        let answers = self.any(file, &[], events);
+        assert_eq!(&answers[answers.len() - last.len()..], last, "{label}");
+    }
+}
+
+/// The other readings of document 01 that no run tells from this one.
+fn missed(runs: &Runs) -> Vec<&'static str> {
+    let texts: Vec<String> = runs.all.iter().map(|r| play(r, &Var::default()).1).collect();
+    let same = |name: &&str| {
+        let mut v = Var::default();
+        v.set(name);
+        runs.all.iter().zip(&texts).all(|(r, text)| play(r, &v).1 == *text)
+    };
+    lbox::NAMES.iter().copied().filter(same).collect()
+}
+
+/// All runs; the random ones hang on the seed.
+pub fn all(seed: u64) -> Runs {
+    let mut runs = Runs::default();
+    run_cases::all(&mut runs, seed);
+    hand_cases::all(&mut runs, seed);
+    runs
+}
+
+/// Writes the stored runs and what they print, and says how many answers there are of each number.
+pub fn store(data: &str, expected: &str, seed: u64) {
+    let runs = all(seed);
+    std::fs::write(data, &runs.archive).expect("write");
+    std::fs::write(expected, &runs.expected).expect("write");
+    for (number, count) in &runs.tally {
+        println!("{number} {count}");
+    }
+    assert!((0..=18).all(|n| runs.tally.contains_key(&n)), "every answer comes");
+    println!("{} runs, {} events, {} bytes", runs.all.len(), runs.tally.values().sum::<usize>(), runs.archive.len());
+    println!("other readings that no run tells apart: {}", missed(&runs).join(" "));
+}
