@@ -2,9 +2,9 @@
 use Prim.Native.Nat.{ℕ, _-_, _*_, _/_, _%_, _<_, _≤_}
 use mathlib.Core.Path.{_≡_, refl, sym, ap, ap₂, _∙_}
 use mathlib.Core.Bool.{Bool, true, false, not, _&&_}
-use mathlib.Core.List.{List}
+use mathlib.Core.List.{List, [], _∷_}
 use native.Mathlib.Omega.{arith}
-use borrow.Author.Tests.{lt-ltb}
+use borrow.Author.Tests.{lt-ltb, eq-eqb, ne-eqb, not-true, not-false}
 use lib.Dec.{eqb, ltb}
 use lib.ListN.{length, getD, set}
 use lib.Seq.{set-out}
@@ -17,10 +17,10 @@ use Rattle.laws.proofs.Arrays.{read-in}
 use Rattle.laws.proofs.Each.{put-set}
 use Rattle.track.specs.declared.Line.{Line}
 use Rattle.track.specs.declared.Route.{Route}
-use Rattle.track.specs.Objects.{line, route, noRoute}
-use Rattle.signals.specs.Readings.{lies}
-use Rattle.signals.specs.Signals.{place, fallen, routeProceeds, blockProceeds}
-use Rattle.passage.specs.Passage.{nextBlock, farStage}
+use Rattle.track.specs.Objects.{line, route, noLine, noRoute, entrance}
+use Rattle.signals.specs.Readings.{reading, lies}
+use Rattle.signals.specs.Signals.{place, isOpen, unbarred, linePlaced, enterable, fallen, routeProceeds, mainProceeds, blockProceeds}
+use Rattle.passage.specs.Passage.{arrival, nextBlock, farSection, farStage}
 use Rattle.release.specs.declared.Gives.{Gives}
 use Rattle.release.specs.declared.Held.{Held}
 use Rattle.release.specs.Release.{heldAfter}
@@ -28,6 +28,7 @@ use Rattle.layout.specs.declared.Layout.{Layout}
 use Rattle.interlocking.specs.declared.State.{State}
 use Rattle.interlocking.specs.State.{codes, routesInRange, withSections, withPoints, withRoutes, withLines, withBars}
 use Rattle.interlocking.specs.Own.{ownStageAt, ownSection, ownPoint, throwReading, ownThrow, ownSet, ownCancel, ownSecure, openAt, ownManual, ownBar}
+use Rattle.interlocking.specs.Far.{blockShows, farShows, farShowed}
 use Rattle.interlocking.specs.Settle.{fallenAt, stationProceeds, farProceeds, farDropped, farReading, farMoved, farAfter, lastBlock, passable, wasPassed, ends, exitLockedBy, exitLocked, heldOf, routeAfter, unlessIdle, routesBy}
 
 -- ---- a route of the table, as the code reads it
@@ -48,21 +49,37 @@ proceeds-at phases rs r x n d q b few e = e ∙ ap (λ (a : Route). routeProceed
 
 -- ---- far sections, by cases
 
-module _ (L : Layout) (s : State) (k i w j : ℕ) (b : Line) (v : Bool) (e : b ≡ line (L .line) k) (f : j ≡ nextBlock b w i) where
+-- the block signal: of a line that is not secured that way it shows stop; else the block decides
+module _ (directions points stages bars : List ℕ) (b : Line) (l i w d : ℕ) (e : d ≡ read 8 0 directions l) where
+  pub shows-other-way : (d ≡ w → ⊥) → false ≡ blockShows b directions points stages bars l i w
+  unfolding blockShows _and_
+  shows-other-way h = rw (ne-eqb (read 8 0 directions l) w (λ z. h (e ∙ z)))
+
+  pub shows-that-way : (r : Bool) → d ≡ w → r ≡ every (isOpen stages l i ∷ unbarred bars l i ∷ linePlaced points b ∷ [])
+      → r ≡ blockShows b directions points stages bars l i w
+  unfolding blockShows _and_
+  shows-that-way r h q = rw (eq-eqb (read 8 0 directions l) w (sym e ∙ h)) q
+
+module _ (b : Line) (n : ℕ) (rs : List Route) (phases directions points stages bars : List ℕ) (l i w j : ℕ) (v : Bool) (f : j ≡ nextBlock b w i) where
   -- the station comes next
-  pub far-station : j ≡ 8 → v ≡ stationProceeds L s b w → v ≡ farProceeds L s k i w
-  unfolding farProceeds
-  far-station h q =
-      if-eq (nextBlock (line (L .line) k) w i) 8 _ _ v (ap (λ (a : Line). nextBlock a w i) (sym e) ∙ sym f ∙ h)
-      (q ∙ ap (λ (a : Line). stationProceeds L s a w) e)
+  pub far-station : j ≡ 8 → v ≡ mainProceeds n rs phases (entrance b (arrival w)) → v ≡ farShows b n rs phases directions points stages bars l i w
+  unfolding farShows
+  far-station h q = if-eq (nextBlock b w i) 8 _ _ v (sym f ∙ h) q
 
   -- another block does
-  pub far-next : (j ≡ 8 → ⊥) → v ≡ blockProceeds (L .line) (s .direction) (s .point) (s .stage) (s .bar) k j w → v ≡ farProceeds L s k i w
-  unfolding farProceeds
-  far-next h q =
-      let same : j ≡ nextBlock (line (L .line) k) w i = f ∙ ap (λ (a : Line). nextBlock a w i) e in
-      if-ne (nextBlock (line (L .line) k) w i) 8 _ _ v (λ z. h (same ∙ z))
-      (q ∙ ap (λ n. blockProceeds (L .line) (s .direction) (s .point) (s .stage) (s .bar) k n w) same)
+  pub far-next : (j ≡ 8 → ⊥) → v ≡ blockShows b directions points stages bars l j w → v ≡ farShows b n rs phases directions points stages bars l i w
+  unfolding farShows
+  far-next h q = if-ne (nextBlock b w i) 8 _ _ v (λ z. h (f ∙ z)) (q ∙ ap (λ x. blockShows b directions points stages bars l x w) f)
+
+-- the far signal showed stop before, or it is asked again
+module _ (b : Line) (n : ℕ) (rs : List Route) (before s : State) (l i w : ℕ) (v : Bool) (e : v ≡ farShowed b n rs before l i w) where
+  pub dropped-stop : not v ≡ true → false ≡ (farShowed b n rs before l i w and not (farShowed b n rs s l i w))
+  unfolding _and_
+  dropped-stop h = rw (← e, not-true v h)
+
+  pub dropped-now : (u : Bool) → not v ≡ false → u ≡ farShowed b n rs s l i w → not u ≡ (farShowed b n rs before l i w and not (farShowed b n rs s l i w))
+  unfolding _and_
+  dropped-now u h q = rw (← e, not-false v h, q)
 
 -- the far signal matters only to a block in stage 1 whose far section reads occupied
 far-same : (far was : ℕ) (d : Bool) → eqb was 2 && eqb far 2 ≡ false → farStage far false was ≡ farStage far d was
@@ -75,23 +92,49 @@ far-same far was d h = go (eqb was 2) (eqb far 2) h
     go true false p = refl
     go false b p = refl
 
-module _ (L : Layout) (before s : State) (k w was far v : ℕ) (e : far ≡ farReading L s (k / 8) (k % 8) w) where
-  pub far-asked : (d : Bool) → d ≡ farDropped L before s (k / 8) (k % 8) w → v ≡ farStage far d was → v ≡ farMoved L before s k w was
-  unfolding farMoved
-  far-asked d p q = q ∙ ap₂ (λ (x : ℕ) (y : Bool). farStage x y was) e p
+-- a line of the table, as the code reads it
+line-in : (ls : List Line) (k m : ℕ) (d : Line) → length ls ≡ 8 → k < m → m ≤ 64 → getD ls (k / 8) d ≡ line ls (k / 8)
+unfolding line
+line-in ls k m d q b few = read-in ls (k / 8) 8 d noLine q (omega arith)
 
-  pub far-moot : eqb was 2 && eqb far 2 ≡ false → v ≡ farStage far false was → v ≡ farMoved L before s k w was
-  unfolding farMoved
-  far-moot h q = q ∙ far-same far was (farDropped L before s (k / 8) (k % 8) w) h ∙ ap (λ x. farStage x (farDropped L before s (k / 8) (k % 8) w) was) e
+-- the stage of the block at place k, with the line's record b
+farMovedBy : Layout → State → State → Line → ℕ → ℕ → ℕ → ℕ
+farMovedBy L before s b k w was =
+    farStage (reading (s .section) (farSection b w (k % 8)))
+    (farShowed b (L .routes) (L .route) before (k / 8) (k % 8) w and not (farShowed b (L .routes) (L .route) s (k / 8) (k % 8) w)) was
 
-module _ (L : Layout) (before s : State) (k w was v : ℕ) (e : w ≡ read 8 0 (s .direction) (k / 8)) where
-  pub far-neutral : w ≡ 0 → v ≡ was → v ≡ farAfter L before s k was
+by-line : (L : Layout) (before s : State) (k w was : ℕ) → farMovedBy L before s (line (L .line) (k / 8)) k w was ≡ farMoved L before s k w was
+unfolding farMovedBy farMoved farReading farDropped farProceeds stationProceeds blockProceeds enterable farShowed farShows blockShows
+by-line L before s k w was = refl
+
+module _ (L : Layout) (before s : State) (k w was : ℕ) (e : w ≡ read 8 0 (s .direction) (k / 8)) where
+  -- the line is neutral
+  pub far-neutral : w ≡ 0 → was ≡ farAfter L before s k was
   unfolding farAfter
-  far-neutral h q = if-eq _ 0 _ _ v (sym e ∙ h) q
+  far-neutral h = if-eq _ 0 _ _ was (sym e ∙ h) refl
 
-  pub far-secured : (w ≡ 0 → ⊥) → v ≡ farMoved L before s k w was → v ≡ farAfter L before s k was
+  secured : (v : ℕ) → (w ≡ 0 → ⊥) → v ≡ farMoved L before s k w was → v ≡ farAfter L before s k was
   unfolding farAfter
-  far-secured h q = if-ne _ 0 _ _ v (λ z. h (e ∙ z)) (q ∙ ap (λ n. farMoved L before s k n was) e)
+  secured v h q = if-ne _ 0 _ _ v (λ z. h (e ∙ z)) (q ∙ ap (λ n. farMoved L before s k n was) e)
+
+  module _ (m : ℕ) (d : Line) (far v : ℕ) (len : length (L .line) ≡ 8) (b : k < m) (few : m ≤ 64) (h : w ≡ 0 → ⊥)
+      (f : far ≡ reading (s .section) (farSection (getD (L .line) (k / 8) d) w (k % 8))) where
+    moved : v ≡ farMovedBy L before s (getD (L .line) (k / 8) d) k w was → v ≡ farAfter L before s k was
+    moved q = secured v h (q ∙ ap (λ (x : Line). farMovedBy L before s x k w was) (line-in (L .line) k m d len b few) ∙ by-line L before s k w was)
+
+    -- the far signal is asked
+    pub far-asked : (x : Bool) → x ≡ (farShowed (getD (L .line) (k / 8) d) (L .routes) (L .route) before (k / 8) (k % 8) w
+        and not (farShowed (getD (L .line) (k / 8) d) (L .routes) (L .route) s (k / 8) (k % 8) w)) → v ≡ farStage far x was → v ≡ farAfter L before s k was
+    unfolding farMovedBy
+    far-asked x p q = moved (q ∙ ap₂ (λ (y : ℕ) (z : Bool). farStage y z was) f p)
+
+    -- or does not matter
+    pub far-moot : eqb was 2 && eqb far 2 ≡ false → v ≡ farStage far false was → v ≡ farAfter L before s k was
+    unfolding farMovedBy
+    far-moot g q =
+        let x : Bool = farShowed (getD (L .line) (k / 8) d) (L .routes) (L .route) before (k / 8) (k % 8) w
+        and not (farShowed (getD (L .line) (k / 8) d) (L .routes) (L .route) s (k / 8) (k % 8) w) in
+        moved (q ∙ far-same far was x g ∙ ap (λ y. farStage y x was) f)
 
 -- an open block, and one held in stage 0, stay as they are
 pub far-idle : (L : Layout) (before s : State) (k was : ℕ) → was < 2 → was ≡ farAfter L before s k was

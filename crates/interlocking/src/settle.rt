@@ -3,12 +3,17 @@ use super::State;
 use layout::Layout;
 use track::Line;
 use track::Route;
-use track::line_at;
 ghost use mathlib.Core.Path.{_≡_};
+ghost use mathlib.Core.Bool.{not};
 ghost use Prim.Native.Nat.{_≤_};
+ghost use Rattle.laws.specs.Tests.{_and_};
 ghost use Rattle.laws.specs.Tables.{each, read};
-ghost use Rattle.signals.specs.Signals.{routeProceeds, mainProceeds, blockProceeds};
-ghost use Rattle.interlocking.specs.Settle.{fallenAt, signals, stationProceeds, farProceeds, farDropped, farReading, farMoved, farAfter, farSections};
+ghost use Rattle.track.specs.Objects.{entrance};
+ghost use Rattle.signals.specs.Readings.{reading};
+ghost use Rattle.signals.specs.Signals.{routeProceeds, mainProceeds};
+ghost use Rattle.passage.specs.Passage.{arrival, farSection};
+ghost use Rattle.interlocking.specs.Far.{blockShows, farShows, farShowed};
+ghost use Rattle.interlocking.specs.Settle.{fallenAt, signals, farAfter, farSections};
 
 // The phases after signals have fallen.
 fn fallen_phases(ls: [Line; 8], rs: [Route; 48], n: u8, s: State) -> [u8; 48]
@@ -83,99 +88,143 @@ fn main_proceeds(n: u8, rs: [Route; 48], phases: &[u8; 48], x: u8) -> bool
     false
 }
 
-// The block signal into block i of line l for direction w shows proceed.
-fn block_proceeds(ls: [Line; 8], s: State, l: u8, i: u8, w: u8) -> bool
-    ensures { λ b. ⌜ b ≡ blockProceeds ls (s .direction) (s .point) (s .stage) (s .bar) l i w ⌝ }
+// The block signal into block i of line l, of which the record is b, for direction w shows proceed.
+fn block_proceeds<'a>(
+    b: Line,
+    directions: &'a [u8; 8],
+    points: &'a [u8; 32],
+    stages: &'a [u8; 64],
+    bars: &'a [u8; 64],
+    l: u8,
+    i: u8,
+    w: u8,
+) -> bool
+    ensures { λ x. ⌜ x ≡ blockShows b (now (directions .entry)) (now (points .entry)) (now (stages .entry)) (now (bars .entry)) l i w ⌝ }
 {
-    let way = direction_of(&s.direction, l);
-    let open = signals::may_enter(ls, &s.point, &s.stage, &s.bar, l, i);
-    (way == w) & open
+    if direction_of(directions, l) != w {
+        return false;
+    }
+    signals::may_enter_line(b, points, stages, bars, l, i)
 }
 
 // The entrance signal of a line's arrival end shows proceed.
-fn station_proceeds(l: Layout, s: State, b: Line, w: u8) -> bool
-    requires { ⌜ l .routes ≤ 48 ⌝ }
-    ensures { λ x. ⌜ x ≡ stationProceeds l s b w ⌝ }
+fn station_proceeds(b: Line, n: u8, rs: [Route; 48], phases: &[u8; 48], w: u8) -> bool
+    requires { ⌜ n ≤ 48 ⌝ }
+    ensures { λ x. ⌜ x ≡ mainProceeds n rs (now (phases .entry)) (entrance b (arrival w)) ⌝ }
 {
-    let rs = l.route;
     let e = passage::arrival_end(w);
     let x = track::entrance_at(b, e);
-    main_proceeds(l.routes, rs, &s.phase, x)
+    main_proceeds(n, rs, phases, x)
 }
 
-// The far signal of block i of line k in direction w shows proceed.
-fn far_proceeds(l: Layout, s: State, k: u8, i: u8, w: u8) -> bool
-    requires { ⌜ l .routes ≤ 48 ⌝ }
-    ensures { λ x. ⌜ x ≡ farProceeds l s k i w ⌝ }
+// The far signal of block i of line l, of which the record is b, in direction w shows proceed.
+fn far_proceeds<'a>(
+    b: Line,
+    n: u8,
+    rs: [Route; 48],
+    phases: &'a [u8; 48],
+    directions: &'a [u8; 8],
+    points: &'a [u8; 32],
+    stages: &'a [u8; 64],
+    bars: &'a [u8; 64],
+    l: u8,
+    i: u8,
+    w: u8,
+) -> bool
+    requires { ⌜ n ≤ 48 ⌝ }
+    ensures { λ x. ⌜ x ≡ farShows b n rs (now (phases .entry)) (now (directions .entry)) (now (points .entry)) (now (stages .entry)) (now (bars .entry)) l i w ⌝ }
 {
-    let ls = l.line;
-    let b = line_at(ls, k);
     let j = passage::next_block(b, w, i);
     if j == 8 {
-        return station_proceeds(l, s, b, w);
+        return station_proceeds(b, n, rs, phases, w);
     }
-    block_proceeds(ls, s, k, j, w)
+    block_proceeds(b, directions, points, stages, bars, l, j, w)
 }
 
-// It went from proceed to stop.
-fn far_dropped(l: Layout, before: State, s: State, k: u8, i: u8, w: u8) -> bool
-    requires { ⌜ l .routes ≤ 48 ⌝ }
-    ensures { λ x. ⌜ x ≡ farDropped l before s k i w ⌝ }
+// It went from proceed to stop; what it shows now is asked only where it showed proceed.
+fn far_dropped(
+    b: Line,
+    n: u8,
+    rs: [Route; 48],
+    before: State,
+    s: State,
+    l: u8,
+    i: u8,
+    w: u8,
+) -> bool
+    requires { ⌜ n ≤ 48 ⌝ }
+    ensures { λ x. ⌜ x ≡ farShowed b n rs before l i w and not (farShowed b n rs s l i w) ⌝ }
 {
-    let was = far_proceeds(l, before, k, i, w);
-    let is = far_proceeds(l, s, k, i, w);
-    was & !is
+    let was = far_proceeds(
+        b,
+        n,
+        rs,
+        &before.phase,
+        &before.direction,
+        &before.point,
+        &before.stage,
+        &before.bar,
+        l,
+        i,
+        w,
+    );
+    if !was {
+        return false;
+    }
+    let is = far_proceeds(
+        b,
+        n,
+        rs,
+        &s.phase,
+        &s.direction,
+        &s.point,
+        &s.stage,
+        &s.bar,
+        l,
+        i,
+        w,
+    );
+    !is
 }
 
-// What the far section reads.
-fn far_reading(l: Layout, s: State, k: u8, i: u8, w: u8) -> u8
-    ensures { λ x. ⌜ x ≡ farReading l s k i w ⌝ }
+// What the far section of block i reads.
+fn far_reading(b: Line, sections: &[u8; 64], i: u8, w: u8) -> u8
+    ensures { λ x. ⌜ x ≡ reading (now (sections .entry)) (farSection b w i) ⌝ }
 {
-    let ls = l.line;
-    let b = line_at(ls, k);
     let g = passage::far_section(b, w, i);
-    signals::section_reads(&s.section, g)
+    signals::section_reads(sections, g)
 }
 
-// The stage of the block at place k on a line secured in direction w. The far signal is asked only where it matters.
-fn far_moved(l: Layout, before: State, s: State, k: u8, w: u8, was: u8) -> u8
-    requires { ⌜ l .routes ≤ 48 ⌝ }
-    ensures { λ x. ⌜ x ≡ farMoved l before s k w was ⌝ }
-{
-    let far = far_reading(l, s, k / 8, k % 8, w);
-    if (was == 2) & (far == 2) {
-        let dropped = far_dropped(l, before, s, k / 8, k % 8, w);
-        return passage::far_stage(far, dropped, was);
-    }
-    passage::far_stage(far, false, was)
-}
-
-// The stage of the block at place k.
-fn far_after(l: Layout, before: State, s: State, k: u8, was: u8) -> u8
-    requires { ⌜ l .routes ≤ 48 ⌝ }
-    ensures { λ x. ⌜ x ≡ farAfter l before s k was ⌝ }
-{
-    let w = direction_of(&s.direction, k / 8);
-    if w == 0 {
-        return was;
-    }
-    far_moved(l, before, s, k, w, was)
-}
-
-// The stages of the first m places; an open block, and one held in stage 0, are left at once.
-fn far_stages(s: State, m: u8, before: State, l: Layout) -> [u8; 64]
+// The stages of the first m places. An open block, one held in stage 0, and one of a neutral line are left at once;
+// the far signal is asked only where it matters.
+fn far_stages(s: State, l: Layout, m: u8, before: State) -> [u8; 64]
     requires { ⌜ (m ≤ 64) × (l .routes ≤ 48) ⌝ }
     ensures { λ x. ⌜ x ≡ each m (farAfter l before s) (s .stage) ⌝ }
 {
+    let ls = l.line;
+    let rs = l.route;
     let mut stage = s.stage;
     let mut k: u8 = 0;
     while k < m {
-        if stage[k as usize] < 2 {
+        let was = stage[k as usize];
+        if was < 2 {
             k += 1;
             continue;
         }
-        let was = stage[k as usize];
-        stage[k as usize] = far_after(l, before, s, k, was);
+        let w = direction_of(&s.direction, k / 8);
+        if w == 0 {
+            k += 1;
+            continue;
+        }
+        let b = ls[(k / 8) as usize];
+        let far = far_reading(b, &s.section, k % 8, w);
+        if (was == 2) & (far == 2) {
+            let dropped = far_dropped(b, l.routes, rs, before, s, k / 8, k % 8, w);
+            stage[k as usize] = passage::far_stage(far, dropped, was);
+            k += 1;
+            continue;
+        }
+        stage[k as usize] = passage::far_stage(far, false, was);
         k += 1;
     }
     stage
@@ -186,7 +235,7 @@ pub fn far_sections(l: Layout, before: State, s: State) -> State
     requires { ⌜ (l .lines ≤ 8) × (l .routes ≤ 48) ⌝ }
     ensures { λ t. ⌜ t ≡ farSections l before s ⌝ }
 {
-    let stage = far_stages(s, 8 * l.lines, before, l);
+    let stage = far_stages(s, l, 8 * l.lines, before);
     let mut t = s;
     t.stage = stage;
     t

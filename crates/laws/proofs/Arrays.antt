@@ -4,10 +4,12 @@ use mathlib.Core.Path.{_≡_, refl, sym, subst, _∙_}
 use mathlib.Core.List.{List, [], _∷_, map}
 use native.Mathlib.Nat.{not-suc-le-zero, le-of-suc-le-suc}
 use native.Mathlib.Omega.{arith}
-use native.Mathlib.Decide.{ℕ-discrete}
+use native.Mathlib.Decide.{ℕ-discrete, decLt}
 use borrow.Author.Needs.{needs}
 use lib.ListN.{length, getD, set, replicate, length-map, List·getD-eq-default}
 use lib.Seq.{getD-set-same, getD-set-other}
+use Rattle.laws.specs.Tables.{read}
+use Rattle.laws.proofs.Choice.{if-lt, if-ge}
 
 module _ {A : Type 0} where
   -- inside, what is read past the end does not matter
@@ -44,6 +46,15 @@ module _ {A : Type 0} where
   pub stored : (P : A → Type 0) (l : List A) (i : ℕ) (v d : A) → i < length l → ((k : ℕ) → k < i → P (getD l k d)) → P v
       → (k : ℕ) → k < suc i → P (getD (set l i v) k d)
   stored P l i v d h f p k q = stored-at P l i v d k (ℕ-discrete k i) h (f k) p q
+
+-- what is read of a list that is lent, of n numbers: the entry, 0 past its end
+lent-cases : (xs : List ℕ) (i n v : ℕ) → Dec (i < n) → v ≡ read n 0 xs i → length xs ≡ n → v ≡ getD xs i 0
+unfolding read
+lent-cases xs i n v (yes h) e q = e ∙ sym (if-lt i n _ _ _ h refl)
+lent-cases xs i n v (no h) e q = e ∙ sym (if-ge i n _ _ _ (omega arith) (List·getD-eq-default xs 0 (omega arith)))
+
+pub lent-at : (xs : List ℕ) (i n v : ℕ) → v ≡ read n 0 xs i → length xs ≡ n → v ≡ getD xs i 0
+lent-at xs i n v e q = lent-cases xs i n v (decLt i n) e q
 
 -- the length of an array of structs, as the rule for the array has it
 pub length-mapped : (X Y : Type 0) (f : X → Y) (l : List X) (n : ℕ) → length (map f l) ≡ n → length l ≡ n

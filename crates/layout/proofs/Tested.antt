@@ -1,14 +1,16 @@
 -- The walks of the code test just what the rules say.
-use Prim.Native.Nat.{ℕ, _<_, _≤_}
-use mathlib.Core.Path.{_≡_, refl, ap, ap₂, _∙_}
-use mathlib.Core.Bool.{Bool, not, _&&_}
+use Prim.Native.Nat.{ℕ, _+_, _<_, _≤_}
+use mathlib.Core.Path.{_≡_, refl, sym, ap, ap₂, _∙_}
+use mathlib.Core.Bool.{Bool, true, false, not, _&&_}
 use mathlib.Core.List.{List}
 use native.Mathlib.Omega.{arith}
+use borrow.Author.Tests.{eq-eqb, ne-eqb}
 use lib.Dec.{eqb, leb}
 use lib.ListN.{length, getD}
 use Rattle.laws.specs.Choice.{if_then_else_}
 use Rattle.laws.specs.Tests.{_and_, implies, every, all}
-use Rattle.laws.proofs.Tests.{all-same}
+use Rattle.laws.proofs.Tests.{implies-from, all-same}
+use Rattle.laws.proofs.Loops.{Held, held-on, all-stops, all-done}
 use Rattle.laws.proofs.Tables.{table-at}
 use Rattle.laws.proofs.Arrays.{read-in}
 use Rattle.track.specs.declared.Counts.{Counts}
@@ -42,6 +44,31 @@ pub row-at : (m : List ℕ) (t : List Reach) (r q : ℕ) (d : Reach) {v : Bool} 
     → v ≡ pairKeeps m r q (getD t r d) (getD t q d) → v ≡ rowKeeps m t r q
 unfolding rowKeeps
 row-at m t r q d n h l e = e ∙ ap₂ (pairKeeps m r q) (read-in t r 48 d noReach n h) (read-in t q 48 d noReach n (omega arith))
+
+-- ---- rule 6 for two routes: what is listed keeps it, and what is not must not clash
+
+not-implies : (t : Bool) → not t ≡ implies t false
+unfolding implies
+not-implies true = refl
+not-implies false = refl
+
+module _ (m : List ℕ) (r q : ℕ) (a b : Reach) {e : ℕ} (p : e ≡ entryOf m r q) where
+  pub pair-listed : e ≡ 1 → true ≡ pairKeeps m r q a b
+  unfolding pairKeeps
+  pair-listed h = sym (implies-from (clashing a b) _ (λ t. eq-eqb _ 1 (sym p ∙ h)))
+
+  pub pair-unlisted : {v : Bool} → (e ≡ 1 → ⊥) → v ≡ clashing a b → not v ≡ pairKeeps m r q a b
+  unfolding pairKeeps
+  pair-unlisted h k = rw (k, ne-eqb _ 1 (λ z. h (p ∙ z))) (not-implies (clashing a b))
+
+-- ---- rule 6 for all routes before r, and for r with those before q
+
+module _ (m : List ℕ) (t : List Reach) (n r q : ℕ) (h : Held n (λ k. all k (rowKeeps m t k)) r) (l : r < n) (j : Held r (rowKeeps m t r) q) where
+  pub rows-stop : {v : Bool} → q < r → v ≡ rowKeeps m t r q → not v ≡ true → false ≡ all n (λ k. all k (rowKeeps m t k))
+  rows-stop s e f = all-stops n _ r h l (all-stops r _ q j s e f) refl
+
+  pub rows-on : r ≤ q → Held n (λ k. all k (rowKeeps m t k)) (r + 1)
+  rows-on s = held-on n _ r h l (all-done r _ q j s) refl
 
 -- ---- each rule, by the walk that tests it
 

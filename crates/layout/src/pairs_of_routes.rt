@@ -50,37 +50,27 @@ fn pair_keeps(m: &[u8; 2304], r: u8, q: u8, a: Reach, b: Reach) -> bool
     requires { ⌜ (r < 48) × (q < 48) ⌝ }
     ensures { λ x. ⌜ x ≡ pairKeeps (now (m .entry)) r q a b ⌝ }
 {
-    let clash = rules::clash(a, b);
-    let listed = entry(m, r, q);
-    !clash | (listed == 1)
-}
-
-// Rule 6 for the route r and each before it.
-fn row_keeps(m: &[u8; 2304], t: [Reach; 48], r: u8) -> bool
-    requires { ⌜ r < 48 ⌝ }
-    ensures { λ x. ⌜ x ≡ all r (rowKeeps (now (m .entry)) t r) ⌝ }
-{
-    let a = t[r as usize];
-    let mut q: u8 = 0;
-    while q < r {
-        let b = t[q as usize];
-        if !pair_keeps(m, r, q, a, b) {
-            return false;
-        }
-        q += 1;
+    if entry(m, r, q) == 1 {
+        return true;
     }
-    true
+    !rules::clash(a, b)
 }
 
-// Rule 6 for each of n routes.
+// Rule 6 for each of n routes and each before it.
 fn rows_keep(m: &[u8; 2304], t: [Reach; 48], n: u8) -> bool
     requires { ⌜ n ≤ 48 ⌝ }
     ensures { λ x. ⌜ x ≡ all n (λ r. all r (rowKeeps (now (m .entry)) t r)) ⌝ }
 {
     let mut r: u8 = 0;
     while r < n {
-        if !row_keeps(m, t, r) {
-            return false;
+        let a = t[r as usize];
+        let mut q: u8 = 0;
+        while q < r {
+            let b = t[q as usize];
+            if !pair_keeps(m, r, q, a, b) {
+                return false;
+            }
+            q += 1;
         }
         r += 1;
     }

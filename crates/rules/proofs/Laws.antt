@@ -1,13 +1,22 @@
 -- The cases of the code that goes by a number.
-use Prim.Native.Nat.{ℕ, _-_}
-use mathlib.Core.Path.{_≡_, sym, ap, _∙_}
+use Prim.Native.Nat.{ℕ, _-_, _<_, _≤_}
+use mathlib.Core.Path.{_≡_, refl, sym, ap, _∙_}
+use mathlib.Core.Bool.{Bool, true, false}
+use mathlib.Core.List.{List}
 use native.Mathlib.Omega.{arith}
-use lib.ListN.{getD}
+use borrow.Author.Tests.{eq-eqb, ne-eqb}
+use lib.Dec.{eqb}
+use lib.ListN.{length, getD}
+use Rattle.laws.specs.Tests.{_or_}
+use Rattle.laws.specs.Tables.{read}
+use Rattle.laws.proofs.Arrays.{read-in, read-past, lent-at}
 use Rattle.laws.proofs.Choice.{if-eq, if-ne}
+use Rattle.track.specs.declared.Line.{Line}
 use Rattle.track.specs.declared.Route.{Route}
+use Rattle.track.specs.Objects.{noLine, line}
 use Rattle.sets.specs.Sets.{joined}
-use Rattle.rules.specs.Rules.{endSection}
-use Rattle.rules.specs.Sets.{sideTurn}
+use Rattle.rules.specs.Rules.{hasEntrance, endSection}
+use Rattle.rules.specs.Sets.{sideWith}
 
 -- the last section of a path: of one with no section it is the first entry
 pub last-none : (a : Route) (r : ℕ) → a .paths ≡ 0 → r ≡ getD (a .path) 0 0 → r ≡ endSection a
@@ -19,11 +28,30 @@ unfolding endSection
 last-there a r q = q
 
 -- a point that lies that way, and one that does not
-module _ (w : ℕ) (a : Route) (i set r at : ℕ) (e : at ≡ getD (a .position) i 0) where
-  pub side-that : (x : ℕ) → at ≡ w → x ≡ getD (a .point) i 0 → r ≡ joined set x → r ≡ sideTurn w a i set
-  unfolding sideTurn
-  side-that x h d q = if-eq (getD (a .position) i 0) w _ _ r (sym e ∙ h) (q ∙ ap (joined set) d)
+module _ (w : ℕ) (ps ws : List ℕ) (i set r at : ℕ) (e : at ≡ read 8 0 ws i) (n : length ws ≡ 8) where
+  pub side-that : (x : ℕ) → at ≡ w → x ≡ read 8 0 ps i → length ps ≡ 8 → r ≡ joined set x → r ≡ sideWith w ps ws i set
+  unfolding sideWith
+  side-that x h d m q = if-eq (getD ws i 0) w _ _ r (sym (lent-at ws i 8 at e n) ∙ h) (q ∙ ap (joined set) (lent-at ps i 8 x d m))
 
-  pub side-other : (at ≡ w → ⊥) → r ≡ set → r ≡ sideTurn w a i set
-  unfolding sideTurn
-  side-other h q = if-ne (getD (a .position) i 0) w _ _ r (λ z. h (e ∙ z)) q
+  pub side-other : (at ≡ w → ⊥) → r ≡ set → r ≡ sideWith w ps ws i set
+  unfolding sideWith
+  side-other h q = if-ne (getD ws i 0) w _ _ r (λ z. h (lent-at ws i 8 at e n ∙ z)) q
+
+-- an entrance signal of line l, as the code reads the array of lines
+module _ (ls : List Line) (l x : ℕ) (n : length ls ≡ 8) where
+  pub entrance-here : (d : Line) (v : Bool) → l < 8 → v ≡ eqb (getD ls l d .entrancea) x or eqb (getD ls l d .entranceb) x → v ≡ hasEntrance ls x l
+  unfolding hasEntrance line
+  entrance-here d v b e = e ∙ ap (λ (a : Line). eqb (a .entrancea) x or eqb (a .entranceb) x) (read-in ls l 8 d noLine n b)
+
+  -- past the eighth the line is one of nothing
+  entrance-past : 8 ≤ l → hasEntrance ls x l ≡ eqb 0 x or eqb 0 x
+  unfolding hasEntrance line noLine
+  entrance-past b = ap (λ (a : Line). eqb (a .entrancea) x or eqb (a .entranceb) x) (sym (read-past ls l 8 noLine noLine n b refl))
+
+  pub entrance-nought : 8 ≤ l → x ≡ 0 → true ≡ hasEntrance ls x l
+  unfolding _or_
+  entrance-nought b e = sym (entrance-past b ∙ ap (λ t. t or t) (eq-eqb 0 x (sym e)))
+
+  pub entrance-none : 8 ≤ l → (x ≡ 0 → ⊥) → false ≡ hasEntrance ls x l
+  unfolding _or_
+  entrance-none b e = sym (entrance-past b ∙ ap (λ t. t or t) (ne-eqb 0 x (λ z. e (sym z))))

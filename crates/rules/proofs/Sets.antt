@@ -16,7 +16,7 @@ use Rattle.track.specs.declared.Route.{Route}
 use Rattle.track.specs.Objects.{line}
 use Rattle.track.specs.Lists.{among}
 use Rattle.rules.specs.Rules.{share, hasBlock, isBlock, hasInner, isInner, inPath, stands, clashes}
-use Rattle.rules.specs.Sets.{lineBlocks, blockSet, innerTurn, innerSet, offBlocks, sideTurn, sideSet, reachOf, clashing}
+use Rattle.rules.specs.Sets.{lineBlocks, blockSet, innerTurn, innerSet, offBlocks, sideWith, sideSet, reachOf, clashing}
 
 -- two sets have an element in common just where some number passes both of the tests that they stand for
 pub common-is : (a b : ℕ) (p q : ℕ → Bool) → ((g : ℕ) → g < 64 → holds a g ≡ p g) → ((g : ℕ) → g < 64 → holds b g ≡ q g)
@@ -69,11 +69,11 @@ side-more set x g false l = or-none (holds set g)
     or-none false = refl
 
 sides : (w : ℕ) (a : Route) (n g : ℕ) → g < 64
-    → holds (iter (sideTurn w a) n 0) g ≡ any n (λ i. eqb (getD (a .position) i 0) w and eqb (getD (a .point) i 0) g)
-unfolding iter sideTurn any _or_
+    → holds (iter (sideWith w (a .point) (a .position)) n 0) g ≡ any n (λ i. eqb (getD (a .position) i 0) w and eqb (getD (a .point) i 0) g)
+unfolding iter sideWith any _or_
 sides w a zero g l = holds-none g
 sides w a (suc n) g l =
-    side-more (iter (sideTurn w a) n 0) (getD (a .point) n 0) g (eqb (getD (a .position) n 0) w) l
+    side-more (iter (sideWith w (a .point) (a .position)) n 0) (getD (a .point) n 0) g (eqb (getD (a .position) n 0) w) l
     ∙ ap (λ t. t or (eqb (getD (a .position) n 0) w and eqb (getD (a .point) n 0) g)) (sides w a n g l)
 
 -- the points of a route that lie that way

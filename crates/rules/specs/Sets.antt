@@ -31,12 +31,12 @@ innerSet n ls = iter (innerTurn ls) n 0
 unfoldable pub offBlocks : ℕ → Route → Bool
 offBlocks blocks a = not (common blocks (setOf (a .paths) (a .path)))
 
--- the route's i-th point with those before it, if it lies that way; all its points that do
-unfoldable pub sideTurn : ℕ → Route → ℕ → ℕ → ℕ
-sideTurn w a i set = if eqb (getD (a .position) i 0) w then joined set (getD (a .point) i 0) else set
+-- the i-th of these points with those before it, if its position is that way; all points of a route that lie so
+unfoldable pub sideWith : ℕ → List ℕ → List ℕ → ℕ → ℕ → ℕ
+sideWith w point position i set = if eqb (getD position i 0) w then joined set (getD point i 0) else set
 
 unfoldable pub sideSet : ℕ → Route → ℕ
-sideSet w a = iter (sideTurn w a) (a .points) 0
+sideSet w a = iter (sideWith w (a .point) (a .position)) (a .points) 0
 
 -- what rule 6 asks of a route
 unfoldable pub reachOf : Route → Reach

@@ -1,16 +1,19 @@
 // The six rules of section 2, as they bear on one line, on one route and on two routes.
 use laws::at8;
+use laws::lent8;
 use track::Line;
 use track::Route;
-use track::all_differ;
 use track::entrance_at;
 use track::inner_at;
 use track::line_at;
 ghost use mathlib.Core.Path.{_≡_};
 ghost use mathlib.Core.Bool.{not};
 ghost use lib.Dec.{eqb};
-ghost use Rattle.rules.specs.Rules.{hasEntrance, isEntrance, once, lineEnds, linePoints, routeLists, routeLength, endSection, routeEnds};
-ghost use Rattle.rules.specs.Sets.{lineBlocks, blockSet, innerTurn, innerSet, offBlocks, sideTurn, sideSet, reachOf, clashing};
+ghost use lib.ListN.{length};
+ghost use Rattle.laws.specs.Tests.{_or_};
+ghost use Rattle.track.specs.Lists.{differ};
+ghost use Rattle.rules.specs.Rules.{isEntrance, once, lineEnds, linePoints, routeLists, routeLength, endSection, routeEnds};
+ghost use Rattle.rules.specs.Sets.{lineBlocks, blockSet, innerTurn, innerSet, offBlocks, sideWith, sideSet, reachOf, clashing};
 
 // What rule 6 asks of a route: its entry signal, the set of its path sections, of its points to the left, of those to the right.
 pub struct Reach {
@@ -18,6 +21,26 @@ pub struct Reach {
     pub path: u64,
     pub left: u64,
     pub right: u64,
+}
+
+// The first n differ: none is in the set of those before it. A list with a number of 64 or more, which no set can hold, is searched.
+fn all_differ(xs: [u8; 8], n: u8) -> bool
+    ensures { λ r. ⌜ r ≡ differ n xs ⌝ }
+{
+    let mut set: u64 = 0;
+    let mut i: u8 = 0;
+    while i < n {
+        let x = lent8(&xs, i);
+        if 64 <= x {
+            return track::all_differ(xs, n);
+        }
+        if sets::has(set, x) {
+            return false;
+        }
+        set = sets::with(set, x);
+        i += 1;
+    }
+    true
 }
 
 // A set of sections with the blocks of line l in it too.
@@ -87,21 +110,28 @@ pub fn path_off_blocks(blocks: u64, a: Route) -> bool
     !sets::share(blocks, own)
 }
 
-// The signal x is an entrance signal of line l.
-fn is_entrance_of(ls: [Line; 8], l: u8, x: u8) -> bool
-    ensures { λ r. ⌜ r ≡ hasEntrance ls x l ⌝ }
+// The signal x is an entrance signal of a line.
+fn is_entrance_of(a: Line, x: u8) -> bool
+    ensures { λ r. ⌜ r ≡ eqb (a .entrancea) x or eqb (a .entranceb) x ⌝ }
 {
-    let a = line_at(ls, l);
     (a.entrancea == x) | (a.entranceb == x)
 }
 
-// The signal x is an entrance signal of one of the first n lines.
+// The signal x is an entrance signal of one of the first n lines; past the eighth each is a line of nothing.
 fn is_entrance(ls: [Line; 8], n: u8, x: u8) -> bool
     ensures { λ r. ⌜ r ≡ isEntrance n ls x ⌝ }
 {
     let mut l: u8 = 0;
     while l < n {
-        if is_entrance_of(ls, l, x) {
+        if 8 <= l {
+            if x == 0 {
+                return true;
+            }
+            l += 1;
+            continue;
+        }
+        let a = ls[l as usize];
+        if is_entrance_of(a, x) {
             return true;
         }
         l += 1;
@@ -176,13 +206,12 @@ pub fn route_ends(ls: [Line; 8], n: u8, a: Route) -> bool
 }
 
 // A set of points with the i-th point of a route in it too, if it lies that way.
-fn with_point(a: Route, way: u8, i: u8, set: u64) -> u64
-    ensures { λ r. ⌜ r ≡ sideTurn way a i set ⌝ }
+fn with_point<'a>(point: &'a [u8; 8], position: &'a [u8; 8], way: u8, i: u8, set: u64) -> u64
+    requires { ⌜ (length (now point) ≡ 8) × (length (now position) ≡ 8) ⌝ }
+    ensures { λ r. ⌜ r ≡ sideWith way (now (point .entry)) (now (position .entry)) i set ⌝ }
 {
-    let point = a.point;
-    let position = a.position;
-    if at8(position, i) == way {
-        return sets::with(set, at8(point, i));
+    if lent8(position, i) == way {
+        return sets::with(set, lent8(point, i));
     }
     set
 }
@@ -192,10 +221,12 @@ fn side_set(a: Route, way: u8) -> u64
     ensures { λ r. ⌜ r ≡ sideSet way a ⌝ }
 {
     let n = a.points;
+    let point = a.point;
+    let position = a.position;
     let mut set: u64 = 0;
     let mut i: u8 = 0;
     while i < n {
-        set = with_point(a, way, i, set);
+        set = with_point(&point, &position, way, i, set);
         i += 1;
     }
     set

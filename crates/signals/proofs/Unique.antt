@@ -12,6 +12,7 @@ use Rattle.signals.proofs.is_open.Reads as is-open
 use Rattle.signals.proofs.is_unbarred.Reads as is-unbarred
 use Rattle.signals.proofs.held_at.Reads as held-at
 use Rattle.signals.proofs.may_enter.Reads as may-enter
+use Rattle.signals.proofs.may_enter_line.Reads as may-enter-line
 use Rattle.signals.proofs.is_clear.Reads as is-clear
 use Rattle.signals.proofs.falls_to.Reads as falls-to
 
@@ -62,6 +63,10 @@ held-at-determined κs a r q s = only
 -- A train may be let into block i of line l
 pub may-enter-determined : Determines may-enter.Post
 may-enter-determined κs a r q s = only
+
+-- The same, of the line's record
+pub may-enter-line-determined : Determines may-enter-line.Post
+may-enter-line-determined κs a r q s = only
 
 -- What keeps a route's signal at proceed
 pub is-clear-determined : Determines is-clear.Post

@@ -4,9 +4,10 @@ use track::Line;
 use track::Route;
 use track::line_at;
 ghost use mathlib.Core.Path.{_≡_};
+ghost use mathlib.Core.List.{[], _∷_};
 ghost use lib.Dec.{eqb};
 ghost use lib.ListN.{getD};
-ghost use Rattle.laws.specs.Tests.{implies};
+ghost use Rattle.laws.specs.Tests.{implies, every};
 ghost use Rattle.laws.specs.Tables.{read};
 ghost use Rattle.signals.specs.Readings.{recorded, reading, lies, allFree, inPosition};
 ghost use Rattle.signals.specs.Signals.{linePlaced, routePlaced, place, nearest, isOpen, unbarred, enterable, letsOut, clear, fallen};
@@ -152,6 +153,26 @@ pub fn held_at(table: &[u8; 64], l: u8, i: u8) -> u8
     1
 }
 
+// A train may be let into block i of line l, of which the record is b: the tests in order, left at the first that fails.
+pub fn may_enter_line<'a>(
+    b: Line,
+    points: &'a [u8; 32],
+    stages: &'a [u8; 64],
+    bars: &'a [u8; 64],
+    l: u8,
+    i: u8,
+) -> bool
+    ensures { λ r. ⌜ r ≡ every (isOpen (now (stages .entry)) l i ∷ unbarred (now (bars .entry)) l i ∷ linePlaced (now (points .entry)) b ∷ []) ⌝ }
+{
+    if !is_open(stages, l, i) {
+        return false;
+    }
+    if !is_unbarred(bars, l, i) {
+        return false;
+    }
+    line_placed(points, b)
+}
+
 // A train may be let into block i of line l.
 pub fn may_enter<'a>(
     ls: [Line; 8],
@@ -164,10 +185,7 @@ pub fn may_enter<'a>(
     ensures { λ r. ⌜ r ≡ enterable ls (now (points .entry)) (now (stages .entry)) (now (bars .entry)) l i ⌝ }
 {
     let b = line_at(ls, l);
-    let open = is_open(stages, l, i);
-    let free = is_unbarred(bars, l, i);
-    let placed = line_placed(points, b);
-    open & (free & placed)
+    may_enter_line(b, points, stages, bars, l, i)
 }
 
 // A train may be let into the block that an exit route enters.
@@ -201,7 +219,7 @@ fn is_let_out<'a>(
     line_lets_out(ls, points, stages, bars, a)
 }
 
-// What keeps a route's signal at proceed.
+// What keeps a route's signal at proceed: the tests in order, left at the first that fails.
 pub fn is_clear<'a>(
     ls: [Line; 8],
     sections: &'a [u8; 64],
@@ -213,12 +231,17 @@ pub fn is_clear<'a>(
     ensures { λ r. ⌜ r ≡ clear ls (now (sections .entry)) (now (points .entry)) (now (stages .entry)) (now (bars .entry)) a ⌝ }
 {
     let path = a.path;
+    if !all_free(sections, a.paths, path) {
+        return false;
+    }
     let overlap = a.overlap;
-    let way = all_free(sections, a.paths, path);
-    let beyond = all_free(sections, a.overlaps, overlap);
-    let placed = route_placed(points, a);
-    let out = is_let_out(ls, points, stages, bars, a);
-    way & (beyond & (placed & out))
+    if !all_free(sections, a.overlaps, overlap) {
+        return false;
+    }
+    if !route_placed(points, a) {
+        return false;
+    }
+    is_let_out(ls, points, stages, bars, a)
 }
 
 // The phase that a route's signal falls to, or stays in.

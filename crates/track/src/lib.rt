@@ -1,9 +1,9 @@
 // The objects of a layout, lines and routes, and what section 2 asks of one of them alone.
-use laws::at8;
+use laws::lent8;
 ghost use mathlib.Core.Path.{_≡_};
 ghost use mathlib.Core.Bool.{not};
 ghost use lib.Dec.{eqb, ltb};
-ghost use lib.ListN.{getD};
+ghost use lib.ListN.{length, getD};
 ghost use Rattle.track.specs.Objects.{noLine, noRoute, line, route, inner, entrance};
 ghost use Rattle.track.specs.Lists.{among, differ, between, referring, positions};
 ghost use Rattle.track.specs.Ranges.{placed, lineFits, routeFits};
@@ -126,15 +126,17 @@ pub fn entrance_at(a: Line, end: u8) -> u8
 }
 
 // The entry i is g.
-fn is_at(xs: [u8; 8], i: u8, g: u8) -> bool
-    ensures { λ r. ⌜ r ≡ eqb (getD xs i 0) g ⌝ }
+fn is_at(xs: &[u8; 8], i: u8, g: u8) -> bool
+    requires { ⌜ length (now xs) ≡ 8 ⌝ }
+    ensures { λ r. ⌜ r ≡ eqb (getD (now (xs .entry)) i 0) g ⌝ }
 {
-    at8(xs, i) == g
+    lent8(xs, i) == g
 }
 
 // One of the first n is g.
-pub fn is_among(xs: [u8; 8], n: u8, g: u8) -> bool
-    ensures { λ r. ⌜ r ≡ among n xs g ⌝ }
+fn is_listed(xs: &[u8; 8], n: u8, g: u8) -> bool
+    requires { ⌜ length (now xs) ≡ 8 ⌝ }
+    ensures { λ r. ⌜ r ≡ among n (now (xs .entry)) g ⌝ }
 {
     let mut i: u8 = 0;
     while i < n {
@@ -146,11 +148,19 @@ pub fn is_among(xs: [u8; 8], n: u8, g: u8) -> bool
     false
 }
 
-// The entry i is none of those before it.
-fn is_new(xs: [u8; 8], i: u8) -> bool
-    ensures { λ r. ⌜ r ≡ not (among i xs (getD xs i 0)) ⌝ }
+// The same of a list that is given.
+pub fn is_among(xs: [u8; 8], n: u8, g: u8) -> bool
+    ensures { λ r. ⌜ r ≡ among n xs g ⌝ }
 {
-    !is_among(xs, i, at8(xs, i))
+    is_listed(&xs, n, g)
+}
+
+// The entry i is none of those before it.
+fn is_new(xs: &[u8; 8], i: u8) -> bool
+    requires { ⌜ length (now xs) ≡ 8 ⌝ }
+    ensures { λ r. ⌜ r ≡ not (among i (now (xs .entry)) (getD (now (xs .entry)) i 0)) ⌝ }
+{
+    !is_listed(xs, i, lent8(xs, i))
 }
 
 // The first n differ.
@@ -159,7 +169,7 @@ pub fn all_differ(xs: [u8; 8], n: u8) -> bool
 {
     let mut i: u8 = 0;
     while i < n {
-        if !is_new(xs, i) {
+        if !is_new(&xs, i) {
             return false;
         }
         i += 1;
@@ -168,10 +178,11 @@ pub fn all_differ(xs: [u8; 8], n: u8) -> bool
 }
 
 // The entry i refers to an object that there is.
-fn refers_at(xs: [u8; 8], i: u8, objects: u8) -> bool
-    ensures { λ r. ⌜ r ≡ ltb (getD xs i 0) objects ⌝ }
+fn refers_at(xs: &[u8; 8], i: u8, objects: u8) -> bool
+    requires { ⌜ length (now xs) ≡ 8 ⌝ }
+    ensures { λ r. ⌜ r ≡ ltb (getD (now (xs .entry)) i 0) objects ⌝ }
 {
-    at8(xs, i) < objects
+    lent8(xs, i) < objects
 }
 
 // The first n refer to objects that there are.
@@ -180,7 +191,7 @@ fn all_refer(xs: [u8; 8], n: u8, objects: u8) -> bool
 {
     let mut i: u8 = 0;
     while i < n {
-        if !refers_at(xs, i, objects) {
+        if !refers_at(&xs, i, objects) {
             return false;
         }
         i += 1;
@@ -196,10 +207,11 @@ pub fn is_between(low: u8, high: u8, x: u8) -> bool
 }
 
 // The entry i is a position.
-fn position_at(xs: [u8; 8], i: u8) -> bool
-    ensures { λ r. ⌜ r ≡ between 1 2 (getD xs i 0) ⌝ }
+fn position_at(xs: &[u8; 8], i: u8) -> bool
+    requires { ⌜ length (now xs) ≡ 8 ⌝ }
+    ensures { λ r. ⌜ r ≡ between 1 2 (getD (now (xs .entry)) i 0) ⌝ }
 {
-    is_between(1, 2, at8(xs, i))
+    is_between(1, 2, lent8(xs, i))
 }
 
 // The first n are positions.
@@ -208,7 +220,7 @@ fn all_positions(xs: [u8; 8], n: u8) -> bool
 {
     let mut i: u8 = 0;
     while i < n {
-        if !position_at(xs, i) {
+        if !position_at(&xs, i) {
             return false;
         }
         i += 1;

@@ -1,15 +1,15 @@
 -- i points are looked at.
 use Prim.Native.Nat.{_-_}
 use Rattle.laws.proofs.Loops.{Turned, iters}
-use Rattle.rules.specs.Sets.{sideTurn, sideSet}
+use Rattle.rules.specs.Sets.{sideWith, sideSet}
 use Rattle.rules.proofs.side_set.Statement.{statement}
 use Rattle.rules.proofs.side_set.Tie as tie
 
 abbrev Inv-loop : tie.InvT-loop
-Inv-loop a way n set₀ i₀ set i = Turned n (sideTurn way a) 0 set i
+Inv-loop way n point position set₀ i₀ set i = Turned n (sideWith way point position) 0 set i
 
 abbrev μ-loop : tie.MeasureT-loop
-μ-loop a way n set₀ i₀ set i = n - i
+μ-loop way n point position set₀ i₀ set i = n - i
 
 pub side-set-spec : {M : Type 1} → statement M
 unfolding sideSet

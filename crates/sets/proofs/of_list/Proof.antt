@@ -6,10 +6,10 @@ use Rattle.sets.proofs.of_list.Statement.{statement}
 use Rattle.sets.proofs.of_list.Tie as tie
 
 abbrev Inv-loop : tie.InvT-loop
-Inv-loop xs n set₀ i₀ set i = Turned n (addEntry xs) 0 set i
+Inv-loop n xs set₀ i₀ set i = Turned n (addEntry xs) 0 set i
 
 abbrev μ-loop : tie.MeasureT-loop
-μ-loop xs n set₀ i₀ set i = n - i
+μ-loop n xs set₀ i₀ set i = n - i
 
 returns : tie.Need-returns Inv-loop μ-loop
 unfolding setOf

@@ -1,10 +1,8 @@
 -- The four tests, one after the other.
 use borrow.Author.Needs.{needs}
-use Rattle.laws.specs.Tests.{every}
-use Rattle.signals.specs.Signals.{clear}
+use Rattle.signals.proofs.Laws.{clear-way, clear-beyond, clear-placed, clear-out}
 use Rattle.signals.proofs.is_clear.Statement.{statement}
 use Rattle.signals.proofs.is_clear.Tie as tie
 
 pub is-clear-spec : {M : Type 1} → statement M
-unfolding clear every
-is-clear-spec = tie.close (tie.spec (λ c κs. search needs) (λ c κs. search needs) (λ c κs. search needs) (λ c κs. search needs) (λ c. cc))
+is-clear-spec = tie.close (tie.spec (λ c κs. search needs) (λ c. search (needs, clear-way)) (λ c κs. search needs) (λ c. search (needs, clear-beyond)) (λ c κs. search needs) (λ c. search (needs, clear-placed)) (λ c κs. search needs) (λ c. search (needs, clear-out)))

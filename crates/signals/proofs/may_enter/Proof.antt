@@ -1,10 +1,9 @@
--- The three tests, one after the other.
+-- By the line's record.
 use borrow.Author.Needs.{needs}
-use Rattle.laws.specs.Tests.{every}
 use Rattle.signals.specs.Signals.{enterable}
 use Rattle.signals.proofs.may_enter.Statement.{statement}
 use Rattle.signals.proofs.may_enter.Tie as tie
 
 pub may-enter-spec : {M : Type 1} → statement M
-unfolding enterable every
-may-enter-spec = tie.close (tie.spec (λ c κs. search needs) (λ c κs. search needs) (λ c κs. search needs) (λ c κs. search needs) (λ c. cc))
+unfolding enterable
+may-enter-spec = tie.close (tie.spec (λ c κs. search needs) (λ c κs. search needs) (λ c. cc))

@@ -8,10 +8,10 @@ use Rattle.track.proofs.all_differ.Statement.{statement}
 use Rattle.track.proofs.all_differ.Tie as tie
 
 abbrev Inv-loop : tie.InvT-loop
-Inv-loop xs n i₀ i = Held n (λ k. not (among k xs (getD xs k 0))) i
+Inv-loop n xs i₀ i = Held n (λ k. not (among k xs (getD xs k 0))) i
 
 abbrev μ-loop : tie.MeasureT-loop
-μ-loop xs n i₀ i = n - i
+μ-loop n xs i₀ i = n - i
 
 pub all-differ-spec : {M : Type 1} → statement M
 unfolding differ

@@ -7,10 +7,10 @@ use Rattle.track.proofs.all_positions.Statement.{statement}
 use Rattle.track.proofs.all_positions.Tie as tie
 
 abbrev Inv-loop : tie.InvT-loop
-Inv-loop xs n i₀ i = Held n (λ k. between 1 2 (getD xs k 0)) i
+Inv-loop n xs i₀ i = Held n (λ k. between 1 2 (getD xs k 0)) i
 
 abbrev μ-loop : tie.MeasureT-loop
-μ-loop xs n i₀ i = n - i
+μ-loop n xs i₀ i = n - i
 
 pub all-positions-spec : {M : Type 1} → statement M
 unfolding positions

@@ -8,10 +8,10 @@ use Rattle.track.proofs.all_refer.Statement.{statement}
 use Rattle.track.proofs.all_refer.Tie as tie
 
 abbrev Inv-loop : tie.InvT-loop
-Inv-loop xs n objects i₀ i = Held n (λ k. ltb (getD xs k 0) objects) i
+Inv-loop n objects xs i₀ i = Held n (λ k. ltb (getD xs k 0) objects) i
 
 abbrev μ-loop : tie.MeasureT-loop
-μ-loop xs n objects i₀ i = n - i
+μ-loop n objects xs i₀ i = n - i
 
 pub all-refer-spec : {M : Type 1} → statement M
 unfolding referring

@@ -1,18 +1,7 @@
--- A search that leaves at the first that is g.
-use Prim.Native.Nat.{_-_}
-use lib.Dec.{eqb}
-use lib.ListN.{getD}
-use Rattle.laws.proofs.Loops.{Failed, anys}
-use Rattle.track.specs.Lists.{among}
+-- The search, over the list lent.
+use borrow.Author.Needs.{needs}
 use Rattle.track.proofs.is_among.Statement.{statement}
 use Rattle.track.proofs.is_among.Tie as tie
 
-abbrev Inv-loop : tie.InvT-loop
-Inv-loop xs n g i₀ i = Failed n (λ k. eqb (getD xs k 0) g) i
-
-abbrev μ-loop : tie.MeasureT-loop
-μ-loop xs n g i₀ i = n - i
-
 pub is-among-spec : {M : Type 1} → statement M
-unfolding among
-is-among-spec = tie.close (tie.spec Inv-loop μ-loop (λ c. search anys) (λ c κs. search anys) (λ c. search anys) (λ c. search anys) (λ c. search anys) (λ c. search anys) (λ c. search anys))
+is-among-spec = tie.close (tie.spec (λ c κs. search needs) (λ c. cc))

@@ -1,17 +1,84 @@
 -- The blocks before place k have moved.
 use Prim.Native.Nat.{_-_}
+use mathlib.Core.Path.{_≡_}
 use borrow.Author.Needs.{needs}
-use Rattle.interlocking.proofs.Laws.{far-idle}
+use lib.ListN.{length}
+use Rattle.interlocking.proofs.Laws.{far-idle, far-neutral, far-asked, far-moot}
 use Rattle.interlocking.specs.Settle.{farAfter}
-use Rattle.laws.proofs.Each.{Redone, redo-start, redo-on, redoes}
+use Rattle.laws.proofs.Arrays.{length-mapped}
+use Rattle.laws.proofs.Each.{Redone, redo-start, redo-on, redo-skip, redoes}
 use Rattle.interlocking.proofs.settle.far_stages.Statement.{statement}
 use Rattle.interlocking.proofs.settle.far_stages.Tie as tie
 
 abbrev Inv-loop : tie.InvT-loop
-Inv-loop s m before l stage₀ k₀ stage k = Redone 64 m (farAfter l before s) (s .stage) stage k
+Inv-loop l m before s ls rs stage₀ k₀ stage k = (length (l .line) ≡ 8) × Redone 64 m (farAfter l before s) (s .stage) stage k
 
 abbrev μ-loop : tie.MeasureT-loop
-μ-loop s m before l stage₀ k₀ stage k = m - k
+μ-loop l m before s ls rs stage₀ k₀ stage k = m - k
+
+-- an open block, or one held in stage 0
+idle : tie.Need-loop-again Inv-loop μ-loop
+idle c = let j = c .before .before .loop .inv in (j .0, redo-skip _ _ _ _ _ _ (j .1) (search needs) (far-idle _ _ _ _ _ (search needs)))
+
+-- a block of a neutral line
+neutral : tie.Need-loop-again-2 Inv-loop μ-loop
+neutral c = let j = c .before .before .before .before .before .before .loop .inv in (j .0, redo-skip _ _ _ _ _ _ (j .1) (search needs) (far-neutral _ _ _ _ _ _ (c .before .direction-of .ensures) (c .if2 .taken)))
+
+-- a block whose far signal is asked
+asked : tie.Need-loop-again-3 Inv-loop μ-loop
+asked c =
+    let r = c .before .before .before in
+    let w = r .before .before .before .before in
+    let j = w .before .before .before .before .before .before .loop .inv in (
+      j .0,
+      redo-on _ _ _ _ _ _ _ (j .1) (search needs)
+          (far-asked _ _ _ _ _ _ (w .before .direction-of .ensures) _ _ _ _ (j .0) (search needs) (w .before .before .before .before .before .before .before .before .before .before .pre .0) (w .if2 .left) (r .far-reading .ensures)
+          _ (c .before .far-dropped .ensures) (c .far-stage .ensures)),
+    )
+
+-- or does not matter
+moot : tie.Need-loop-again-4 Inv-loop μ-loop
+moot c =
+    let r = c .before .before in
+    let w = r .before .before .before .before in
+    let j = w .before .before .before .before .before .before .loop .inv in (
+      j .0,
+      redo-on _ _ _ _ _ _ _ (j .1) (search needs)
+          (far-moot _ _ _ _ _ _ (w .before .direction-of .ensures) _ _ _ _ (j .0) (search needs) (w .before .before .before .before .before .before .before .before .before .before .pre .0) (w .if2 .left) (r .far-reading .ensures)
+          (c .before .if3 .left) (c .far-stage2 .ensures)),
+    )
 
 pub far-stages-spec : {M : Type 1} → statement M
-far-stages-spec = tie.close (tie.spec Inv-loop μ-loop (λ c. redo-start _ _ _ _ (c .before .pre .0) (search needs)) (λ c. search redoes) (λ c. search redoes) (λ c. search redoes) (λ c. search redoes) (λ c. search (redoes, far-idle)) (λ c. search redoes) (λ c. search redoes) (λ c κs. search redoes) (λ c. search redoes) (λ c. search redoes) (λ c. search redoes) (λ c. search redoes) (λ c. redo-on _ _ _ _ _ _ _ (c .before .before .before .loop .inv) (search needs) (c .far-after .ensures)) (λ c. search redoes))
+far-stages-spec =
+    tie.close
+    (tie.spec
+    Inv-loop
+    μ-loop
+    (λ c. (search (needs, length-mapped), redo-start _ _ _ _ (c .before .before .before .pre .0) (search needs)))
+    (λ c. search redoes)
+    (λ c. search redoes)
+    (λ c. search redoes)
+    (λ c. search redoes)
+    idle
+    (λ c κs. search redoes)
+    (λ c. search redoes)
+    (λ c. search redoes)
+    neutral
+    (λ c. search redoes)
+    (λ c. search redoes)
+    (λ c. search redoes)
+    (λ c κs. search redoes)
+    (λ c κs. search redoes)
+    (λ c κs. search redoes)
+    (λ c. search redoes)
+    (λ c. search redoes)
+    (λ c. search redoes)
+    (λ c. search redoes)
+    asked
+    (λ c κs. search redoes)
+    (λ c. search redoes)
+    (λ c. search redoes)
+    (λ c. search redoes)
+    (λ c. search redoes)
+    moot
+    (λ c. search redoes))

@@ -1,9 +1,7 @@
 -- At the arrival end.
 use borrow.Author.Needs.{needs}
-use Rattle.interlocking.specs.Settle.{stationProceeds}
 use Rattle.interlocking.proofs.settle.station_proceeds.Statement.{statement}
 use Rattle.interlocking.proofs.settle.station_proceeds.Tie as tie
 
 pub station-proceeds-spec : {M : Type 1} → statement M
-unfolding stationProceeds
 station-proceeds-spec = tie.close (tie.spec (λ c κs. search needs) (λ c κs. search needs) (λ c κs. search needs) (λ c. cc))

@@ -1,10 +1,9 @@
--- A clash, and what is listed.
+-- What is listed, else a clash.
 use borrow.Author.Needs.{needs}
-use Rattle.laws.specs.Tests.{implies}
-use Rattle.layout.specs.Walks.{pairKeeps}
+use Rattle.layout.proofs.Tested.{pair-listed, pair-unlisted}
 use Rattle.layout.proofs.pairs_of_routes.pair_keeps.Statement.{statement}
 use Rattle.layout.proofs.pairs_of_routes.pair_keeps.Tie as tie
 
 pub pair-keeps-spec : {M : Type 1} → statement M
-unfolding pairKeeps implies
-pair-keeps-spec = tie.close (tie.spec (λ c κs. search needs) (λ c κs. search needs) (λ c. cc))
+pair-keeps-spec =
+    tie.close (tie.spec (λ c κs. search needs) (λ c. search (needs, pair-listed)) (λ c κs. search needs) (λ c. search (needs, pair-unlisted)))

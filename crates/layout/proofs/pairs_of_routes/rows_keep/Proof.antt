@@ -1,16 +1,43 @@
--- Each route before r keeps rule 6.
+-- Each route before r keeps rule 6, and so does r with each before q.
 use Prim.Native.Nat.{_-_}
-use Rattle.laws.proofs.Loops.{Held, alls}
+use borrow.Author.Needs.{needs}
+use Rattle.laws.proofs.Arrays.{length-mapped}
+use Rattle.laws.proofs.Loops.{Held, held-on, alls}
 use Rattle.laws.specs.Tests.{all}
+use Rattle.layout.proofs.Tested.{row-at, rows-stop, rows-on}
 use Rattle.layout.specs.Walks.{rowKeeps}
 use Rattle.layout.proofs.pairs_of_routes.rows_keep.Statement.{statement}
 use Rattle.layout.proofs.pairs_of_routes.rows_keep.Tie as tie
 
+abbrev Inv-loop2 : tie.InvT-loop2
+Inv-loop2 m n t r a q₀ q = Held r (rowKeeps m t r) q
+
+abbrev μ-loop2 : tie.MeasureT-loop2
+μ-loop2 m n t r a q₀ q = r - q
+
 abbrev Inv-loop : tie.InvT-loop
-Inv-loop m t n r₀ r = Held n (λ k. all k (rowKeeps m t k)) r
+Inv-loop m n t r₀ r = Held n (λ k. all k (rowKeeps m t k)) r
 
 abbrev μ-loop : tie.MeasureT-loop
-μ-loop m t n r₀ r = n - r
+μ-loop m n t r₀ r = n - r
+
+returns : tie.Need-returns Inv-loop2 μ-loop2 Inv-loop μ-loop
+returns c =
+    let j = c .before .before .before .before in
+    rows-stop _ _ _ _ _ (j .before .before .before .loop .inv) (search needs) (j .loop2 .inv) (search needs)
+    (row-at _ _ _ _ _ (search (needs, length-mapped)) (search needs) (search needs) (c .before .pair-keeps .ensures)) (c .if1 .taken)
+
+loop2-again : tie.Need-loop2-again Inv-loop2 μ-loop2 Inv-loop μ-loop
+loop2-again c =
+    let j = c .before .before .before .before .loop2 in
+    held-on _ _ _ (j .inv) (search needs) (row-at _ _ _ _ _ (search (needs, length-mapped)) (search needs) (search needs) (c .before .pair-keeps .ensures)) (c .if1 .left)
+
+loop-again : tie.Need-loop-again Inv-loop2 μ-loop2 Inv-loop μ-loop
+loop-again c = rows-on _ _ _ _ _ (c .before .before .before .before .loop .inv) (search needs) (c .before .loop2 .inv) (search needs)
 
 pub rows-keep-spec : {M : Type 1} → statement M
-rows-keep-spec = tie.close (tie.spec Inv-loop μ-loop (λ c. search alls) (λ c κs. search alls) (λ c. search alls) (λ c. search alls) (λ c. search alls) (λ c. search alls) (λ c. search alls))
+rows-keep-spec =
+    tie.close
+    (tie.spec Inv-loop2 μ-loop2 Inv-loop μ-loop (λ c. search alls) (λ c. search alls) (λ c. search alls) (λ c. search (alls, length-mapped))
+    (λ c. search alls) (λ c. search alls) (λ c. search alls) (λ c. search (alls, length-mapped)) (λ c κs. search alls) returns
+    (λ c. search alls) (λ c. search alls) loop2-again (λ c. search alls) (λ c. search alls) loop-again (λ c. search alls))

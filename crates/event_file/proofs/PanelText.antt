@@ -1,0 +1,140 @@
+-- The panel of a state as text, and a line with it or without.
+use Prim.Native.Nat.{ℕ, zero, suc, _+_, _*_, _<_, _≤_}
+use mathlib.Core.Path.{_≡_, refl, sym, ap, ap₂, subst, _∙_}
+use mathlib.Core.Bool.{Bool, true, false, not}
+use mathlib.Core.List.{List, [], _∷_, _++_}
+use native.Mathlib.Omega.{arith}
+use borrow.Author.Needs.{needs}
+use borrow.Author.Tests.{ltb-false, eqb-true, eqb-false, not-true, not-false}
+use lib.Dec.{eqb}
+use lib.ListN.{length, drop, set, List·getD-append}
+use Rattle.laws.specs.Choice.{if_then_else_}
+use Rattle.laws.proofs.Choice.{if-lt, if-ge, if-both}
+use Rattle.layout.specs.declared.Layout.{Layout}
+use Rattle.interlocking.specs.declared.State.{State}
+use Rattle.interlocking.specs.State.{cold}
+use Rattle.panel.specs.declared.Drawn.{Drawn}
+use Rattle.panel.specs.Panel.{join, image, refused, answer, drawn}
+use Rattle.event_file.specs.Lines.{space, bar, three, afterSpace, spaced, shown, panelText, lineText, lineOf, mostText, mostLine, coldLine}
+use Rattle.event_file.specs.Writes.{Put}
+use Rattle.event_file.proofs.Numerals.{put-one, put-then, put-within}
+
+-- ---- what a panel's answer says of its length
+
+record Said (L : Layout) (s : State) (room : ℕ) (d : Drawn) : Type 0 where
+  pub fits : d .length ≤ room
+  pub whole : d .number ≡ 0 → d .length ≡ length (image L s)
+  pub none : (d .number ≡ 0 → ⊥) → d .length ≡ 0
+
+module _ (L : Layout) (s : State) (room : ℕ) where
+  said-refused : (number : ℕ) → (number ≡ 0 → ⊥) → Said L s room (refused number)
+  unfolding refused
+  said-refused number h = record { fits = omega arith; whole = λ e. absurd (h e); none = λ e. refl }
+
+  answer-says : Said L s room (answer L s room)
+  unfolding answer
+  answer-says =
+      if-both (Said L s room) _ (λ e. said-refused 18 (λ z. let y : 18 ≡ 0 = z in omega arith))
+      (λ e. if-both (Said L s room) _ (λ f. said-refused 27 (λ z. let y : 27 ≡ 0 = z in omega arith))
+      (λ f. record { fits = ltb-false _ _ f; whole = λ z. refl; none = λ h. absurd (h refl) }))
+
+-- it is no more than the buffer holds
+pub drawn-fits : (L : Layout) (s : State) (room : ℕ) (d : Drawn) → d ≡ answer L s room → d .length ≤ room
+drawn-fits L s room d e = rw e (answer-says L s room .fits)
+
+-- ---- the bytes that are drawn, as text
+
+join-same : (n : ℕ) (f g : ℕ → List ℕ) → ((k : ℕ) → k < n → f k ≡ g k) → join n f ≡ join n g
+unfolding join
+join-same zero f g h = refl
+join-same (suc n) f g h = ap₂ (λ xs ys. xs ++ ys) (join-same n f g (λ k l. h k (omega arith))) (h n (omega arith))
+
+spaced-front : (xs ys : List ℕ) → spaced (length xs) (xs ++ ys) ≡ spaced (length xs) xs
+unfolding spaced
+spaced-front xs ys = join-same (length xs) _ _ (λ k l. ap afterSpace (List·getD-append xs ys 0 k l))
+
+spaced-none : (n : ℕ) (xs ys : List ℕ) → n ≡ 0 → spaced n xs ≡ spaced 0 ys
+unfolding spaced join
+spaced-none n xs ys e = rw e
+
+module _ (L : Layout) (s : State) (d : Drawn) (before after : List ℕ) (e : d ≡ answer L s 512) (n : length before ≡ 512) (f : after ≡ drawn L s before) where
+  as-said : Said L s 512 d
+  as-said = rw e (answer-says L s 512)
+
+  -- by the answer's number
+  shown-by : (t : Bool) → eqb (answer L s 512 .number) 0 ≡ t → spaced (d .length) after ≡ spaced (length (shown L s)) (shown L s)
+  unfolding drawn shown if_then_else_
+  shown-by true q =
+      rw (f, n, q, as-said .whole (ap (λ (r : Drawn). r .number) e ∙ eqb-true _ 0 q)) (spaced-front (image L s) (drop (length (image L s)) before))
+  shown-by false q = rw q (spaced-none (d .length) after [] (as-said .none (λ z. eqb-false _ 0 q (sym (ap (λ (r : Drawn). r .number) e) ∙ z))))
+
+  pub shown-spaced : spaced (d .length) after ≡ spaced (length (shown L s)) (shown L s)
+  shown-spaced = shown-by (eqb (answer L s 512 .number) 0) refl
+
+  -- a space, a bar, the bytes
+  pub panel-made : (a c : List ℕ) (at m : ℕ) → Put (set (set a at 32) (at + 1) 124) (at + 2) (spaced (d .length) after) (4 * d .length) c m
+      → Put a at (panelText L s) 2050 c m
+  unfolding panelText
+  panel-made a c at m p =
+      let there : at + 1 + 1 ≡ at + 2 = omega arith in
+      let two : Put a at (space ∷ bar ∷ []) 2 (set (set a at 32) (at + 1) 124) (at + 2) = rw (← there) (put-then (put-one 32) (put-one 124)) in
+      let room = as-said .fits in
+      put-within 2050 (omega (arith, room)) (put-then two (subst (λ xs. Put (set (set a at 32) (at + 1) 124) (at + 2) xs (4 * d .length) c m) shown-spaced p))
+
+-- ---- a line
+
+-- every line has room for its three numbers, one with the panel for that too
+pub text-room : (p : Bool) → 62 ≤ mostText p
+unfolding mostText if_then_else_
+text-room true = omega arith
+text-room false = omega arith
+
+pub panel-room : (p : Bool) → not p ≡ false → mostText p ≡ 2112
+unfolding mostText if_then_else_
+panel-room p e = rw (not-false p e)
+
+pub line-room : (p : Bool) → mostLine p ≡ mostText p + 1
+unfolding mostLine
+line-room p = refl
+
+module _ (p : Bool) (L : Layout) (s : State) (n x d : ℕ) (a b : List ℕ) (at m : ℕ) where
+  pub text-plain : not p ≡ true → Put a at (three n x d) 62 b m → Put a at (lineText p L s n x d) (mostText p) b m
+  unfolding lineText mostText if_then_else_
+  text-plain e q = rw (not-true p e) q
+
+  pub text-panel : (c : List ℕ) (k : ℕ) → not p ≡ false → Put a at (three n x d) 62 b m → Put b m (panelText L s) 2050 c k
+      → Put a at (lineText p L s n x d) (mostText p) c k
+  unfolding lineText mostText if_then_else_
+  text-panel c k e q r = rw (not-false p e) (put-then q r)
+
+  pub line-made : Put a at (lineText p L s n x d) (mostText p) b m → Put a at (lineOf p L s n x d) (mostLine p) (set b m 10) (m + 1)
+  unfolding lineOf mostLine
+  line-made q = put-then q (put-one 10)
+
+-- the most bytes of a line with the panel, and without
+pub most-panel : (p : Bool) → p ≡ true → 2113 ≡ mostLine p
+unfolding mostLine mostText if_then_else_
+most-panel p e = rw e
+
+pub most-plain : (p : Bool) → p ≡ false → 63 ≡ mostLine p
+unfolding mostLine mostText if_then_else_
+most-plain p e = rw e
+
+pub ruleset lines-most = (needs, most-panel, most-plain)
+
+-- ---- the cold start's line
+
+module _ (L : Layout) (a : List ℕ) (v : ℕ) where
+  pub cold-none : v ≡ mostLine true → length a < v → Put a 0 (coldLine L (length a)) (mostLine true) a 0
+  unfolding coldLine
+  cold-none e h =
+      let less : length a < mostLine true = omega (arith, e) in
+      subst (λ xs. Put a 0 xs (mostLine true) a 0) (if-lt (length a) (mostLine true) _ _ _ less refl)
+      (record { buffer = refl; place = refl; near = omega arith; long = refl })
+
+  pub cold-some : (s : State) (b : List ℕ) (m : ℕ) → v ≡ mostLine true → v ≤ length a → s ≡ cold → Put a 0 (lineOf true L s 0 0 0) (mostLine true) b m
+      → Put a 0 (coldLine L (length a)) (mostLine true) b m
+  unfolding coldLine
+  cold-some s b m e h f p =
+      let room : mostLine true ≤ length a = omega (arith, e) in
+      subst (λ xs. Put a 0 xs (mostLine true) b m) (if-ge (length a) (mostLine true) _ _ _ room (ap (λ (t : State). lineOf true L t 0 0 0) f)) p

@@ -1,0 +1,58 @@
+-- The cases of an event that is read, each from the facts that choose it.
+use Prim.Native.Nat.{ℕ, _<_, _≤_}
+use mathlib.Core.Path.{_≡_, refl}
+use mathlib.Core.List.{List}
+use lib.ListN.{length}
+use borrow.Author.Needs.{needs}
+use Rattle.laws.proofs.Choice.{if-lt, if-ge}
+use Rattle.numbers.specs.declared.Number.{Number}
+use Rattle.numbers.specs.declared.Number.the-variants.{Value, Fault}
+use Rattle.numbers.specs.Number.{numberAt}
+use Rattle.numbers.proofs.Readings.{number-most}
+use Rattle.event_file.specs.declared.Next.{Next}
+use Rattle.event_file.specs.declared.Next.the-variants.{Taken, Bad, Nothing}
+use Rattle.event_file.specs.Read.{Small, withSecond, withFirst, withKind, eventAt}
+
+-- what is read at a place is not too large
+pub read-small : (file : List ℕ) (at : ℕ) (n : Number) → n ≡ numberAt file at → Small n
+read-small file at n e value next f = number-most file at e f
+
+module _ (n : Number) (kind first : ℕ) where
+  pub second-taken : {second next : ℕ} → n ≡ Value second next → Taken kind first second next ≡ withSecond kind first n
+  unfolding withSecond
+  second-taken e = rw e
+
+  pub second-bad : {number at : ℕ} → n ≡ Fault number at → Bad number at ≡ withSecond kind first n
+  unfolding withSecond
+  second-bad e = rw e
+
+module _ (file : List ℕ) (n : Number) (kind : ℕ) where
+  pub first-taken : {first next : ℕ} (m : Number) (r : Next) → n ≡ Value first next → m ≡ numberAt file next → r ≡ withSecond kind first m
+      → r ≡ withFirst file kind n
+  unfolding withFirst
+  first-taken m r e f q = rw (e, ← f) q
+
+  pub first-bad : {number at : ℕ} → n ≡ Fault number at → Bad number at ≡ withFirst file kind n
+  unfolding withFirst
+  first-bad e = rw e
+
+module _ (file : List ℕ) (n : Number) where
+  pub kind-taken : {kind next : ℕ} (m : Number) (r : Next) → n ≡ Value kind next → m ≡ numberAt file next → r ≡ withFirst file kind m
+      → r ≡ withKind file n
+  unfolding withKind
+  kind-taken m r e f q = rw (e, ← f) q
+
+  pub kind-bad : {number at : ℕ} → n ≡ Fault number at → Bad number at ≡ withKind file n
+  unfolding withKind
+  kind-bad e = rw e
+
+module _ (file : List ℕ) (at : ℕ) where
+  pub event-none : length file ≤ at → Nothing ≡ eventAt file at
+  unfolding eventAt
+  event-none h = if-ge _ _ _ _ _ h (refl)
+
+  pub event-some : (n : Number) (r : Next) → at < length file → n ≡ numberAt file at → r ≡ withKind file n → r ≡ eventAt file at
+  unfolding eventAt
+  event-some n r h e q = if-lt _ _ _ _ _ h (rw (← e) q)
+
+pub ruleset events = (needs, read-small, second-taken, second-bad, first-taken, first-bad, kind-taken, kind-bad, event-none, event-some)

@@ -1,0 +1,37 @@
+-- No second result, and no second buffer, meets the contract of a public function. Each `Post` is the contract itself, as the function is proved to meet it.
+use Prim.Native.Nat.{ℕ}
+use mathlib.Core.Path.{_≡_}
+use mathlib.Core.List.{List}
+use denote.Ref.{now}
+use Rattle.laws.proofs.Only.{Determines, only}
+use Rattle.interlocking.specs.declared.State.{State}
+use Rattle.event_file.specs.declared.pieces.Piece.{Piece}
+use Rattle.event_file.proofs.next_event.Reads as next-event
+use Rattle.event_file.proofs.pieces.cold_line.Reads as cold-line
+use Rattle.event_file.proofs.pieces.run_piece.Reads as run-piece
+
+-- what stands at a place of an event file
+pub next-event-determined : Determines next-event.Post
+next-event-determined κs a r q s = only
+
+-- at every call, two outcomes that meet the contract have the same result and leave the same bytes
+abbrev DeterminesBytes : {K : Type 0} {A R S : K → Type 0} → ((κs : K) → S κs → List ℕ) → ((κs : K) → A κs → R κs → S κs → Type 0) → Type 0
+DeterminesBytes {K} {A} {R} {S} bytes Post =
+    (κs : K) (a : A κs) (r q : R κs) (s t : S κs) → Post κs a r s → Post κs a q t → (r ≡ q) × (bytes κs s ≡ bytes κs t)
+
+-- the cold start's line
+pub cold-line-determined : DeterminesBytes (λ κs s. now (s .1 .0)) cold-line.Post
+cold-line-determined κs a r q s t p o = (only (p .place) (o .place), only (p .buffer) (o .buffer))
+
+-- two records with the same parts
+same-piece : {s t : State} {n m at to from till x y : ℕ} → s ≡ t → n ≡ m → at ≡ to → from ≡ till → x ≡ y
+    → _≡_ {A = Piece} (record { state = s; count = n; at = at; written = from; stop = x }) (record { state = t; count = m; at = to; written = till; stop = y })
+same-piece a b c d e = rw (a, b, c, d, e)
+
+-- how far a run came, and the text
+pub run-piece-determined : DeterminesBytes (λ κs s. now (s .1 .1 .1 .1 .1 .1 .1 .0)) run-piece.Post
+run-piece-determined κs a r q s t p o = (
+  same-piece (only (p .state) (o .state)) (only (p .count) (o .count)) (only (p .at) (o .at)) (only (p .text .place) (o .text .place))
+      (only (p .stop) (o .stop)),
+  only (p .text .buffer) (o .text .buffer),
+)

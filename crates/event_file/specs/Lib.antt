@@ -1,0 +1,5 @@
+pub mod Read
+pub mod Lines
+pub mod Writes
+pub mod Run
+pub mod List

@@ -1,0 +1,73 @@
+-- What is printed of an event (section 8), in ASCII.
+use Prim.Native.Nat.{ℕ, zero, suc, _+_, _/_, _%_}
+use mathlib.Core.Bool.{Bool, true}
+use mathlib.Core.List.{List, [], _∷_, _++_}
+use lib.ListN.{length, getD}
+use lib.Dec.{eqb, ltb}
+use Rattle.laws.specs.Choice.{if_then_else_}
+use Rattle.layout.specs.declared.Layout.{Layout}
+use Rattle.interlocking.specs.declared.State.{State}
+use Rattle.interlocking.specs.State.{cold}
+use Rattle.panel.specs.Panel.{join, image, answer}
+
+-- a number in decimal, in so many places at most
+unfoldable pub digits : ℕ → ℕ → List ℕ
+digits zero n = []
+digits (suc places) n = if ltb n 10 then (48 + n) ∷ [] else digits places (n / 10) ++ ((48 + n % 10) ∷ [])
+
+-- a space, a line's end, and the bar before a panel's bytes
+abbrev pub space : ℕ
+space = 32
+
+abbrev pub lineEnd : ℕ
+lineEnd = 10
+
+abbrev pub bar : ℕ
+bar = 124
+
+-- a number of at most 20 digits, as every number below 2 ^ 64 is
+unfoldable pub decimal : ℕ → List ℕ
+decimal n = digits 20 n
+
+-- two and three numbers with a space between
+unfoldable pub two : ℕ → ℕ → List ℕ
+two a b = decimal a ++ (space ∷ []) ++ decimal b
+
+unfoldable pub three : ℕ → ℕ → ℕ → List ℕ
+three a b c = decimal a ++ (space ∷ []) ++ two b c
+
+-- a byte after a space, in three places at most, as every byte is
+unfoldable pub afterSpace : ℕ → List ℕ
+afterSpace byte = (space ∷ []) ++ digits 3 byte
+
+-- n bytes of a panel, each after a space
+unfoldable pub spaced : ℕ → List ℕ → List ℕ
+spaced n bytes = join n (λ i. afterSpace (getD bytes i 0))
+
+-- ---- a line
+
+-- what is shown of a state: its panel image (section 7)
+unfoldable pub shown : Layout → State → List ℕ
+shown L s = if eqb (answer L s 512 .number) 0 then image L s else []
+
+-- after a space and a bar
+unfoldable pub panelText : Layout → State → List ℕ
+panelText L s = (space ∷ bar ∷ []) ++ spaced (length (shown L s)) (shown L s)
+
+-- event number, answer and detail, and where that is asked for the panel of the state then
+unfoldable pub lineText : Bool → Layout → State → ℕ → ℕ → ℕ → List ℕ
+lineText panel L s n a d = if panel then three n a d ++ panelText L s else three n a d
+
+unfoldable pub lineOf : Bool → Layout → State → ℕ → ℕ → ℕ → List ℕ
+lineOf panel L s n a d = lineText panel L s n a d ++ (lineEnd ∷ [])
+
+-- the most bytes of that
+unfoldable pub mostText : Bool → ℕ
+mostText panel = if panel then 2112 else 62
+
+unfoldable pub mostLine : Bool → ℕ
+mostLine panel = mostText panel + 1
+
+-- the cold start's, where there is room
+unfoldable pub coldLine : Layout → ℕ → List ℕ
+coldLine L room = if ltb room (mostLine true) then [] else lineOf true L cold 0 0 0

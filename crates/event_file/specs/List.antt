@@ -1,0 +1,63 @@
+-- What the event program prints of a layout file and an event file (section 8), as one list of bytes.
+use Prim.Native.Nat.{ℕ, zero, suc}
+use mathlib.Core.Bool.{Bool}
+use mathlib.Core.List.{List, [], _∷_, _++_}
+use lib.ListN.{length}
+use lib.Dec.{eqb}
+use Rattle.laws.specs.Choice.{if_then_else_}
+use Rattle.layout.specs.declared.Layout.{Layout}
+use Rattle.layout.specs.declared.Loaded.{Loaded}
+use Rattle.layout.specs.Load.{load}
+use Rattle.interlocking.specs.declared.State.{State}
+use Rattle.interlocking.specs.declared.Answer.{Answer}
+use Rattle.interlocking.specs.State.{cold}
+use Rattle.step_facts.specs.Run.{Event, box}
+use Rattle.event_file.specs.declared.Next.{Next}
+use Rattle.event_file.specs.declared.Next.the-variants.{Taken, Bad, Nothing}
+use Rattle.event_file.specs.Read.{eventAt}
+use Rattle.event_file.specs.Lines.{two, lineEnd, lineOf}
+use Rattle.event_file.specs.Run.{nextCount}
+
+-- the words `layout ` and `events `, and the header `event answer detail` with its line's end
+unfoldable pub layoutWord : List ℕ
+layoutWord = 108 ∷ 97 ∷ 121 ∷ 111 ∷ 117 ∷ 116 ∷ 32 ∷ []
+
+unfoldable pub eventsWord : List ℕ
+eventsWord = 101 ∷ 118 ∷ 101 ∷ 110 ∷ 116 ∷ 115 ∷ 32 ∷ []
+
+unfoldable pub header : List ℕ
+header = 101 ∷ 118 ∷ 101 ∷ 110 ∷ 116 ∷ 32 ∷ 97 ∷ 110 ∷ 115 ∷ 119 ∷ 101 ∷ 114 ∷ 32 ∷ 100 ∷ 101 ∷ 116 ∷ 97 ∷ 105 ∷ 108 ∷ 10 ∷ []
+
+-- a word with an answer and its detail
+unfoldable pub faultLine : List ℕ → ℕ → ℕ → List ℕ
+faultLine word number detail = word ++ two number detail ++ (lineEnd ∷ [])
+
+-- the line of an answered event
+unfoldable pub answerLine : Bool → Layout → ℕ → Answer → List ℕ
+answerLine panel L n r = lineOf panel L (r .next) n (r .number) (r .detail)
+
+-- what stands at a place: an event's line and what follows it; a fault ends the list, and so does the file's end
+unfoldable pub listNext : (State → Event → Answer) → Bool → Layout → State → ℕ → (State → ℕ → List ℕ) → Next → List ℕ
+listNext f panel L s n rest (Taken kind first second next) =
+    answerLine panel L n (f s (record { kind = kind; first = first; second = second }))
+    ++ rest (f s (record { kind = kind; first = first; second = second }) .next) next
+listNext f panel L s n rest (Bad number at) = faultLine eventsWord number at
+listNext f panel L s n rest Nothing = []
+
+-- the list from a place of the file on, of so many events at most
+unfoldable pub listFrom : ℕ → (State → Event → Answer) → Bool → Layout → List ℕ → State → ℕ → ℕ → List ℕ
+listFrom zero f panel L file s n at = []
+listFrom (suc most) f panel L file s n at =
+    listNext f panel L s (nextCount n) (λ t next. listFrom most f panel L file t (nextCount n) next) (eventAt file at)
+
+-- before the first event: the header, or the cold start's line with its panel
+unfoldable pub opening : Bool → Layout → List ℕ
+opening panel L = if panel then lineOf panel L cold 0 0 0 else header
+
+-- all that is printed; a file has no more events than bytes, and one more place to end at
+unfoldable pub printed : Bool → List ℕ → List ℕ → List ℕ
+printed panel layoutFile file =
+    let loaded : Loaded = load layoutFile in
+    if eqb (loaded .number) 0 then
+    opening panel (loaded .layout) ++ listFrom (suc (length file)) (box (loaded .layout)) panel (loaded .layout) file cold 0 0
+    else faultLine layoutWord (loaded .number) (loaded .detail)

@@ -1,0 +1,120 @@
+// Lines of text into a lent buffer.
+ghost use Prim.Native.Nat.{_+_, _*_, _≤_};
+ghost use lib.ListN.{length};
+use interlocking::State;
+use layout::Layout;
+ghost use Rattle.event_file.specs.Lines.{digits, two, three, afterSpace, spaced, panelText, lineText, lineOf, mostText, mostLine};
+ghost use Rattle.event_file.specs.Writes.{Put};
+
+// A number in decimal, in so many places at most, from a place on; the place after it.
+fn put_digits(places: u8, n: u64, out: &mut [u8], at: usize) -> usize
+    requires { ⌜ at + places ≤ length (now out) ⌝ }
+    ensures { λ r. ⌜ Put (now (out .entry)) at (digits places n) places (now (out .exit)) r ⌝ }
+{
+    if places == 0 {
+        return at;
+    }
+    if n < 10 {
+        out[at] = 48 + n as u8;
+        return at + 1;
+    }
+    let last = put_digits(places - 1, n / 10, out, at);
+    out[last] = 48 + (n % 10) as u8;
+    last + 1
+}
+
+// Two numbers with a space between.
+pub fn put_two(a: u64, b: u64, out: &mut [u8], at: usize) -> usize
+    requires { ⌜ at + 41 ≤ length (now out) ⌝ }
+    ensures { λ r. ⌜ Put (now (out .entry)) at (two a b) 41 (now (out .exit)) r ⌝ }
+{
+    let between = put_digits(20, a, out, at);
+    out[between] = 32;
+    put_digits(20, b, out, between + 1)
+}
+
+// Three numbers with a space between.
+pub fn put_three(a: u64, b: u64, c: u64, out: &mut [u8], at: usize) -> usize
+    requires { ⌜ at + 62 ≤ length (now out) ⌝ }
+    ensures { λ r. ⌜ Put (now (out .entry)) at (three a b c) 62 (now (out .exit)) r ⌝ }
+{
+    let between = put_digits(20, a, out, at);
+    out[between] = 32;
+    put_two(b, c, out, between + 1)
+}
+
+// A byte after a space.
+fn put_spaced(byte: u8, out: &mut [u8], at: usize) -> usize
+    requires { ⌜ at + 4 ≤ length (now out) ⌝ }
+    ensures { λ r. ⌜ Put (now (out .entry)) at (afterSpace byte) 4 (now (out .exit)) r ⌝ }
+{
+    out[at] = 32;
+    put_digits(3, byte as u64, out, at + 1)
+}
+
+// The first n bytes of a panel, each after a space.
+fn put_bytes(bytes: &[u8], n: usize, out: &mut [u8], at: usize) -> usize
+    requires { ⌜ (n ≤ length (now bytes)) × (at + 4 * n ≤ length (now out)) ⌝ }
+    ensures { λ r. ⌜ Put (now (out .entry)) at (spaced n (now (bytes .entry))) (4 * n) (now (out .exit)) r ⌝ }
+{
+    let mut i: usize = 0;
+    let mut next = at;
+    while i < n {
+        let byte = bytes[i];
+        next = put_spaced(byte, out, next);
+        i += 1;
+    }
+    next
+}
+
+// The panel of a state, after a space and a bar.
+fn put_panel(layout: Layout, state: State, out: &mut [u8], at: usize) -> usize
+    requires { ⌜ at + 2050 ≤ length (now out) ⌝ }
+    ensures { λ r. ⌜ Put (now (out .entry)) at (panelText layout state) 2050 (now (out .exit)) r ⌝ }
+{
+    let mut image = [0u8; 512];
+    let drawn = panel::panel(state, layout, &mut image);
+    out[at] = 32;
+    out[at + 1] = 124;
+    put_bytes(&image, drawn.length, out, at + 2)
+}
+
+// A line without its end: event number, answer, detail, and the panel where that is asked for.
+fn put_text(
+    panel: bool,
+    layout: Layout,
+    state: State,
+    n: u64,
+    answer: u64,
+    detail: u64,
+    out: &mut [u8],
+    at: usize,
+) -> usize
+    requires { ⌜ at + mostLine panel ≤ length (now out) ⌝ }
+    ensures { λ r. ⌜ Put (now (out .entry)) at (lineText panel layout state n answer detail) (mostText panel) (now (out .exit)) r ⌝ }
+{
+    let end = put_three(n, answer, detail, out, at);
+    if !panel {
+        return end;
+    }
+    put_panel(layout, state, out, end)
+}
+
+// A line.
+pub fn put_line(
+    panel: bool,
+    layout: Layout,
+    state: State,
+    n: u64,
+    answer: u64,
+    detail: u64,
+    out: &mut [u8],
+    at: usize,
+) -> usize
+    requires { ⌜ at + mostLine panel ≤ length (now out) ⌝ }
+    ensures { λ r. ⌜ Put (now (out .entry)) at (lineOf panel layout state n answer detail) (mostLine panel) (now (out .exit)) r ⌝ }
+{
+    let end = put_text(panel, layout, state, n, answer, detail, out, at);
+    out[end] = 10;
+    end + 1
+}

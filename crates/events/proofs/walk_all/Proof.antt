@@ -1,0 +1,21 @@
+-- The turns fall, and the buffers keep their lengths.
+use mathlib.Core.Path.{_≡_, refl}
+use borrow.Author.Needs.{needs}
+use lib.ListN.{length}
+use Rattle.events.proofs.walk_all.Statement.{statement}
+use Rattle.events.proofs.walk_all.Tie as tie
+
+abbrev Inv-loop : tie.InvT-loop
+Inv-loop fd panel layout n buf₀ out₀ w₀ turns₀ buf out w turns = (length buf ≡ length buf₀) × (length out ≡ length out₀)
+
+abbrev μ-loop : tie.MeasureT-loop
+μ-loop fd panel layout n buf₀ out₀ w₀ turns₀ buf out w turns = turns
+
+loop-again : tie.Need-loop-again Inv-loop μ-loop
+loop-again c = (search needs, search needs)
+
+pub walk-all-spec : {M : Type 1} → statement M
+walk-all-spec =
+    tie.close
+    (tie.spec Inv-loop μ-loop (λ c κs. search needs) (λ c. (refl, refl)) (λ c. search needs) (λ c. search needs) (λ c. search needs)
+    (λ c κs. search needs) (λ c. search needs) (λ c. search needs) loop-again (λ c. search needs) (λ c. search needs) (λ c. search needs))

@@ -1,0 +1,17 @@
+-- The first i differ and are in the set.
+use Prim.Native.Nat.{_-_}
+use Rattle.rules.proofs.Differ.{Apart, aparts}
+use Rattle.rules.proofs.all_differ.Statement.{statement}
+use Rattle.rules.proofs.all_differ.Tie as tie
+
+abbrev Inv-loop : tie.InvT-loop
+Inv-loop n xs set₀ i₀ set i = Apart n xs set i
+
+abbrev μ-loop : tie.MeasureT-loop
+μ-loop n xs set₀ i₀ set i = n - i
+
+pub all-differ-spec : {M : Type 1} → statement M
+all-differ-spec =
+    tie.close
+    (tie.spec Inv-loop μ-loop (λ c. search aparts) (λ c κs. search aparts) (λ c κs. search aparts) (λ c. search aparts) (λ c κs. search aparts)
+    (λ c. search aparts) (λ c κs. search aparts) (λ c. search aparts) (λ c. search aparts) (λ c. search aparts) (λ c. search aparts))
