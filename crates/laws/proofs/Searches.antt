@@ -8,15 +8,18 @@ use borrow.Author.Needs.{needs}
 use Rattle.laws.specs.Choice.{if_then_else_}
 use Rattle.laws.specs.Tests.{lowestFrom, lowest}
 
-from-here : (k i : ℕ) (p : ℕ → Bool) → p i ≡ true → lowestFrom (suc k) i p ≡ i
+-- looked for from i on: it is i where the test holds there
+pub from-here : (k i : ℕ) (p : ℕ → Bool) → p i ≡ true → lowestFrom (suc k) i p ≡ i
 unfolding lowestFrom if_then_else_
 from-here k i p e = rw e
 
-from-next : (k i : ℕ) (p : ℕ → Bool) → p i ≡ false → lowestFrom (suc k) i p ≡ lowestFrom k (suc i) p
+-- where it fails there, it is looked for from the next on
+pub from-next : (k i : ℕ) (p : ℕ → Bool) → p i ≡ false → lowestFrom (suc k) i p ≡ lowestFrom k (suc i) p
 unfolding lowestFrom if_then_else_
 from-next k i p e = rw (e, lowestFrom)
 
-from-none : (i : ℕ) (p : ℕ → Bool) → lowestFrom 0 i p ≡ i
+-- where nothing is left to look through, it is the number after the last
+pub from-none : (i : ℕ) (p : ℕ → Bool) → lowestFrom 0 i p ≡ i
 unfolding lowestFrom
 from-none i p = refl
 

@@ -16,25 +16,12 @@ use Rattle.laws.specs.Tests.{_and_, lowestFrom, lowest}
 use Rattle.laws.specs.Tables.{table, read}
 use Rattle.laws.proofs.Choice.{if-lt, if-ge}
 use Rattle.laws.proofs.Arrays.{read-in, length-mapped}
+use Rattle.laws.proofs.Searches.{from-here, from-next, from-none}
 use Rattle.laws.proofs.Tables.{length-table, table-at}
 use Rattle.track.specs.declared.Route.{Route}
 use Rattle.track.specs.Objects.{route, noRoute}
 use Rattle.signals.specs.Signals.{routeProceeds}
 use Rattle.panel.specs.Panel.{proceedByte, shownBy, byteOf, signalByte}
-
--- ---- the lowest number at which a test holds, looked for from i on
-
-from-here : (k i : ℕ) (p : ℕ → Bool) → p i ≡ true → lowestFrom (suc k) i p ≡ i
-unfolding lowestFrom if_then_else_
-from-here k i p e = rw e
-
-from-next : (k i : ℕ) (p : ℕ → Bool) → p i ≡ false → lowestFrom (suc k) i p ≡ lowestFrom k (suc i) p
-unfolding lowestFrom if_then_else_
-from-next k i p e = rw (e, lowestFrom)
-
-from-none : (i : ℕ) (p : ℕ → Bool) → lowestFrom 0 i p ≡ i
-unfolding lowestFrom
-from-none i p = refl
 
 -- a test and one that fails
 and-none : (b : Bool) → b && false ≡ false
