@@ -2,12 +2,14 @@
 use Prim.Native.Nat.{ℕ, _≤_}
 use mathlib.Core.Path.{_≡_, refl, sym, ap, _∙_}
 use mathlib.Core.Bool.{Bool, true, false, not}
+use mathlib.Core.List.{List}
 use borrow.Author.Tests.{leb-true, not-false}
 use lib.Dec.{eqb, leb}
 use Rattle.laws.specs.Choice.{if_then_else_}
 use Rattle.laws.specs.Tests.{_and_, _or_}
 use Rattle.laws.proofs.Choice.{if-eq, if-ne}
 use Rattle.laws.proofs.Tests.{and-right}
+use Rattle.track.specs.declared.Line.{Line}
 use Rattle.track.specs.Lists.{between}
 use Rattle.signals.specs.Readings.{recorded}
 use Rattle.release.specs.declared.Gives.{Gives}
@@ -17,9 +19,8 @@ use Rattle.reasons.specs.Refusal.{none}
 use Rattle.refusals.specs.Orders.{throwRefusal, setRefusal, cancelRefusal, secureRefusal, manualRefusal}
 use Rattle.refusals.specs.Events.{secondWrong}
 use Rattle.interlocking.specs.declared.State.{State}
-use Rattle.interlocking.specs.declared.Answer.{Answer}
 use Rattle.interlocking.specs.Own.{ownSection, ownPoint, ownThrow, ownSet, ownCancel, ownSecure, ownManual, ownBar}
-use Rattle.interlocking.specs.Step.{orderRefusal, meant, gives, own, after, refusedBy, answer}
+use Rattle.interlocking.specs.Step.{orderRefusal, meant, gives, ownOf}
 
 -- what is known of kind n is known of k, which is n
 module _ (k : ℕ) where
@@ -72,46 +73,46 @@ module _ (k a b : ℕ) (e : Gives) where
 
 -- ---- what an event does itself
 
-module _ (L : Layout) (s : State) (k a b : ℕ) (t : State) where
-  pub own-section : (v : ℕ) → k ≡ 1 → v ≡ recorded b → t ≡ ownSection (L .line) (L .lines) s a v → t ≡ own L s k a (meant k b)
-  unfolding own meant if_then_else_
-  own-section v h q e = of-kind k (λ n. own L s n a (meant n b)) 1 h (e ∙ ap (ownSection (L .line) (L .lines) s a) q)
+module _ (ls : List Line) (n : ℕ) (s : State) (k a b : ℕ) (t : State) where
+  pub own-section : (v : ℕ) → k ≡ 1 → v ≡ recorded b → t ≡ ownSection ls n s a v → t ≡ ownOf ls n s k a (meant k b)
+  unfolding ownOf meant if_then_else_
+  own-section v h q e = of-kind k (λ x. ownOf ls n s x a (meant x b)) 1 h (e ∙ ap (ownSection ls n s a) q)
 
-  pub own-point : (v : ℕ) → k ≡ 2 → v ≡ recorded b → t ≡ ownPoint s a v → t ≡ own L s k a (meant k b)
-  unfolding own meant if_then_else_
-  own-point v h q e = of-kind k (λ n. own L s n a (meant n b)) 2 h (e ∙ ap (ownPoint s a) q)
+  pub own-point : (v : ℕ) → k ≡ 2 → v ≡ recorded b → t ≡ ownPoint s a v → t ≡ ownOf ls n s k a (meant k b)
+  unfolding ownOf meant if_then_else_
+  own-point v h q e = of-kind k (λ x. ownOf ls n s x a (meant x b)) 2 h (e ∙ ap (ownPoint s a) q)
 
-  pub own-throw : k ≡ 3 → t ≡ ownThrow s a b → t ≡ own L s k a (meant k b)
-  unfolding own meant if_then_else_
-  own-throw = of-kind k (λ n. own L s n a (meant n b)) 3
+  pub own-throw : k ≡ 3 → t ≡ ownThrow s a b → t ≡ ownOf ls n s k a (meant k b)
+  unfolding ownOf meant if_then_else_
+  own-throw = of-kind k (λ x. ownOf ls n s x a (meant x b)) 3
 
-  pub own-set : k ≡ 4 → t ≡ ownSet s a → t ≡ own L s k a (meant k b)
-  unfolding own meant if_then_else_
-  own-set = of-kind k (λ n. own L s n a (meant n b)) 4
+  pub own-set : k ≡ 4 → t ≡ ownSet s a → t ≡ ownOf ls n s k a (meant k b)
+  unfolding ownOf meant if_then_else_
+  own-set = of-kind k (λ x. ownOf ls n s x a (meant x b)) 4
 
-  pub own-cancel : k ≡ 5 → t ≡ ownCancel s a → t ≡ own L s k a (meant k b)
-  unfolding own meant if_then_else_
-  own-cancel = of-kind k (λ n. own L s n a (meant n b)) 5
+  pub own-cancel : k ≡ 5 → t ≡ ownCancel s a → t ≡ ownOf ls n s k a (meant k b)
+  unfolding ownOf meant if_then_else_
+  own-cancel = of-kind k (λ x. ownOf ls n s x a (meant x b)) 5
 
-  pub own-secure : k ≡ 6 → t ≡ ownSecure s a b → t ≡ own L s k a (meant k b)
-  unfolding own meant if_then_else_
-  own-secure = of-kind k (λ n. own L s n a (meant n b)) 6
+  pub own-secure : k ≡ 6 → t ≡ ownSecure s a b → t ≡ ownOf ls n s k a (meant k b)
+  unfolding ownOf meant if_then_else_
+  own-secure = of-kind k (λ x. ownOf ls n s x a (meant x b)) 6
 
-  pub own-manual : k ≡ 7 → t ≡ ownManual (L .line) (L .lines) s a → t ≡ own L s k a (meant k b)
-  unfolding own meant if_then_else_
-  own-manual = of-kind k (λ n. own L s n a (meant n b)) 7
+  pub own-manual : k ≡ 7 → t ≡ ownManual ls n s a → t ≡ ownOf ls n s k a (meant k b)
+  unfolding ownOf meant if_then_else_
+  own-manual = of-kind k (λ x. ownOf ls n s x a (meant x b)) 7
 
-  pub own-bar : k ≡ 8 → t ≡ ownBar s a b 1 → t ≡ own L s k a (meant k b)
-  unfolding own meant if_then_else_
-  own-bar = of-kind k (λ n. own L s n a (meant n b)) 8
+  pub own-bar : k ≡ 8 → t ≡ ownBar s a b 1 → t ≡ ownOf ls n s k a (meant k b)
+  unfolding ownOf meant if_then_else_
+  own-bar = of-kind k (λ x. ownOf ls n s x a (meant x b)) 8
 
-  pub own-unbar : k ≡ 9 → t ≡ ownBar s a b 0 → t ≡ own L s k a (meant k b)
-  unfolding own meant if_then_else_
-  own-unbar = of-kind k (λ n. own L s n a (meant n b)) 9
+  pub own-unbar : k ≡ 9 → t ≡ ownBar s a b 0 → t ≡ ownOf ls n s k a (meant k b)
+  unfolding ownOf meant if_then_else_
+  own-unbar = of-kind k (λ x. ownOf ls n s x a (meant x b)) 9
 
   pub own-nothing : (k ≡ 1 → ⊥) → (k ≡ 2 → ⊥) → (k ≡ 3 → ⊥) → (k ≡ 4 → ⊥) → (k ≡ 5 → ⊥) → (k ≡ 6 → ⊥) → (k ≡ 7 → ⊥) → (k ≡ 8 → ⊥) → (k ≡ 9 → ⊥)
-      → t ≡ s → t ≡ own L s k a (meant k b)
-  unfolding own
+      → t ≡ s → t ≡ ownOf ls n s k a (meant k b)
+  unfolding ownOf
   own-nothing h₁ h₂ h₃ h₄ h₅ h₆ h₇ h₈ h₉ e =
       if-ne k 1 _ _ t h₁ (if-ne k 2 _ _ t h₂ (if-ne k 3 _ _ t h₃ (if-ne k 4 _ _ t h₄ (if-ne k 5 _ _ t h₅ (if-ne k 6 _ _ t h₆
       (if-ne k 7 _ _ t h₇ (if-ne k 8 _ _ t h₈ (if-ne k 9 _ _ t h₉ e))))))))
@@ -128,20 +129,6 @@ throw-small L k a b h w = small b (ap (λ n. secondWrong L n a b) (sym h) ∙ w)
 pub secure-small : (L : Layout) (k a b : ℕ) → k ≡ 6 → secondWrong L k a b ≡ false → b ≤ 2
 unfolding secondWrong if_then_else_ _or_
 secure-small L k a b h w = small b (ap (λ n. secondWrong L n a b) (sym h) ∙ w)
-
--- ---- the answer
-
-module _ (L : Layout) (s : State) (k a b : ℕ) (f : Refusal) (r : Answer) (e : f ≡ orderRefusal L s k a) where
-  pub answer-refused : (f .number ≡ 0 → ⊥) → r ≡ refusedBy f s → r ≡ answer (orderRefusal L s k a) L s k a b
-  unfolding answer
-  answer-refused h q = if-ne (orderRefusal L s k a .number) 0 _ _ r (λ z. h (ap (λ (x : Refusal). x .number) e ∙ z)) (q ∙ ap (λ x. refusedBy x s) e)
-
-  pub answer-done : (t : State) → f .number ≡ 0 → t ≡ after L s k a (meant k b) → r ≡ record { number = 0; detail = 0; next = t }
-      → r ≡ answer (orderRefusal L s k a) L s k a b
-  unfolding answer
-  answer-done t h p q =
-      if-eq (orderRefusal L s k a .number) 0 _ _ r (sym (ap (λ (x : Refusal). x .number) e) ∙ h)
-      (q ∙ ap (λ x. record { number = 0; detail = 0; next = x }) p)
 
 pub ruleset refusal-kinds = (throw-refused, set-refused, cancel-refused, secure-refused, manual-refused, never-refused)
 

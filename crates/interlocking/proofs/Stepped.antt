@@ -1,6 +1,6 @@
 -- The answer to an event: what is refused of any event comes first, then what is refused of an order, then it is done.
 use Prim.Native.Nat.{ℕ, _<_, _≤_}
-use mathlib.Core.Path.{_≡_, refl, sym, ap, ap₂, _∙_}
+use mathlib.Core.Path.{_≡_, sym, ap, ap₂, _∙_}
 use mathlib.Core.Bool.{Bool, true, false, _&&_}
 use mathlib.Core.List.{[], _∷_}
 use native.Mathlib.Decide.{ℕ-discrete}
@@ -9,34 +9,31 @@ use borrow.Author.Tests.{leb-true}
 use lib.Dec.{eqb, leb}
 use Rattle.laws.specs.Choice.{if_then_else_}
 use Rattle.laws.specs.Tests.{_and_}
-use Rattle.laws.proofs.Choice.{if-ne, if-both}
+use Rattle.laws.proofs.Choice.{if-eq, if-ne, if-both}
 use Rattle.laws.proofs.Tests.{and-left, and-right, every-at}
+use Rattle.release.specs.declared.Gives.{Gives}
 use Rattle.layout.specs.declared.Layout.{Layout}
 use Rattle.layout.specs.Sound.{fits, sound}
 use Rattle.reasons.specs.declared.Refusal.{Refusal}
-use Rattle.reasons.specs.Refusal.{firstOf}
 use Rattle.refusals.specs.Events.{objects, secondWrong, eventRefusal}
-use Rattle.refusals.proofs.Granted.{granted-sound, granted-most, granted-object, granted-second, granted-unused}
+use Rattle.refusals.proofs.Granted.{granted-at, granted-sound, granted-most, granted-object, granted-second, granted-unused}
 use Rattle.reasons.proofs.Laws.{first-here, first-next, first-last}
 use Rattle.interlocking.specs.declared.State.{State}
 use Rattle.interlocking.specs.declared.Answer.{Answer}
 use Rattle.interlocking.specs.State.{inRange}
-use Rattle.interlocking.specs.Step.{orderRefusal, refusal, refusedBy, answer, stepWhere, step}
+use Rattle.interlocking.specs.Settle.{settle}
+use Rattle.interlocking.specs.Step.{orderRefusal, refusal, meant, gives, ownOf, own, after, refusedBy, answer, stepWhere, step}
 
-module _ (isSound : Bool) (L : Layout) (s : State) (k a b : ℕ) (f : Refusal) (r : Answer) (e : f ≡ eventRefusal isSound L k a b) where
+module _ (isSound : Bool) (L : Layout) (s : State) (k a b : ℕ) (f : Refusal) (e : f ≡ eventRefusal isSound L k a b) where
   -- refused before the kind is looked at
-  pub event-refused : (f .number ≡ 0 → ⊥) → r ≡ refusedBy f s → r ≡ stepWhere isSound L s k a b
-  unfolding stepWhere refusal answer
-  event-refused h q =
-      let same : f ≡ refusal isSound L s k a b = first-here (eventRefusal isSound L k a b) (orderRefusal L s k a) f [] e h in
-      if-ne (refusal isSound L s k a b .number) 0 _ _ r (λ z. h (ap (λ (x : Refusal). x .number) same ∙ z)) (q ∙ ap (λ x. refusedBy x s) same)
+  pub refused-early : (f .number ≡ 0 → ⊥) → f ≡ refusal isSound L s k a b
+  unfolding refusal
+  refused-early h = first-here (eventRefusal isSound L k a b) (orderRefusal L s k a) f [] e h
 
   -- not refused there: the order decides
-  pub order-asked : f .number ≡ 0 → r ≡ answer (orderRefusal L s k a) L s k a b → r ≡ stepWhere isSound L s k a b
-  unfolding stepWhere refusal
-  order-asked h q =
-      q ∙ ap (λ (x : Refusal). answer x L s k a b)
-      (first-next (eventRefusal isSound L k a b) (orderRefusal L s k a) f [] e (orderRefusal L s k a) h (first-last (orderRefusal L s k a) _ refl))
+  pub refused-late : (g : Refusal) → f .number ≡ 0 → g ≡ orderRefusal L s k a → g ≡ refusal isSound L s k a b
+  unfolding refusal
+  refused-late g h q = first-next (eventRefusal isSound L k a b) (orderRefusal L s k a) f [] e g h (first-last (orderRefusal L s k a) g q)
 
 -- what is known of an event that is not refused there, from what the code found
 module _ (isSound : Bool) (L : Layout) (k a b : ℕ) (f : Refusal) (e : f ≡ eventRefusal isSound L k a b) (h : f .number ≡ 0) where
@@ -60,9 +57,34 @@ module _ (isSound : Bool) (L : Layout) (k a b : ℕ) (f : Refusal) (e : f ≡ ev
       go (yes z) = let y : a ≡ 0 = granted-unused isSound L k a b none-found z .0 in omega arith
       go (no z) = let y : a < objects L k = granted-object isSound L k a b none-found z in omega (arith, few, y)
 
-  pub order-ready : (isSound ≡ true → (L .lines ≤ 8) × (L .routes ≤ 48)) → (L .lines ≤ 8) × (L .routes ≤ 48) × (secondWrong L k a b ≡ false)
-  order-ready g =
-      let t : isSound ≡ true = granted-sound isSound L k a b none-found in (g t .0, g t .1, granted-second isSound L k a b none-found)
+-- and of one that is not refused at all
+module _ (isSound : Bool) (L : Layout) (s : State) (k a b : ℕ) (f : Refusal) (e : f ≡ refusal isSound L s k a b) where
+  pub refused-at-all : (r : Answer) → (f .number ≡ 0 → ⊥) → r ≡ refusedBy f s → r ≡ stepWhere isSound L s k a b
+  unfolding stepWhere answer
+  refused-at-all r h q =
+      if-ne (refusal isSound L s k a b .number) 0 _ _ r (λ z. h (ap (λ (x : Refusal). x .number) e ∙ z)) (q ∙ ap (λ x. refusedBy x s) e)
+
+  module _ (h : f .number ≡ 0) where
+    granted : refusal isSound L s k a b .number ≡ 0
+    granted = sym (ap (λ (x : Refusal). x .number) e) ∙ h
+
+    pub passed-first : eventRefusal isSound L k a b .number ≡ 0
+    unfolding refusal
+    passed-first = granted-at _ granted 0
+
+    -- done: its own effect, what it gives, and what follows
+    pub done : (t next : State) (g : Gives) → t ≡ ownOf (L .line) (L .lines) s k a (meant k b) → g ≡ gives k a (meant k b) → next ≡ settle L s t g
+        → record { number = 0; detail = 0; next = next } ≡ stepWhere isSound L s k a b
+    unfolding stepWhere answer after own
+    done t next g p q u =
+        if-eq (refusal isSound L s k a b .number) 0 _ _ _ granted
+        (ap (λ x. record { number = 0; detail = 0; next = x }) (u ∙ ap₂ (settle L s) p q))
+
+    pub lines-few : (isSound ≡ true → (L .lines ≤ 8) × (L .routes ≤ 48)) → (L .lines ≤ 8) × (L .routes ≤ 48)
+    lines-few g = g (granted-sound isSound L k a b passed-first)
+
+    pub second-right : secondWrong L k a b ≡ false
+    second-right = granted-second isSound L k a b passed-first
 
 -- a sound layout has no more lines and routes than the tables hold
 pub sound-holds : (L : Layout) (x y : Bool) → x ≡ sound L → x && y ≡ true → (L .lines ≤ 8) × (L .routes ≤ 48)

@@ -1,29 +1,70 @@
--- The far signal of a block (section 5), said of the line's record b and of the tables of a state alone.
-use Prim.Native.Nat.{ℕ}
-use mathlib.Core.Bool.{Bool}
+-- Far sections and line release (section 5), said of a line's record and of the tables of a state alone.
+use Prim.Native.Nat.{ℕ, _/_, _%_}
+use mathlib.Core.Bool.{Bool, not}
 use mathlib.Core.List.{List, [], _∷_}
 use lib.Dec.{eqb}
 use Rattle.laws.specs.Choice.{if_then_else_}
-use Rattle.laws.specs.Tests.{_and_, every}
+use Rattle.laws.specs.Tests.{_and_, every, all, any}
 use Rattle.laws.specs.Tables.{read}
 use Rattle.track.specs.declared.Line.{Line}
 use Rattle.track.specs.declared.Route.{Route}
-use Rattle.track.specs.Objects.{entrance}
-use Rattle.signals.specs.Signals.{isOpen, unbarred, linePlaced, mainProceeds}
-use Rattle.passage.specs.Passage.{arrival, nextBlock}
-use Rattle.interlocking.specs.declared.State.{State}
+use Rattle.track.specs.Objects.{line, entrance}
+use Rattle.signals.specs.Readings.{reading}
+use Rattle.signals.specs.Signals.{place, isOpen, unbarred, linePlaced}
+use Rattle.passage.specs.Passage.{arrival, nextBlock, farSection, farStage}
+use Rattle.interlocking.specs.Settle.{lastBlock, exitLocked}
+
+-- what signals go by: the phases of routes, the directions of lines, what points read, the stages and bars of blocks
+pub record Tables : Type 0 where
+  pub phases : List ℕ
+  pub directions : List ℕ
+  pub points : List ℕ
+  pub stages : List ℕ
+  pub bars : List ℕ
+
+-- a main signal shows proceed: one of the n routes that start at it is in phase 1; entries has the signal at which each route starts
+unfoldable pub entryShows : List ℕ → List ℕ → ℕ → ℕ → Bool
+entryShows entries phases x r = eqb (read 48 0 phases r) 1 and eqb (read 48 0 entries r) x
+
+unfoldable pub mainShows : ℕ → List ℕ → List ℕ → ℕ → Bool
+mainShows n entries phases x = any n (entryShows entries phases x)
 
 -- the block signal into block i of line l for direction w shows proceed
 unfoldable pub blockShows : Line → List ℕ → List ℕ → List ℕ → List ℕ → ℕ → ℕ → ℕ → Bool
 blockShows b directions points stages bars l i w =
     eqb (read 8 0 directions l) w and every (isOpen stages l i ∷ unbarred bars l i ∷ linePlaced points b ∷ [])
 
--- the far signal of block i of line l in direction w shows proceed, where there are n routes
-unfoldable pub farShows : Line → ℕ → List Route → List ℕ → List ℕ → List ℕ → List ℕ → List ℕ → ℕ → ℕ → ℕ → Bool
-farShows b n rs phases directions points stages bars l i w =
-    if eqb (nextBlock b w i) 8 then mainProceeds n rs phases (entrance b (arrival w))
-    else blockShows b directions points stages bars l (nextBlock b w i) w
+-- the far signal of block i of line l in direction w shows proceed
+unfoldable pub farShows : Line → ℕ → List ℕ → Tables → ℕ → ℕ → ℕ → Bool
+farShows b n entries t l i w =
+    if eqb (nextBlock b w i) 8 then mainShows n entries (t .phases) (entrance b (arrival w))
+    else blockShows b (t .directions) (t .points) (t .stages) (t .bars) l (nextBlock b w i) w
 
--- the same, in a state
-unfoldable pub farShowed : Line → ℕ → List Route → State → ℕ → ℕ → ℕ → Bool
-farShowed b n rs s l i w = farShows b n rs (s .phase) (s .direction) (s .point) (s .stage) (s .bar) l i w
+-- it goes from proceed to stop
+unfoldable pub farDrops : Line → ℕ → List ℕ → Tables → Tables → ℕ → ℕ → ℕ → Bool
+farDrops b n entries before t l i w = farShows b n entries before l i w and not (farShows b n entries t l i w)
+
+-- the stage of the block at place k of a line secured in direction w
+unfoldable pub farTo : Line → ℕ → List ℕ → List ℕ → Tables → Tables → ℕ → ℕ → ℕ → ℕ
+farTo b n entries sections before t k w was =
+    farStage (reading sections (farSection b w (k % 8))) (farDrops b n entries before t (k / 8) (k % 8) w) was
+
+unfoldable pub farStageAt : List Line → ℕ → List ℕ → List ℕ → Tables → Tables → ℕ → ℕ → ℕ
+farStageAt ls n entries sections before t k was =
+    if eqb (read 8 0 (t .directions) (k / 8)) 0 then was
+    else farTo (line ls (k / 8)) n entries sections before t k (read 8 0 (t .directions) (k / 8)) was
+
+-- block i of line l is open and not barred
+unfoldable pub passes : List ℕ → List ℕ → ℕ → ℕ → Bool
+passes stages bars l i = isOpen stages l i and unbarred bars l i
+
+-- line l, secured in direction w, becomes neutral; before has the stages before the event
+unfoldable pub endsBy : Line → ℕ → List Route → List ℕ → List ℕ → List ℕ → List ℕ → ℕ → ℕ → Bool
+endsBy b n rs before stages bars phases l w = every (
+    eqb (read 64 1 before (place l (lastBlock b w))) 3
+    ∷ all (b .blocks) (passes stages bars l)
+    ∷ not (any n (exitLocked rs phases l))
+    ∷ [])
+
+unfoldable pub directionBy : Line → ℕ → List Route → List ℕ → List ℕ → List ℕ → List ℕ → ℕ → ℕ → ℕ
+directionBy b n rs before stages bars phases l was = if eqb was 0 then was else if endsBy b n rs before stages bars phases l was then 0 else was

@@ -1,10 +1,11 @@
 -- One step of the box (section 3): the refusal, or what the event does and what follows from it.
 use Prim.Native.Nat.{ℕ}
 use mathlib.Core.Bool.{Bool}
-use mathlib.Core.List.{[], _∷_}
+use mathlib.Core.List.{List, [], _∷_}
 use lib.Dec.{eqb, leb}
 use Rattle.laws.specs.Choice.{if_then_else_}
 use Rattle.laws.specs.Tests.{_and_}
+use Rattle.track.specs.declared.Line.{Line}
 use Rattle.signals.specs.Readings.{recorded}
 use Rattle.release.specs.declared.Gives.{Gives}
 use Rattle.layout.specs.declared.Layout.{Layout}
@@ -47,19 +48,22 @@ gives k a v =
     if eqb k 1 then record { section = a; reading = v; tick = 0 }
     else record { section = 64; reading = 0; tick = if eqb k 10 then 1 else 0 }
 
--- what it does itself
-unfoldable pub own : Layout → State → ℕ → ℕ → ℕ → State
-own L s k a v =
-    if eqb k 1 then ownSection (L .line) (L .lines) s a v
+-- what it does itself, where there are n lines
+unfoldable pub ownOf : List Line → ℕ → State → ℕ → ℕ → ℕ → State
+ownOf ls n s k a v =
+    if eqb k 1 then ownSection ls n s a v
     else if eqb k 2 then ownPoint s a v
     else if eqb k 3 then ownThrow s a v
     else if eqb k 4 then ownSet s a
     else if eqb k 5 then ownCancel s a
     else if eqb k 6 then ownSecure s a v
-    else if eqb k 7 then ownManual (L .line) (L .lines) s a
+    else if eqb k 7 then ownManual ls n s a
     else if eqb k 8 then ownBar s a v 1
     else if eqb k 9 then ownBar s a v 0
     else s
+
+unfoldable pub own : Layout → State → ℕ → ℕ → ℕ → State
+own L s k a v = ownOf (L .line) (L .lines) s k a v
 
 -- and what follows from it
 unfoldable pub after : Layout → State → ℕ → ℕ → ℕ → State

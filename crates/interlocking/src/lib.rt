@@ -8,11 +8,8 @@ mod stores;
 
 use event::event_answered;
 use layout::Layout;
-use release::Gives;
 ghost use mathlib.Core.Path.{_≡_};
-ghost use Prim.Native.Nat.{_≤_};
 ghost use Rattle.interlocking.specs.State.{cold, inRange};
-ghost use Rattle.interlocking.specs.Settle.{settle};
 ghost use Rattle.interlocking.specs.Step.{step, stepInRun};
 
 // A code for each section, point, route, line and block. section, point: 1 free or left, 2 occupied or right, 3 none. order: 0 none, 1, 2.
@@ -36,17 +33,6 @@ pub struct Answer {
     pub number: u8,
     pub detail: u32,
     pub next: State,
-}
-
-// What follows an event within it: signals, far sections, routes, line release.
-fn settled(l: Layout, before: State, s: State, e: Gives) -> State
-    requires { ⌜ (l .lines ≤ 8) × (l .routes ≤ 48) ⌝ }
-    ensures { λ t. ⌜ t ≡ settle l before s e ⌝ }
-{
-    let a = settle::signals_fall(l, s);
-    let b = settle::far_sections(l, before, a);
-    let c = ending::let_go(l, b, e);
-    ending::lines_released(l, before, c)
 }
 
 impl State {

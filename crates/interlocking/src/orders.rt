@@ -7,30 +7,24 @@ use super::stores::put64;
 use track::Line;
 ghost use mathlib.Core.Path.{_≡_};
 ghost use Prim.Native.Nat.{_≤_};
+ghost use lib.Dec.{eqb, ltb};
+ghost use lib.ListN.{getD};
+ghost use Rattle.laws.specs.Tests.{_and_};
 ghost use Rattle.laws.specs.Tables.{each};
-ghost use Rattle.interlocking.specs.Own.{blockAt, ownStageAt, ownSection, ownPoint, throwReading, ownThrow, ownSet, ownCancel, ownSecure, openAt, ownManual, ownBar};
+ghost use Rattle.interlocking.specs.Own.{ownStageAt, ownSection, ownPoint, throwReading, ownThrow, ownSet, ownCancel, ownSecure, openAt, ownManual, ownBar};
 
-// Section g is the block at place k.
-fn is_block_at(ls: [Line; 8], g: u8, k: u8) -> bool
-    ensures { λ x. ⌜ x ≡ blockAt ls g k ⌝ }
+// Section g is block i of the line of which the record is b.
+fn is_block(b: Line, g: u8, i: u8) -> bool
+    ensures { λ x. ⌜ x ≡ (ltb i (b .blocks) and eqb (getD (b .block) i 0) g) ⌝ }
 {
-    let b = track::line_at(ls, k / 8);
-    let block = b.block;
-    let x = laws::at8(block, k % 8);
-    (k % 8 < b.blocks) & (x == g)
-}
-
-// The stage at place k after section g was given v.
-fn stage_after(ls: [Line; 8], g: u8, v: u8, k: u8, was: u8) -> u8
-    ensures { λ x. ⌜ x ≡ ownStageAt ls g v k was ⌝ }
-{
-    if is_block_at(ls, g, k) {
-        return passage::own_stage(v, was);
+    if b.blocks <= i {
+        return false;
     }
-    was
+    let block = b.block;
+    laws::at8(block, i) == g
 }
 
-// The stages of the first m places after section g was given v.
+// The stages of the first m places after section g was given v; the places of other sections are left at once.
 fn stages_after(stages: [u8; 64], m: u8, ls: [Line; 8], g: u8, v: u8) -> [u8; 64]
     requires { ⌜ m ≤ 64 ⌝ }
     ensures { λ x. ⌜ x ≡ each m (ownStageAt ls g v) stages ⌝ }
@@ -38,8 +32,13 @@ fn stages_after(stages: [u8; 64], m: u8, ls: [Line; 8], g: u8, v: u8) -> [u8; 64
     let mut stage = stages;
     let mut k: u8 = 0;
     while k < m {
+        let b = ls[(k / 8) as usize];
+        if !is_block(b, g, k % 8) {
+            k += 1;
+            continue;
+        }
         let was = stage[k as usize];
-        stage[k as usize] = stage_after(ls, g, v, k, was);
+        stage[k as usize] = passage::own_stage(v, was);
         k += 1;
     }
     stage

@@ -1,48 +1,12 @@
-// What follows an event: signals, far sections, routes, line release.
-use super::State;
-use layout::Layout;
+// Far sections, over the tables of a state that are lent: those before the event (old_) and those of now.
 use track::Line;
-use track::Route;
 ghost use mathlib.Core.Path.{_≡_};
-ghost use mathlib.Core.Bool.{not};
 ghost use Prim.Native.Nat.{_≤_};
-ghost use Rattle.laws.specs.Tests.{_and_};
 ghost use Rattle.laws.specs.Tables.{each, read};
 ghost use Rattle.track.specs.Objects.{entrance};
 ghost use Rattle.signals.specs.Readings.{reading};
-ghost use Rattle.signals.specs.Signals.{routeProceeds, mainProceeds};
 ghost use Rattle.passage.specs.Passage.{arrival, farSection};
-ghost use Rattle.interlocking.specs.Far.{blockShows, farShows, farShowed};
-ghost use Rattle.interlocking.specs.Settle.{fallenAt, signals, farAfter, farSections};
-
-// The phases after signals have fallen.
-fn fallen_phases(ls: [Line; 8], rs: [Route; 48], n: u8, s: State) -> [u8; 48]
-    requires { ⌜ n ≤ 48 ⌝ }
-    ensures { λ p. ⌜ p ≡ each n (fallenAt ls rs s) (s .phase) ⌝ }
-{
-    let mut phase = s.phase;
-    let mut r: u8 = 0;
-    while r < n {
-        let a = rs[r as usize];
-        let was = phase[r as usize];
-        phase[r as usize] = signals::falls_to(ls, &s.section, &s.point, &s.stage, &s.bar, a, was);
-        r += 1;
-    }
-    phase
-}
-
-// The signals fall.
-pub fn signals_fall(l: Layout, s: State) -> State
-    requires { ⌜ l .routes ≤ 48 ⌝ }
-    ensures { λ t. ⌜ t ≡ signals l s ⌝ }
-{
-    let ls = l.line;
-    let rs = l.route;
-    let phase = fallen_phases(ls, rs, l.routes, s);
-    let mut t = s;
-    t.phase = phase;
-    t
-}
+ghost use Rattle.interlocking.specs.Far.{entryShows, mainShows, blockShows, farShows, farDrops, farStageAt};
 
 // The direction of line l, 0 where there is no such line.
 fn direction_of(directions: &[u8; 8], l: u8) -> u8
@@ -54,33 +18,32 @@ fn direction_of(directions: &[u8; 8], l: u8) -> u8
     0
 }
 
-// The phase of route r, 0 where there is no such route.
-pub fn phase_of(phases: &[u8; 48], r: u8) -> u8
-    ensures { λ p. ⌜ p ≡ read 48 0 (now (phases .entry)) r ⌝ }
+// The entry of route r in a table of routes, 0 where there is no such route.
+pub fn entry_of(table: &[u8; 48], r: u8) -> u8
+    ensures { λ x. ⌜ x ≡ read 48 0 (now (table .entry)) r ⌝ }
 {
     if r < 48 {
-        return phases[r as usize];
+        return table[r as usize];
     }
     0
 }
 
 // Route r starts at signal x and is in phase 1.
-fn route_proceeds(phases: &[u8; 48], r: u8, a: Route, x: u8) -> bool
-    ensures { λ b. ⌜ b ≡ routeProceeds (now (phases .entry)) r a x ⌝ }
+fn route_proceeds<'a>(entries: &'a [u8; 48], phases: &'a [u8; 48], r: u8, x: u8) -> bool
+    ensures { λ b. ⌜ b ≡ entryShows (now (entries .entry)) (now (phases .entry)) x r ⌝ }
 {
-    let p = phase_of(phases, r);
-    (p == 1) & (a.entry == x)
+    let p = entry_of(phases, r);
+    let e = entry_of(entries, r);
+    (p == 1) & (e == x)
 }
 
-// A main signal shows proceed.
-fn main_proceeds(n: u8, rs: [Route; 48], phases: &[u8; 48], x: u8) -> bool
-    requires { ⌜ n ≤ 48 ⌝ }
-    ensures { λ b. ⌜ b ≡ mainProceeds n rs (now (phases .entry)) x ⌝ }
+// A main signal shows proceed; entries has the signal at which each of the n routes starts.
+fn main_proceeds<'a>(n: u8, entries: &'a [u8; 48], phases: &'a [u8; 48], x: u8) -> bool
+    ensures { λ b. ⌜ b ≡ mainShows n (now (entries .entry)) (now (phases .entry)) x ⌝ }
 {
     let mut r: u8 = 0;
     while r < n {
-        let a = rs[r as usize];
-        if route_proceeds(phases, r, a, x) {
+        if route_proceeds(entries, phases, r, x) {
             return true;
         }
         r += 1;
@@ -108,20 +71,25 @@ fn block_proceeds<'a>(
 }
 
 // The entrance signal of a line's arrival end shows proceed.
-fn station_proceeds(b: Line, n: u8, rs: [Route; 48], phases: &[u8; 48], w: u8) -> bool
-    requires { ⌜ n ≤ 48 ⌝ }
-    ensures { λ x. ⌜ x ≡ mainProceeds n rs (now (phases .entry)) (entrance b (arrival w)) ⌝ }
+fn station_proceeds<'a>(
+    b: Line,
+    n: u8,
+    entries: &'a [u8; 48],
+    phases: &'a [u8; 48],
+    w: u8,
+) -> bool
+    ensures { λ x. ⌜ x ≡ mainShows n (now (entries .entry)) (now (phases .entry)) (entrance b (arrival w)) ⌝ }
 {
     let e = passage::arrival_end(w);
     let x = track::entrance_at(b, e);
-    main_proceeds(n, rs, phases, x)
+    main_proceeds(n, entries, phases, x)
 }
 
 // The far signal of block i of line l, of which the record is b, in direction w shows proceed.
 fn far_proceeds<'a>(
     b: Line,
     n: u8,
-    rs: [Route; 48],
+    entries: &'a [u8; 48],
     phases: &'a [u8; 48],
     directions: &'a [u8; 8],
     points: &'a [u8; 32],
@@ -131,39 +99,45 @@ fn far_proceeds<'a>(
     i: u8,
     w: u8,
 ) -> bool
-    requires { ⌜ n ≤ 48 ⌝ }
-    ensures { λ x. ⌜ x ≡ farShows b n rs (now (phases .entry)) (now (directions .entry)) (now (points .entry)) (now (stages .entry)) (now (bars .entry)) l i w ⌝ }
+    ensures { λ x. ⌜ x ≡ farShows b n (now (entries .entry)) (record { phases = now (phases .entry); directions = now (directions .entry); points = now (points .entry); stages = now (stages .entry); bars = now (bars .entry) }) l i w ⌝ }
 {
     let j = passage::next_block(b, w, i);
     if j == 8 {
-        return station_proceeds(b, n, rs, phases, w);
+        return station_proceeds(b, n, entries, phases, w);
     }
     block_proceeds(b, directions, points, stages, bars, l, j, w)
 }
 
 // It went from proceed to stop; what it shows now is asked only where it showed proceed.
-fn far_dropped(
+fn far_dropped<'a>(
     b: Line,
     n: u8,
-    rs: [Route; 48],
-    before: State,
-    s: State,
+    entries: &'a [u8; 48],
+    old_phases: &'a [u8; 48],
+    old_directions: &'a [u8; 8],
+    old_points: &'a [u8; 32],
+    old_stages: &'a [u8; 64],
+    old_bars: &'a [u8; 64],
+    phases: &'a [u8; 48],
+    directions: &'a [u8; 8],
+    points: &'a [u8; 32],
+    stages: &'a [u8; 64],
+    bars: &'a [u8; 64],
     l: u8,
     i: u8,
     w: u8,
 ) -> bool
-    requires { ⌜ n ≤ 48 ⌝ }
-    ensures { λ x. ⌜ x ≡ farShowed b n rs before l i w and not (farShowed b n rs s l i w) ⌝ }
+    ensures { λ x. ⌜ x ≡ farDrops b n (now (entries .entry)) (record { phases = now («old_phases» .entry); directions = now («old_directions» .entry); points = now («old_points» .entry); stages = now («old_stages» .entry); bars = now («old_bars» .entry) }) (record { phases = now (phases .entry); directions = now (directions .entry); points = now (points .entry); stages = now (stages .entry); bars = now (bars .entry) }) l i w ⌝ }
 {
     let was = far_proceeds(
         b,
         n,
-        rs,
-        &before.phase,
-        &before.direction,
-        &before.point,
-        &before.stage,
-        &before.bar,
+        entries,
+        old_phases,
+        old_directions,
+        old_points,
+        old_stages,
+        old_bars,
         l,
         i,
         w,
@@ -171,19 +145,7 @@ fn far_dropped(
     if !was {
         return false;
     }
-    let is = far_proceeds(
-        b,
-        n,
-        rs,
-        &s.phase,
-        &s.direction,
-        &s.point,
-        &s.stage,
-        &s.bar,
-        l,
-        i,
-        w,
-    );
+    let is = far_proceeds(b, n, entries, phases, directions, points, stages, bars, l, i, w);
     !is
 }
 
@@ -197,13 +159,28 @@ fn far_reading(b: Line, sections: &[u8; 64], i: u8, w: u8) -> u8
 
 // The stages of the first m places. An open block, one held in stage 0, and one of a neutral line are left at once;
 // the far signal is asked only where it matters.
-fn far_stages(s: State, l: Layout, m: u8, before: State) -> [u8; 64]
-    requires { ⌜ (m ≤ 64) × (l .routes ≤ 48) ⌝ }
-    ensures { λ x. ⌜ x ≡ each m (farAfter l before s) (s .stage) ⌝ }
+pub fn far_stages<'a>(
+    now_stages: [u8; 64],
+    m: u8,
+    ls: [Line; 8],
+    n: u8,
+    entries: &'a [u8; 48],
+    sections: &'a [u8; 64],
+    old_phases: &'a [u8; 48],
+    old_directions: &'a [u8; 8],
+    old_points: &'a [u8; 32],
+    old_stages: &'a [u8; 64],
+    old_bars: &'a [u8; 64],
+    phases: &'a [u8; 48],
+    directions: &'a [u8; 8],
+    points: &'a [u8; 32],
+    stages: &'a [u8; 64],
+    bars: &'a [u8; 64],
+) -> [u8; 64]
+    requires { ⌜ m ≤ 64 ⌝ }
+    ensures { λ x. ⌜ x ≡ each m (farStageAt ls n (now (entries .entry)) (now (sections .entry)) (record { phases = now («old_phases» .entry); directions = now («old_directions» .entry); points = now («old_points» .entry); stages = now («old_stages» .entry); bars = now («old_bars» .entry) }) (record { phases = now (phases .entry); directions = now (directions .entry); points = now (points .entry); stages = now (stages .entry); bars = now (bars .entry) })) «now_stages» ⌝ }
 {
-    let ls = l.line;
-    let rs = l.route;
-    let mut stage = s.stage;
+    let mut stage = now_stages;
     let mut k: u8 = 0;
     while k < m {
         let was = stage[k as usize];
@@ -211,15 +188,32 @@ fn far_stages(s: State, l: Layout, m: u8, before: State) -> [u8; 64]
             k += 1;
             continue;
         }
-        let w = direction_of(&s.direction, k / 8);
+        let w = direction_of(directions, k / 8);
         if w == 0 {
             k += 1;
             continue;
         }
         let b = ls[(k / 8) as usize];
-        let far = far_reading(b, &s.section, k % 8, w);
+        let far = far_reading(b, sections, k % 8, w);
         if (was == 2) & (far == 2) {
-            let dropped = far_dropped(b, l.routes, rs, before, s, k / 8, k % 8, w);
+            let dropped = far_dropped(
+                b,
+                n,
+                entries,
+                old_phases,
+                old_directions,
+                old_points,
+                old_stages,
+                old_bars,
+                phases,
+                directions,
+                points,
+                stages,
+                bars,
+                k / 8,
+                k % 8,
+                w,
+            );
             stage[k as usize] = passage::far_stage(far, dropped, was);
             k += 1;
             continue;
@@ -228,15 +222,4 @@ fn far_stages(s: State, l: Layout, m: u8, before: State) -> [u8; 64]
         k += 1;
     }
     stage
-}
-
-// The far sections move the stages.
-pub fn far_sections(l: Layout, before: State, s: State) -> State
-    requires { ⌜ (l .lines ≤ 8) × (l .routes ≤ 48) ⌝ }
-    ensures { λ t. ⌜ t ≡ farSections l before s ⌝ }
-{
-    let stage = far_stages(s, l, 8 * l.lines, before);
-    let mut t = s;
-    t.stage = stage;
-    t
 }

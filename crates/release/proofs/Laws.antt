@@ -13,7 +13,8 @@ use Rattle.track.specs.declared.Line.{Line}
 use Rattle.track.specs.declared.Route.{Route}
 use Rattle.release.specs.declared.Gives.{Gives}
 use Rattle.release.specs.declared.Held.{Held}
-use Rattle.release.specs.Release.{stepAfter, leftSections, left, secondsAfter, goes, heldAfter}
+use Rattle.signals.specs.Signals.{fallen}
+use Rattle.release.specs.Release.{stepAfter, leftSections, left, secondsAfter, goes, heldAfter, settledFrom, settled}
 
 -- of a path with fewer sections the first entry
 pub from-short : (a : Route) (k r : ℕ) → a .paths < k → r ≡ getD (a .path) 0 0 → r ≡ getD (a .path) (a .paths - k) 0
@@ -54,3 +55,11 @@ module _ (ls : List Line) (sections : List ℕ) (a : Route) (e : Gives) (h : Hel
   pub held-stays : v ≡ false → record { phase = h .phase; step = step; second = second } ≡ heldAfter ls sections a e h
   unfolding heldAfter
   held-stays p = if-false _ _ _ _ (rw (← s) (sym g ∙ p)) (rw (s, t))
+
+-- the signal first, then what becomes of the route
+pub settled-made : (ls : List Line) (sections points stages bars : List ℕ) (a : Route) (e : Gives) (h : Held) (p : ℕ) (x : Held)
+    → p ≡ fallen ls sections points stages bars a (h .phase) → x ≡ heldAfter ls sections a e (record { phase = p; step = h .step; second = h .second })
+    → settledFrom p x ≡ settled ls sections points stages bars a e h
+unfolding settled
+settled-made ls sections points stages bars a e h p x q r =
+    ap (settledFrom p) r ∙ ap (λ z. settledFrom z (heldAfter ls sections a e (record { phase = z; step = h .step; second = h .second }))) q

@@ -10,9 +10,10 @@ use Rattle.track.specs.declared.Line.{Line}
 use Rattle.track.specs.declared.Route.{Route}
 use Rattle.track.specs.Objects.{line}
 use Rattle.signals.specs.Readings.{reading, allFree}
-use Rattle.signals.specs.Signals.{nearest}
+use Rattle.signals.specs.Signals.{nearest, fallen}
 use Rattle.release.specs.declared.Gives.{Gives}
 use Rattle.release.specs.declared.Held.{Held}
+use Rattle.release.specs.declared.Settled.{Settled}
 
 -- what an event gives section g: 1 free, 2 occupied, 3 none, 0 nothing
 unfoldable pub given : Gives → ℕ → ℕ
@@ -68,3 +69,12 @@ unfoldable pub heldAfter : List Line → List ℕ → Route → Gives → Held �
 heldAfter ls sections a e h =
     if goes ls sections a e h (stepAfter ls sections a e (h .step)) then record { phase = 0; step = 0; second = 0 }
     else record { phase = h .phase; step = stepAfter ls sections a e (h .step); second = secondsAfter e (h .phase) (h .second) }
+
+-- a locked route whose signal has fallen, or not, and then what becomes of it
+unfoldable pub settledFrom : ℕ → Held → Settled
+settledFrom p h = record { fallen = p; phase = h .phase; step = h .step; second = h .second }
+
+unfoldable pub settled : List Line → List ℕ → List ℕ → List ℕ → List ℕ → Route → Gives → Held → Settled
+settled ls sections points stages bars a e h =
+    let p : ℕ = fallen ls sections points stages bars a (h .phase) in
+    settledFrom p (heldAfter ls sections a e (record { phase = p; step = h .step; second = h .second }))

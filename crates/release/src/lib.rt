@@ -9,7 +9,7 @@ use track::line_at;
 ghost use mathlib.Core.Path.{_≡_};
 ghost use Prim.Native.Nat.{_-_};
 ghost use lib.ListN.{getD};
-ghost use Rattle.release.specs.Release.{given, endBlock, firstWatched, secondWatched, earlyStep, stepFrom, stepAfter, leftSections, left, secondsAfter, goes, heldAfter};
+ghost use Rattle.release.specs.Release.{given, endBlock, firstWatched, secondWatched, earlyStep, stepFrom, stepAfter, leftSections, left, secondsAfter, goes, heldAfter, settled};
 
 // What an event gives: a section its reading (1 free, 2 occupied, 3 none; no section where the number is 64 or more), and 1 where a second has passed.
 pub struct Gives {
@@ -20,6 +20,14 @@ pub struct Gives {
 
 // What the state holds of a route: its phase, the step done, the seconds counted.
 pub struct Held {
+    pub phase: u8,
+    pub step: u8,
+    pub second: u8,
+}
+
+// What a locked route has after an event: the phase that its signal fell to, or stayed in, and then its phase, step and seconds.
+pub struct Settled {
+    pub fallen: u8,
     pub phase: u8,
     pub step: u8,
     pub second: u8,
@@ -144,10 +152,9 @@ fn left_sections(a: Route) -> u8
 fn is_left(ls: [Line; 8], sections: &[u8; 64], a: Route) -> bool
     ensures { λ r. ⌜ r ≡ left ls (now (sections .entry)) a ⌝ }
 {
-    let path = a.path;
     let entrance = a.kind == 1;
     let n = left_sections(a);
-    let free = all_free(sections, n, path);
+    let free = all_free(sections, n, &a.path);
     let g = end_block(ls, a);
     let end = section_reads(sections, g);
     free & (!entrance | (end == 1))
@@ -196,5 +203,33 @@ pub fn held_after(ls: [Line; 8], sections: &[u8; 64], a: Route, e: Gives, h: Hel
         phase: h.phase,
         step,
         second,
+    }
+}
+
+// What a locked route has after an event: its signal falls, and then the route is let go or goes on.
+pub fn route_settled<'a>(
+    ls: [Line; 8],
+    sections: &'a [u8; 64],
+    points: &'a [u8; 32],
+    stages: &'a [u8; 64],
+    bars: &'a [u8; 64],
+    a: Route,
+    e: Gives,
+    h: Held,
+) -> Settled
+    ensures { λ r. ⌜ r ≡ settled ls (now (sections .entry)) (now (points .entry)) (now (stages .entry)) (now (bars .entry)) a e h ⌝ }
+{
+    let fallen = signals::falls_to(ls, sections, points, stages, bars, a, h.phase);
+    let was = Held {
+        phase: fallen,
+        step: h.step,
+        second: h.second,
+    };
+    let x = held_after(ls, sections, a, e, was);
+    Settled {
+        fallen,
+        phase: x.phase,
+        step: x.step,
+        second: x.second,
     }
 }

@@ -3,7 +3,6 @@ use Prim.Native.Nat.{ℕ}
 use mathlib.Core.Bool.{Bool}
 use mathlib.Core.List.{List}
 use lib.Dec.{eqb}
-use lib.ListN.{getD}
 use Rattle.laws.specs.Choice.{if_then_else_}
 use Rattle.laws.specs.Tests.{all}
 use Rattle.laws.specs.Tables.{read}
@@ -20,10 +19,10 @@ reading sections g = read 64 3 sections g
 unfoldable pub lies : List ℕ → ℕ → ℕ
 lies points p = read 32 3 points p
 
--- the first n of these sections read free
+-- the first n of a list of eight sections read free
 unfoldable pub allFree : List ℕ → ℕ → List ℕ → Bool
-allFree sections n xs = all n (λ j. eqb (reading sections (getD xs j 0)) 1)
+allFree sections n xs = all n (λ j. eqb (reading sections (read 8 0 xs j)) 1)
 
--- the first n of these points are read in position; none is no position
+-- the first n of a list of eight points are read in position; none is no position
 unfoldable pub inPosition : List ℕ → ℕ → List ℕ → List ℕ → Bool
-inPosition points n ps ws = all n (λ j. eqb (lies points (getD ps j 0)) (getD ws j 0))
+inPosition points n ps ws = all n (λ j. eqb (lies points (read 8 0 ps j)) (read 8 0 ws j))

@@ -1,12 +1,11 @@
 // What sections and points read, and what signals show, over the tables of a state that are lent (sections 1 and 4).
-use laws::at8;
+use laws::lent8;
 use track::Line;
 use track::Route;
 use track::line_at;
 ghost use mathlib.Core.Path.{_≡_};
 ghost use mathlib.Core.List.{[], _∷_};
 ghost use lib.Dec.{eqb};
-ghost use lib.ListN.{getD};
 ghost use Rattle.laws.specs.Tests.{implies, every};
 ghost use Rattle.laws.specs.Tables.{read};
 ghost use Rattle.signals.specs.Readings.{recorded, reading, lies, allFree, inPosition};
@@ -46,16 +45,16 @@ pub fn point_reads(points: &[u8; 32], p: u8) -> u8
 }
 
 // The j-th of these sections reads free.
-fn free_at(sections: &[u8; 64], xs: [u8; 8], j: u8) -> bool
-    ensures { λ r. ⌜ r ≡ eqb (reading (now (sections .entry)) (getD xs j 0)) 1 ⌝ }
+fn free_at<'a>(sections: &'a [u8; 64], xs: &'a [u8; 8], j: u8) -> bool
+    ensures { λ r. ⌜ r ≡ eqb (reading (now (sections .entry)) (read 8 0 (now (xs .entry)) j)) 1 ⌝ }
 {
-    let g = at8(xs, j);
+    let g = lent8(xs, j);
     section_reads(sections, g) == 1
 }
 
 // The first n of these sections read free.
-pub fn all_free(sections: &[u8; 64], n: u8, xs: [u8; 8]) -> bool
-    ensures { λ r. ⌜ r ≡ allFree (now (sections .entry)) n xs ⌝ }
+pub fn all_free<'a>(sections: &'a [u8; 64], n: u8, xs: &'a [u8; 8]) -> bool
+    ensures { λ r. ⌜ r ≡ allFree (now (sections .entry)) n (now (xs .entry)) ⌝ }
 {
     let mut j: u8 = 0;
     while j < n {
@@ -68,17 +67,17 @@ pub fn all_free(sections: &[u8; 64], n: u8, xs: [u8; 8]) -> bool
 }
 
 // The j-th of these points is read in its position.
-fn placed_at(points: &[u8; 32], ps: [u8; 8], ws: [u8; 8], j: u8) -> bool
-    ensures { λ r. ⌜ r ≡ eqb (lies (now (points .entry)) (getD ps j 0)) (getD ws j 0) ⌝ }
+fn placed_at<'a>(points: &'a [u8; 32], ps: &'a [u8; 8], ws: &'a [u8; 8], j: u8) -> bool
+    ensures { λ r. ⌜ r ≡ eqb (lies (now (points .entry)) (read 8 0 (now (ps .entry)) j)) (read 8 0 (now (ws .entry)) j) ⌝ }
 {
-    let p = at8(ps, j);
-    let w = at8(ws, j);
+    let p = lent8(ps, j);
+    let w = lent8(ws, j);
     point_reads(points, p) == w
 }
 
 // The first n of these points are read in position.
-fn all_placed(points: &[u8; 32], n: u8, ps: [u8; 8], ws: [u8; 8]) -> bool
-    ensures { λ r. ⌜ r ≡ inPosition (now (points .entry)) n ps ws ⌝ }
+fn all_placed<'a>(points: &'a [u8; 32], n: u8, ps: &'a [u8; 8], ws: &'a [u8; 8]) -> bool
+    ensures { λ r. ⌜ r ≡ inPosition (now (points .entry)) n (now (ps .entry)) (now (ws .entry)) ⌝ }
 {
     let mut j: u8 = 0;
     while j < n {
@@ -94,18 +93,14 @@ fn all_placed(points: &[u8; 32], n: u8, ps: [u8; 8], ws: [u8; 8]) -> bool
 pub fn line_placed(points: &[u8; 32], b: Line) -> bool
     ensures { λ r. ⌜ r ≡ linePlaced (now (points .entry)) b ⌝ }
 {
-    let ps = b.point;
-    let ws = b.position;
-    all_placed(points, b.points, ps, ws)
+    all_placed(points, b.points, &b.point, &b.position)
 }
 
 // The points of a route are in position.
 pub fn route_placed(points: &[u8; 32], a: Route) -> bool
     ensures { λ r. ⌜ r ≡ routePlaced (now (points .entry)) a ⌝ }
 {
-    let ps = a.point;
-    let ws = a.position;
-    all_placed(points, a.points, ps, ws)
+    all_placed(points, a.points, &a.point, &a.position)
 }
 
 // Where block i of line l stands in the tables of stages and bars.
@@ -230,12 +225,10 @@ pub fn is_clear<'a>(
 ) -> bool
     ensures { λ r. ⌜ r ≡ clear ls (now (sections .entry)) (now (points .entry)) (now (stages .entry)) (now (bars .entry)) a ⌝ }
 {
-    let path = a.path;
-    if !all_free(sections, a.paths, path) {
+    if !all_free(sections, a.paths, &a.path) {
         return false;
     }
-    let overlap = a.overlap;
-    if !all_free(sections, a.overlaps, overlap) {
+    if !all_free(sections, a.overlaps, &a.overlap) {
         return false;
     }
     if !route_placed(points, a) {

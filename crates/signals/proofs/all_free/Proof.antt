@@ -1,14 +1,14 @@
 -- Each section before j reads free.
 use Prim.Native.Nat.{_-_}
 use lib.Dec.{eqb}
-use lib.ListN.{getD}
+use Rattle.laws.specs.Tables.{read}
 use Rattle.laws.proofs.Loops.{Held, alls}
 use Rattle.signals.specs.Readings.{reading, allFree}
 use Rattle.signals.proofs.all_free.Statement.{statement}
 use Rattle.signals.proofs.all_free.Tie as tie
 
 abbrev Inv-loop : tie.InvT-loop
-Inv-loop sections n xs j₀ j = Held n (λ k. eqb (reading sections (getD xs k 0)) 1) j
+Inv-loop sections n xs j₀ j = Held n (λ k. eqb (reading sections (read 8 0 xs k)) 1) j
 
 abbrev μ-loop : tie.MeasureT-loop
 μ-loop sections n xs j₀ j = n - j

@@ -1,14 +1,14 @@
 -- Each point before j is in position.
 use Prim.Native.Nat.{_-_}
 use lib.Dec.{eqb}
-use lib.ListN.{getD}
+use Rattle.laws.specs.Tables.{read}
 use Rattle.laws.proofs.Loops.{Held, alls}
 use Rattle.signals.specs.Readings.{lies, inPosition}
 use Rattle.signals.proofs.all_placed.Statement.{statement}
 use Rattle.signals.proofs.all_placed.Tie as tie
 
 abbrev Inv-loop : tie.InvT-loop
-Inv-loop points n ps ws j₀ j = Held n (λ k. eqb (lies points (getD ps k 0)) (getD ws k 0)) j
+Inv-loop points n ps ws j₀ j = Held n (λ k. eqb (lies points (read 8 0 ps k)) (read 8 0 ws k)) j
 
 abbrev μ-loop : tie.MeasureT-loop
 μ-loop points n ps ws j₀ j = n - j

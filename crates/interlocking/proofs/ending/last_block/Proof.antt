@@ -1,6 +1,6 @@
 -- By the direction.
 use borrow.Author.Needs.{needs}
-use Rattle.interlocking.proofs.Laws.{last-first, last-none, last-there}
+use Rattle.interlocking.proofs.FarSections.{last-first, last-none, last-there}
 use Rattle.interlocking.proofs.ending.last_block.Statement.{statement}
 use Rattle.interlocking.proofs.ending.last_block.Tie as tie
 

@@ -1,6 +1,6 @@
 -- A search that leaves at the first.
 use Prim.Native.Nat.{_-_}
-use Rattle.interlocking.proofs.Laws.{exit-at}
+use Rattle.interlocking.proofs.FarSections.{exit-at}
 use Rattle.interlocking.specs.Settle.{exitLocked}
 use Rattle.laws.proofs.Arrays.{length-mapped}
 use Rattle.laws.proofs.Loops.{Failed, anys}

@@ -1,6 +1,6 @@
 -- Secured that way, and open.
 use borrow.Author.Needs.{needs}
-use Rattle.interlocking.proofs.Laws.{shows-other-way, shows-that-way}
+use Rattle.interlocking.proofs.FarSections.{shows-other-way, shows-that-way}
 use Rattle.interlocking.proofs.settle.block_proceeds.Statement.{statement}
 use Rattle.interlocking.proofs.settle.block_proceeds.Tie as tie
 

@@ -1,6 +1,6 @@
 -- The station's signal, or the next block's.
 use borrow.Author.Needs.{needs}
-use Rattle.interlocking.proofs.Laws.{far-station, far-next}
+use Rattle.interlocking.proofs.FarSections.{far-station, far-next}
 use Rattle.interlocking.proofs.settle.far_proceeds.Statement.{statement}
 use Rattle.interlocking.proofs.settle.far_proceeds.Tie as tie
 
