@@ -1,7 +1,14 @@
 pub mod Reading
 pub mod Numerals
 pub mod PanelText
+pub mod Shown
+pub mod Words
+pub mod Rest
 pub mod Turns
 pub mod Prefix
+pub mod Further
+pub mod Onward
+pub mod Outcomes
 pub mod AskedOnce
+pub mod Buffer
 pub mod Unique

@@ -9,13 +9,12 @@ use borrow.Author.Tests.{ltb-false, eqb-true, eqb-false, not-true, not-false}
 use lib.Dec.{eqb}
 use lib.ListN.{length, drop, set, List·getD-append}
 use Rattle.laws.specs.Choice.{if_then_else_}
-use Rattle.laws.proofs.Choice.{if-lt, if-ge, if-both}
+use Rattle.laws.proofs.Choice.{if-both}
 use Rattle.layout.specs.declared.Layout.{Layout}
 use Rattle.interlocking.specs.declared.State.{State}
-use Rattle.interlocking.specs.State.{cold}
 use Rattle.panel.specs.declared.Drawn.{Drawn}
 use Rattle.panel.specs.Panel.{join, image, refused, answer, drawn}
-use Rattle.event_file.specs.Lines.{space, bar, three, afterSpace, spaced, shown, panelText, lineText, lineOf, mostText, mostLine, coldLine}
+use Rattle.event_file.specs.Lines.{space, bar, three, afterSpace, spaced, shown, panelText, lineText, lineOf, mostText, mostLine}
 use Rattle.event_file.specs.Writes.{Put}
 use Rattle.event_file.proofs.Numerals.{put-one, put-then, put-within}
 
@@ -121,20 +120,3 @@ unfolding mostLine mostText if_then_else_
 most-plain p e = rw e
 
 pub ruleset lines-most = (needs, most-panel, most-plain)
-
--- ---- the cold start's line
-
-module _ (L : Layout) (a : List ℕ) (v : ℕ) where
-  pub cold-none : v ≡ mostLine true → length a < v → Put a 0 (coldLine L (length a)) (mostLine true) a 0
-  unfolding coldLine
-  cold-none e h =
-      let less : length a < mostLine true = omega (arith, e) in
-      subst (λ xs. Put a 0 xs (mostLine true) a 0) (if-lt (length a) (mostLine true) _ _ _ less refl)
-      (record { buffer = refl; place = refl; near = omega arith; long = refl })
-
-  pub cold-some : (s : State) (b : List ℕ) (m : ℕ) → v ≡ mostLine true → v ≤ length a → s ≡ cold → Put a 0 (lineOf true L s 0 0 0) (mostLine true) b m
-      → Put a 0 (coldLine L (length a)) (mostLine true) b m
-  unfolding coldLine
-  cold-some s b m e h f p =
-      let room : mostLine true ≤ length a = omega (arith, e) in
-      subst (λ xs. Put a 0 xs (mostLine true) b m) (if-ge (length a) (mostLine true) _ _ _ room (ap (λ (t : State). lineOf true L t 0 0 0) f)) p

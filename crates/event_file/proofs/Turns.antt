@@ -53,7 +53,7 @@ taken-went panel L a b from m n next k q r e f t =
     (record { state = refl; count = refl; at = refl; stop = refl; text = t }))
 
 -- an event past the piece's end is no fault where more is to come
-both-fail : (t u : Bool) → u ≡ false → t and u ≡ false
+pub both-fail : (t u : Bool) → u ≡ false → t and u ≡ false
 unfolding _and_
 both-fail true u z = z
 both-fail false u z = refl

@@ -7,7 +7,10 @@ use Rattle.laws.proofs.Only.{Determines, only}
 use Rattle.interlocking.specs.declared.State.{State}
 use Rattle.event_file.specs.declared.pieces.Piece.{Piece}
 use Rattle.event_file.proofs.next_event.Reads as next-event
-use Rattle.event_file.proofs.pieces.cold_line.Reads as cold-line
+use Rattle.event_file.proofs.frame.opening_line.Reads as opening-line
+use Rattle.event_file.proofs.frame.layout_fault.Reads as layout-fault
+use Rattle.event_file.proofs.frame.events_fault.Reads as events-fault
+use Rattle.event_file.proofs.pieces.bring_rest.Reads as bring-rest
 use Rattle.event_file.proofs.pieces.run_piece.Reads as run-piece
 
 -- what stands at a place of an event file
@@ -19,9 +22,20 @@ abbrev DeterminesBytes : {K : Type 0} {A R S : K → Type 0} → ((κs : K) → 
 DeterminesBytes {K} {A} {R} {S} bytes Post =
     (κs : K) (a : A κs) (r q : R κs) (s t : S κs) → Post κs a r s → Post κs a q t → (r ≡ q) × (bytes κs s ≡ bytes κs t)
 
--- the cold start's line
-pub cold-line-determined : DeterminesBytes (λ κs s. now (s .1 .0)) cold-line.Post
-cold-line-determined κs a r q s t p o = (only (p .place) (o .place), only (p .buffer) (o .buffer))
+-- what stands before the first event
+pub opening-line-determined : DeterminesBytes (λ κs s. now (s .1 .1 .0)) opening-line.Post
+opening-line-determined κs a r q s t p o = (only (p .place) (o .place), only (p .buffer) (o .buffer))
+
+-- the lines of a file's fault
+pub layout-fault-determined : DeterminesBytes (λ κs s. now (s .1 .1 .0)) layout-fault.Post
+layout-fault-determined κs a r q s t p o = (only (p .place) (o .place), only (p .buffer) (o .buffer))
+
+pub events-fault-determined : DeterminesBytes (λ κs s. now (s .1 .1 .0)) events-fault.Post
+events-fault-determined κs a r q s t p o = (only (p .place) (o .place), only (p .buffer) (o .buffer))
+
+-- what is left, at the front
+pub bring-rest-determined : DeterminesBytes (λ κs s. now (s .0)) bring-rest.Post
+bring-rest-determined κs a r q s t p o = (only (p .place) (o .place), only (p .buffer) (o .buffer))
 
 -- two records with the same parts
 same-piece : {s t : State} {n m at to from till x y : ℕ} → s ≡ t → n ≡ m → at ≡ to → from ≡ till → x ≡ y

@@ -3,3 +3,4 @@ pub mod Lines
 pub mod Writes
 pub mod Run
 pub mod List
+pub mod Buffer

@@ -1,13 +1,12 @@
 -- What is printed of an event (section 8), in ASCII.
 use Prim.Native.Nat.{ℕ, zero, suc, _+_, _/_, _%_}
-use mathlib.Core.Bool.{Bool, true}
+use mathlib.Core.Bool.{Bool}
 use mathlib.Core.List.{List, [], _∷_, _++_}
 use lib.ListN.{length, getD}
 use lib.Dec.{eqb, ltb}
 use Rattle.laws.specs.Choice.{if_then_else_}
 use Rattle.layout.specs.declared.Layout.{Layout}
 use Rattle.interlocking.specs.declared.State.{State}
-use Rattle.interlocking.specs.State.{cold}
 use Rattle.panel.specs.Panel.{join, image, answer}
 
 -- a number in decimal, in so many places at most
@@ -67,7 +66,3 @@ mostText panel = if panel then 2112 else 62
 
 unfoldable pub mostLine : Bool → ℕ
 mostLine panel = mostText panel + 1
-
--- the cold start's, where there is room
-unfoldable pub coldLine : Layout → ℕ → List ℕ
-coldLine L room = if ltb room (mostLine true) then [] else lineOf true L cold 0 0 0

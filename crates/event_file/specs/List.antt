@@ -3,7 +3,7 @@ use Prim.Native.Nat.{ℕ, zero, suc}
 use mathlib.Core.Bool.{Bool}
 use mathlib.Core.List.{List, [], _∷_, _++_}
 use lib.ListN.{length}
-use lib.Dec.{eqb}
+use lib.Dec.{eqb, ltb}
 use Rattle.laws.specs.Choice.{if_then_else_}
 use Rattle.layout.specs.declared.Layout.{Layout}
 use Rattle.layout.specs.declared.Loaded.{Loaded}
@@ -15,7 +15,7 @@ use Rattle.step_facts.specs.Run.{Event, box}
 use Rattle.event_file.specs.declared.Next.{Next}
 use Rattle.event_file.specs.declared.Next.the-variants.{Taken, Bad, Nothing}
 use Rattle.event_file.specs.Read.{eventAt}
-use Rattle.event_file.specs.Lines.{two, lineEnd, lineOf}
+use Rattle.event_file.specs.Lines.{two, lineEnd, lineOf, mostLine}
 use Rattle.event_file.specs.Run.{nextCount}
 
 -- the words `layout ` and `events `, and the header `event answer detail` with its line's end
@@ -31,6 +31,10 @@ header = 101 ∷ 118 ∷ 101 ∷ 110 ∷ 116 ∷ 32 ∷ 97 ∷ 110 ∷ 115 ∷ 1
 -- a word with an answer and its detail
 unfoldable pub faultLine : List ℕ → ℕ → ℕ → List ℕ
 faultLine word number detail = word ++ two number detail ++ (lineEnd ∷ [])
+
+-- the most bytes of that: seven, two numbers with a space between, and the end
+abbrev pub mostFault : ℕ
+mostFault = 49
 
 -- the line of an answered event
 unfoldable pub answerLine : Bool → Layout → ℕ → Answer → List ℕ
@@ -53,6 +57,13 @@ listFrom (suc most) f panel L file s n at =
 -- before the first event: the header, or the cold start's line with its panel
 unfoldable pub opening : Bool → Layout → List ℕ
 opening panel L = if panel then lineOf panel L cold 0 0 0 else header
+
+-- a fault's line and the opening in a buffer of so much room, and nothing where that may be too little
+unfoldable pub faultIn : ℕ → List ℕ → ℕ → ℕ → List ℕ
+faultIn room word number detail = if ltb room mostFault then [] else faultLine word number detail
+
+unfoldable pub openingIn : ℕ → Bool → Layout → List ℕ
+openingIn room panel L = if ltb room (mostLine panel) then [] else opening panel L
 
 -- all that is printed; a file has no more events than bytes, and one more place to end at
 unfoldable pub printed : Bool → List ℕ → List ℕ → List ℕ

@@ -1,10 +1,14 @@
 // Events one after another in a file, and what is printed of a run over them (section 8).
+mod frame;
 mod lines;
 mod pieces;
 
+pub use frame::events_fault;
+pub use frame::layout_fault;
+pub use frame::opening_line;
 use numbers::Number;
 pub use pieces::Piece;
-pub use pieces::cold_line;
+pub use pieces::bring_rest;
 pub use pieces::run_piece;
 ghost use mathlib.Core.Path.{_≡_};
 ghost use Rattle.event_file.specs.Read.{Small, withSecond, withFirst, withKind, eventAt};

@@ -9,9 +9,8 @@ ghost use Prim.Native.Nat.{_+_, _-_, _≤_};
 ghost use lib.ListN.{length};
 ghost use Rattle.interlocking.specs.Step.{stepInRun};
 ghost use Rattle.step_facts.specs.Run.{boxInRun};
-ghost use Rattle.event_file.specs.Lines.{coldLine, mostLine};
-ghost use Rattle.event_file.specs.Writes.{Put};
-ghost use mathlib.Core.Bool.{true};
+ghost use Rattle.event_file.specs.Lines.{mostLine};
+ghost use Rattle.event_file.specs.Writes.{Put, rest};
 ghost use Rattle.event_file.specs.Run.{nextCount, took, nextOf, turnOf, pieceOf, halted, Went};
 
 // How far a run came: the state, how many events there were, the place of the next one, how many bytes were written, and why it stopped.
@@ -35,7 +34,7 @@ fn next_count(n: u64) -> u64
 }
 
 // The most bytes of a line.
-fn most_line(panel: bool) -> usize
+pub fn most_line(panel: bool) -> usize
     ensures { λ r. ⌜ r ≡ mostLine panel ⌝ }
 {
     if panel {
@@ -169,13 +168,19 @@ pub fn run_piece(
     p
 }
 
-// The line of the cold start with its panel, where the buffer has room for it.
-pub fn cold_line(layout: Layout, out: &mut [u8]) -> usize
-    ensures { λ r. ⌜ Put (now (out .entry)) 0 (coldLine layout (length (now (out .entry)))) (mostLine true) (now (out .exit)) r ⌝ }
+// The bytes of a buffer from one place to another are brought to its front; how many they are.
+pub fn bring_rest(buf: &mut [u8], from: usize, till: usize) -> usize
+    ensures { λ r. ⌜ Put (now (buf .entry)) 0 (rest from till (now (buf .entry))) (length (now (buf .entry))) (now (buf .exit)) r ⌝ }
 {
-    let state = State::cold();
-    if out.len() < most_line(true) {
-        return 0;
+    let mut n: usize = 0;
+    let mut at = from;
+    while at < till {
+        if buf.len() <= at {
+            return n;
+        }
+        buf[n] = buf[at];
+        n += 1;
+        at += 1;
     }
-    lines::put_line(true, layout, state, 0, 0, 0, out, 0)
+    n
 }

@@ -37,51 +37,7 @@ fn written(out: &[u8], n: usize) -> bool {
     false
 }
 
-// Writes a word with two numbers as a line.
-fn print_fault(word: &[u8], number: u64, detail: u64) -> bool {
-    if !io::write_all(STDOUT_FILENO, word) {
-        return false;
-    }
-    if !io::print_decimal(STDOUT_FILENO, number) {
-        return false;
-    }
-    if !io::write_all(STDOUT_FILENO, b" ") {
-        return false;
-    }
-    if !io::print_decimal(STDOUT_FILENO, detail) {
-        return false;
-    }
-    io::write_all(STDOUT_FILENO, b"\n")
-}
-
-// Ends the list with a fault of a file.
-fn fault(word: &[u8], number: u64, detail: u64) {
-    if !print_fault(word, number, detail) {
-        os::fail(b"standard output");
-    }
-}
-
-// A byte is copied to an earlier place, where there are both.
-fn bring(buf: &mut [u8], to: usize, from: usize) {
-    if buf.len() <= from {
-        return;
-    }
-    if buf.len() <= to {
-        return;
-    }
-    buf[to] = buf[from];
-}
-
-// The bytes from a place on are brought to the front. What is left of a piece is less than one event, nine bytes at most.
-fn bring_rest(buf: &mut [u8], at: usize) {
-    let mut i: usize = 0;
-    while i < 9 {
-        bring(buf, i, sum(at, i));
-        i += 1;
-    }
-}
-
-// Reads on behind the first n bytes, and answers how many bytes there are then.
+// Reads on behind the first n bytes; how many there are then.
 fn read_on(fd: i32, buf: &mut [u8], n: usize) -> usize {
     let end = buf.len();
     if end < n {
@@ -89,6 +45,18 @@ fn read_on(fd: i32, buf: &mut [u8], n: usize) -> usize {
     }
     let more = io::read_full(fd, &mut buf[n..end]);
     sum(n, more)
+}
+
+// What is left from a place on is brought to the front and the file is read on behind it; how many bytes there are then.
+fn read_behind(fd: i32, buf: &mut [u8], at: usize, have: usize) -> usize {
+    let rest = event_file::bring_rest(buf, at, have);
+    read_on(fd, buf, rest)
+}
+
+// Ends the list with a fault of the event file.
+fn end_list(number: u8, place: usize, out: &mut [u8]) {
+    let n = event_file::events_fault(number as u64, place as u64, out);
+    written(out, n);
 }
 
 // The walk has ended.
@@ -105,7 +73,7 @@ fn ended(w: Walk) -> Walk {
 }
 
 // A piece was run: on in the same bytes, or with more of the file, or to the end.
-fn walk_from(fd: i32, w: Walk, p: event_file::Piece, buf: &mut [u8]) -> Walk {
+fn walk_from(fd: i32, w: Walk, p: event_file::Piece, buf: &mut [u8], out: &mut [u8]) -> Walk {
     let state = p.state;
     if p.stop < 2 {
         return Walk {
@@ -118,12 +86,7 @@ fn walk_from(fd: i32, w: Walk, p: event_file::Piece, buf: &mut [u8]) -> Walk {
         };
     }
     if p.stop == 2 {
-        if w.have < p.at {
-            return ended(w);
-        }
-        let rest = w.have - p.at;
-        bring_rest(buf, p.at);
-        let have = read_on(fd, buf, rest);
+        let have = read_behind(fd, buf, p.at, w.have);
         return Walk {
             state,
             count: p.count,
@@ -133,9 +96,10 @@ fn walk_from(fd: i32, w: Walk, p: event_file::Piece, buf: &mut [u8]) -> Walk {
             going: true,
         };
     }
-    if p.stop > 3 {
-        fault(b"events ", p.stop as u64, sum(w.before, p.at) as u64);
+    if p.stop == 3 {
+        return ended(w);
     }
+    end_list(p.stop, sum(w.before, p.at), out);
     ended(w)
 }
 
@@ -160,7 +124,7 @@ fn walk_on(fd: i32, panel: bool, layout: Layout, w: Walk, buf: &mut [u8], out: &
     if !written(out, p.written) {
         return ended(w);
     }
-    walk_from(fd, w, p, buf)
+    walk_from(fd, w, p, buf, out)
 }
 
 // All events. A loop that is proved has to end, so this one counts its turns down from a number that no file uses up.
@@ -183,25 +147,18 @@ fn walk_all(fd: i32, panel: bool, layout: Layout, n: usize, buf: &mut [u8], out:
     }
 }
 
-// What stands before the first event: the header, or the cold start's line.
-fn opened(panel: bool, layout: Layout, out: &mut [u8]) -> bool {
-    if panel {
-        let n = event_file::cold_line(layout, out);
-        return written(out, n);
-    }
-    written(b"event answer detail\n", 20)
-}
-
 // A layout file of n bytes is loaded and the open event file is run on it.
 fn run(file: &[u8], fd: i32, panel: bool, n: usize, buf: &mut [u8]) {
     let loaded = layout::load(file);
     let layout = loaded.layout;
+    let mut out = io::large_buffer();
     if loaded.number != 0 {
-        fault(b"layout ", loaded.number as u64, loaded.detail as u64);
+        let end = event_file::layout_fault(loaded.number as u64, loaded.detail as u64, &mut out);
+        written(&out, end);
         return;
     }
-    let mut out = io::large_buffer();
-    if !opened(panel, layout, &mut out) {
+    let end = event_file::opening_line(panel, layout, &mut out);
+    if !written(&out, end) {
         return;
     }
     walk_all(fd, panel, layout, n, buf, &mut out);

@@ -4,17 +4,16 @@ use Prim.Native.Nat.{ℕ, _*_, _/_, _%_, _<_, _≤_}
 use mathlib.Core.Path.{_≡_, refl, sym, ap, ap₂, _∙_, fun-ext}
 use mathlib.Core.Bool.{Bool, true, false, not}
 use mathlib.Core.List.{List, [], _∷_}
-use native.Mathlib.Decide.{ℕ-discrete, decLt}
+use native.Mathlib.Decide.{ℕ-discrete}
 use native.Mathlib.Omega.{arith}
 use lib.Dec.{eqb}
 use lib.ListN.{length, getD}
-use lib.Seq.{ext-getD}
 use Rattle.laws.specs.Choice.{if_then_else_}
 use Rattle.laws.specs.Tests.{_and_, any}
 use Rattle.laws.specs.Tables.{each, read}
 use Rattle.laws.proofs.Choice.{if-eq, if-ne, if-lt, if-both}
 use Rattle.laws.proofs.Tests.{any-same}
-use Rattle.laws.proofs.Each.{Redone, each-at, each-past, length-each}
+use Rattle.laws.proofs.Each.{Redone, each-at, each-past, length-each, each-over}
 use Rattle.track.specs.declared.Line.{Line}
 use Rattle.track.specs.declared.Route.{Route}
 use Rattle.track.specs.Objects.{line, route, entrance}
@@ -71,7 +70,7 @@ module _ (ls : List Line) (rs : List Route) (n : ℕ) (s : State) (r : ℕ) (b :
   -- a route that is not idle takes what becomes of it
   module _ (e : Gives) (d : Route) (x : Settled) (q : length rs ≡ 48) (live : getD (s .phase) r 0 ≡ 0 → ⊥)
       (g : x ≡ settled ls (s .section) (s .point) (s .stage) (s .bar) (getD rs r d) e
-          (record { phase = getD (s .phase) r 0; step = getD (s .step) r 0; second = getD (s .second) r 0 })) where
+      (record { phase = getD (s .phase) r 0; step = getD (s .step) r 0; second = getD (s .second) r 0 })) where
     held : Held
     held = record { phase = fallenAt ls rs s r (getD (s .phase) r 0); step = getD (s .step) r 0; second = getD (s .second) r 0 }
 
@@ -164,16 +163,6 @@ module _ (L : Layout) (before s : State) (zeros : List ℕ) (few : L .routes ≤
       ap₂ (λ (u v : Bool). if eqb w 0 then was else farStage (reading (s .section) (farSection (line (L .line) (k / 8)) w (k % 8))) (u and not v) was)
       (shows-same before (k / 8) (k % 8) w) (shows-same s (k / 8) (k % 8) w)
 
--- a table made anew, where what it is made from differs only in what the rule does not look at
-each-over : (n : ℕ) (f : ℕ → ℕ → ℕ) (xs ys : List ℕ) → n ≤ length xs → length xs ≡ length ys
-    → ((k : ℕ) → k < n → f k (getD xs k 0) ≡ f k (getD ys k 0)) → ((k : ℕ) → n ≤ k → getD xs k 0 ≡ getD ys k 0) → each n f xs ≡ each n f ys
-each-over n f xs ys b e h g =
-    ext-getD 0 (each n f xs) (each n f ys) (length-each n f xs b ∙ e ∙ sym (length-each n f ys (omega arith))) (λ k q. go k (decLt k n))
-  where
-    go : (k : ℕ) → Dec (k < n) → getD (each n f xs) k 0 ≡ getD (each n f ys) k 0
-    go k (yes l) = each-at n f xs k l ∙ h k l ∙ sym (each-at n f ys k l)
-    go k (no l) = each-past n f xs k (omega arith) ∙ g k (omega arith) ∙ sym (each-past n f ys k (omega arith))
-
 module _ (L : Layout) (before s : State) (e : Gives) (few : L .routes ≤ 48) (len : length (s .phase) ≡ 48) where
   abbrev after-fall : State
   after-fall = fell (L .line) (L .route) (L .routes) s
@@ -198,8 +187,8 @@ module _ (L : Layout) (before s : State) (e : Gives) (few : L .routes ≤ 48) (l
           ∙ sym (each-at (L .routes) (fallenAt (L .line) (L .route) s) (s .phase) k b))
       go k b (no z) =
           let live : read 48 0 (each (L .routes) (fallenAt (L .line) (L .route) s) (s .phase)) k ≡ 0 → ⊥ =
-              λ y. fallen-live (L .line) (s .section) (s .point) (s .stage) (s .bar) (route (L .route) k) (getD (s .phase) k 0) z
-              (sym (fell-at (L .line) (L .route) (L .routes) s k b few) ∙ y) in
+          λ y. fallen-live (L .line) (s .section) (s .point) (s .stage) (s .bar) (route (L .route) k) (getD (s .phase) k 0) z
+          (sym (fell-at (L .line) (L .route) (L .routes) s k b few) ∙ y) in
           sym (if-ne _ 0 _ _ (x k) live refl) ∙ if-ne _ 0 _ _ (x k) live refl
 
   module _ (zeros entry fallen phase step second stage direction : List ℕ)
@@ -209,7 +198,7 @@ module _ (L : Layout) (before s : State) (e : Gives) (few : L .routes ≤ 48) (l
       (e₄ : step ≡ each (L .routes) (λ r was. unlessIdle after-fall r was (routeAfter (L .line) (L .route) after-fall e r .step)) (s .step))
       (e₅ : second ≡ each (L .routes) (λ r was. unlessIdle after-fall r was (routeAfter (L .line) (L .route) after-fall e r .second)) (s .second))
       (e₆ : stage ≡ each (8 * L .lines) (farStageAt (L .line) (L .routes) entry (s .section) (tablesOf before)
-          (record { phases = fallen; directions = s .direction; points = s .point; stages = s .stage; bars = s .bar })) (s .stage))
+      (record { phases = fallen; directions = s .direction; points = s .point; stages = s .stage; bars = s .bar })) (s .stage))
       (e₇ : direction ≡ each (L .lines) (λ l. directionBy (line (L .line) l) (L .routes) (L .route) (before .stage) stage (s .bar) phase l) (s .direction)) where
     stages-moved : stage ≡ each (8 * L .lines) (farAfter L before after-fall) (s .stage)
     unfolding fell withRoutes tablesOf entries
@@ -227,7 +216,16 @@ module _ (L : Layout) (before s : State) (e : Gives) (few : L .routes ≤ 48) (l
         e₇ ∙ ap₂ (λ (xs ys : List ℕ). each (L .lines) (λ l. directionBy (line (L .line) l) (L .routes) (L .route) (before .stage) xs (s .bar) ys l) (s .direction))
         stages-moved phases-moved
 
-    pub settled-made : record { section = s .section; point = s .point; order = s .order; phase = phase; step = step; second = second
-        ; direction = direction; stage = stage; bar = s .bar } ≡ settle L before s e
+    pub settled-made : record {
+      section = s .section;
+      point = s .point;
+      order = s .order;
+      phase = phase;
+      step = step;
+      second = second;
+      direction = direction;
+      stage = stage;
+      bar = s .bar;
+    } ≡ settle L before s e
     unfolding settle lineRelease routes routesBy farSections signals withRoutes withLines fell unlessIdle routeAfter heldOf
     settled-made = rw (phases-moved, e₄, e₅, directions-moved, stages-moved)

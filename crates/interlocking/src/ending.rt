@@ -148,8 +148,7 @@ pub fn directions_after<'a>(
     while k < m {
         let b = ls[k as usize];
         let was = direction[k as usize];
-        direction[k as usize] =
-            direction_after(b, n, rs, before, stages, bars, phases, k, was);
+        direction[k as usize] = direction_after(b, n, rs, before, stages, bars, phases, k, was);
         k += 1;
     }
     direction

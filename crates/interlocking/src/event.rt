@@ -200,7 +200,17 @@ pub fn event_answered(
         &s.stage,
         &s.bar,
     );
-    let direction = directions_after(directions, m, ls, n, rs, &before.stage, &stage, &s.bar, &phase);
+    let direction = directions_after(
+        directions,
+        m,
+        ls,
+        n,
+        rs,
+        &before.stage,
+        &stage,
+        &s.bar,
+        &phase,
+    );
     let mut next = s;
     next.phase = phase;
     next.step = step;

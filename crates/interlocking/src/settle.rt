@@ -71,13 +71,7 @@ fn block_proceeds<'a>(
 }
 
 // The entrance signal of a line's arrival end shows proceed.
-fn station_proceeds<'a>(
-    b: Line,
-    n: u8,
-    entries: &'a [u8; 48],
-    phases: &'a [u8; 48],
-    w: u8,
-) -> bool
+fn station_proceeds<'a>(b: Line, n: u8, entries: &'a [u8; 48], phases: &'a [u8; 48], w: u8) -> bool
     ensures { λ x. ⌜ x ≡ mainShows n (now (entries .entry)) (now (phases .entry)) (entrance b (arrival w)) ⌝ }
 {
     let e = passage::arrival_end(w);
@@ -145,7 +139,19 @@ fn far_dropped<'a>(
     if !was {
         return false;
     }
-    let is = far_proceeds(b, n, entries, phases, directions, points, stages, bars, l, i, w);
+    let is = far_proceeds(
+        b,
+        n,
+        entries,
+        phases,
+        directions,
+        points,
+        stages,
+        bars,
+        l,
+        i,
+        w,
+    );
     !is
 }
 

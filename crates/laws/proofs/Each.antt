@@ -63,6 +63,16 @@ each-is n f xs ys b e h g = ext-getD 0 ys (each n f xs) (e ∙ sym (length-each 
     go k (yes l) = h k l ∙ sym (each-at n f xs k l)
     go k (no l) = g k (omega arith) ∙ sym (each-past n f xs k (omega arith))
 
+-- a table made anew, where what it is made from differs only in what the rule does not look at
+pub each-over : (n : ℕ) (f : ℕ → ℕ → ℕ) (xs ys : List ℕ) → n ≤ length xs → length xs ≡ length ys
+    → ((k : ℕ) → k < n → f k (getD xs k 0) ≡ f k (getD ys k 0)) → ((k : ℕ) → n ≤ k → getD xs k 0 ≡ getD ys k 0) → each n f xs ≡ each n f ys
+each-over n f xs ys b e h g =
+    ext-getD 0 (each n f xs) (each n f ys) (length-each n f xs b ∙ e ∙ sym (length-each n f ys (omega arith))) (λ k q. go k (decLt k n))
+  where
+    go : (k : ℕ) → Dec (k < n) → getD (each n f xs) k 0 ≡ getD (each n f ys) k 0
+    go k (yes l) = each-at n f xs k l ∙ h k l ∙ sym (each-at n f ys k l)
+    go k (no l) = each-past n f xs k (omega arith) ∙ g k (omega arith) ∙ sym (each-past n f ys k (omega arith))
+
 -- ---- the loop: ys is xs, below i made anew by f, from i on as it was; its length is m, and n of its entries are to be made
 
 unfoldable pub Redone : ℕ → ℕ → (ℕ → ℕ → ℕ) → List ℕ → List ℕ → ℕ → Type 0

@@ -6,8 +6,7 @@ use mathlib.Core.Bool.{true}
 use native.Mathlib.Decide.{ℕ-discrete}
 use native.Mathlib.Omega.{arith}
 use borrow.Author.Tests.{eqb-true, eq-eqb, ne-eqb, ltb-true}
-use lib.Dec.{eqb, ltb}
-use Rattle.laws.specs.Tests.{_and_}
+use lib.Dec.{ltb}
 use Rattle.laws.proofs.Tests.{and-left, and-right, implied, every-at, any-some}
 use Rattle.signals.specs.Signals.{nearest, isOpen, enterable, letsOut, clear, routeProceeds, mainProceeds}
 use Rattle.layout.specs.declared.Layout.{Layout}
@@ -15,7 +14,8 @@ use Rattle.layout.specs.Layout.{lineIn, routeIn}
 use Rattle.layout_facts.specs.Plain.{block, nearestBlock, Sound, sameEntry}
 use Rattle.layout_facts.proofs.Uses.{same-exit}
 use Rattle.interlocking.specs.declared.State.{State}
-use Rattle.safety.specs.Shown.{Signal, main, into, Panel, stands, routeShows, panel}
+use Rattle.panel.specs.Panel.{stands, routeByte}
+use Rattle.safety.specs.Shown.{Signal, main, into, Panel, routeShows, panel}
 use Rattle.safety.specs.History.{History, shown}
 use Rattle.safety.specs.Demand3.{Proceeds, Enters}
 use Rattle.safety.proofs.Entries.{phase, direction, stage, chosen, passed-over}
@@ -23,7 +23,7 @@ use Rattle.safety.proofs.Signals.{main-shown, into-shown}
 use Rattle.safety.proofs.Invariant.{Inv}
 
 -- no exit signal and block signal lead into one block the same way: a block signal stands behind another block
-not-both-kinds : (L : Layout) (l w i e : ℕ) → 1 ≤ lineIn L l .blocks → nearestBlock L l e ≡ i → e + 1 ≡ w → stands L l i w ≡ true → ⊥
+not-both-kinds : (L : Layout) (l w i e : ℕ) → 1 ≤ lineIn L l .blocks → nearestBlock L l e ≡ i → e + 1 ≡ w → stands (lineIn L l .blocks) i w ≡ true → ⊥
 unfolding stands nearestBlock
 not-both-kinds L l w i e some at way t = go (ℕ-discrete e 0)
   where
@@ -35,14 +35,14 @@ not-both-kinds L l w i e some at way t = go (ℕ-discrete e 0)
         omega arith
     go (no q) =
         let last : lineIn L l .blocks - 1 ≡ i = sym (passed-over _ _ _ (ne-eqb e 0 q)) ∙ at in
-        let behind : eqb w 2 and ltb (i + 1) (lineIn L l .blocks) ≡ true = sym (passed-over _ _ _ (ne-eqb w 1 (omega arith))) ∙ t in
-        let z = ltb-true (i + 1) (lineIn L l .blocks) (and-right _ _ behind) in
+        let behind : ltb (i + 1) (lineIn L l .blocks) ≡ true = sym (passed-over _ _ _ (ne-eqb w 1 (omega arith))) ∙ t in
+        let z = ltb-true (i + 1) (lineIn L l .blocks) behind in
         omega arith
 
 module _ (L : Layout) (S : Sound L) (s : State) (h : History) (I : Inv L s h) where
   -- a route that does not show idle is locked
   pub shown-locked : (r : ℕ) → shown L h .route r ≢ 0 → phase s r ≢ 0
-  unfolding panel routeShows
+  unfolding panel routeShows routeByte
   shown-locked r d z = d (ap (λ (p : Panel). p .route r) (I .seen) ∙ chosen _ _ _ (eq-eqb _ 0 z))
 
   -- a main signal shows proceed for a route in phase 1 that starts at it

@@ -13,10 +13,10 @@ use Rattle.passage.specs.Passage.{nextBlock}
 use Rattle.passage.specs.Passage as passage
 use Rattle.layout.specs.declared.Layout.{Layout}
 use Rattle.layout.specs.Layout.{lineIn}
-use Rattle.layout_facts.specs.Plain.{block, innerSection, entranceSignal}
+use Rattle.layout_facts.specs.Plain.{block, innerSection, entranceSignal, Sound}
 use Rattle.interlocking.specs.declared.State.{State}
 use Rattle.interlocking.specs.Settle.{stationProceeds, farProceeds}
-use Rattle.safety.specs.Demand3.{Beyond, next, arrival, beyond, sectionAt}
+use Rattle.safety.specs.Demand3.{Beyond, next, arrival, beyond, sectionAt, farSection}
 use Rattle.safety.proofs.Entries.{Is, holds, fails, which, chosen, passed-over}
 
 -- ---- what lies beyond a block
@@ -44,7 +44,15 @@ beyond-case L l i w h = go (which (eqb w 1)) (which (ltb (i + 1) (lineIn L l .bl
         rw (passed-over _ _ _ a, passed-over _ _ _ c)
         (aBlock (i - 1) (omega arith) (omega arith) (passed-over _ _ _ a ∙ passed-over _ _ _ c) (λ q. absurd (eqb-false w 1 a q)) (λ q. omega arith))
 
--- the far section is the same
+-- the far section is a section of the layout
+pub far-there : (L : Layout) → Sound L → (l i w : ℕ) → l < L .lines → i < lineIn L l .blocks → farSection L l i w < L .sections
+far-there L S l i w b c = go _ (beyond-case L l i w c)
+  where
+    go : (x : Beyond) → BeyondCase L l i w x → sectionAt L l x < L .sections
+    go x (aBlock j h d n up down) = S .ranges .lines l b .blocks j h
+    go x (aStation e h a n) = S .ranges .lines l b .inners e h
+
+-- it is the step's
 pub far-section : {L : Layout} {l i w : ℕ} {x : Beyond} → lineIn L l .blocks ≤ 8 → BeyondCase L l i w x → passage.farSection (lineIn L l) w i ≡ sectionAt L l x
 unfolding passage.farSection block innerSection
 far-section {L} {l} {i} {w} few (aBlock j h d n up down) =

@@ -25,7 +25,7 @@ use Rattle.interlocking.specs.declared.State.{State}
 use Rattle.interlocking.specs.State.{withSections, withRoutes, withLines}
 use Rattle.interlocking.specs.Own.{ownSection, ownSet, ownCancel, ownSecure, ownManual}
 use Rattle.interlocking.specs.Settle.{signals, farSections, heldOf, routeAfter, unlessIdle, routesBy, routes, lineRelease, settle}
-use Rattle.interlocking.specs.Step.{gives, own, after}
+use Rattle.interlocking.specs.Step.{gives, ownOf, own, after}
 use Rattle.step_facts.specs.Run.{Event}
 use Rattle.safety.specs.Cases.{ev}
 use Rattle.safety.specs.History.{says}
@@ -76,7 +76,7 @@ module _ (L : Layout) (S : Sound L) (s : State) (e : Event) (r : ℕ) (b : r < L
 
   -- and so is one that it cancelled
   pub cancelled : e .kind ≡ 5 → e .first ≡ r → Calm (end L s e) r
-  unfolding own ownCancel withRoutes if_then_else_
+  unfolding own ownOf ownCancel withRoutes if_then_else_
   cancelled k q = calm-then (inr (rw (k, q) (read-put 48 0 (s .phase) r 3 r (omega (arith, S .ranges .routeCount)) ∙ chosen _ _ _ (eq-eqb r r refl))))
 
 -- in an event that gives a second a cancelling route goes, or counts it
@@ -103,7 +103,7 @@ module _ (L : Layout) (S : Sound L) (s : State) (r : ℕ) (b : r < L .routes) (t
 
   -- its signal is not at proceed, so it does not fall
   still-three : phase far r ≡ 3
-  unfolding far own if_then_else_ farSections withLines
+  unfolding far own ownOf if_then_else_ farSections withLines
   still-three = phase-lit L (S .ranges .routeCount) s (ev 10 0 0) r b ∙ fallen-else L s r (phase s r) (omega arith) ∙ three
 
   -- a route that is not idle takes what becomes of it
@@ -113,7 +113,7 @@ module _ (L : Layout) (S : Sound L) (s : State) (r : ℕ) (b : r < L .routes) (t
 
   -- so by the end of a second it goes, or has counted one more
   pub second-on : (phase (end L s (ev 10 0 0)) r ≡ 0) ⊎ ((phase (end L s (ev 10 0 0)) r ≡ 3) × (second (end L s (ev 10 0 0)) r ≡ second s r + 1))
-  unfolding far own gives if_then_else_ after settle lineRelease withLines routes routesBy withRoutes farSections signals routeAfter heldOf
+  unfolding far own ownOf gives if_then_else_ after settle lineRelease withLines routes routesBy withRoutes farSections signals routeAfter heldOf
   second-on =
       rw (
         read-each 48 0 (L .routes) _ (lit L s (ev 10 0 0) .phase) r (omega (arith, S .ranges .routeCount)) b,
@@ -151,7 +151,7 @@ free-on L s a g b f = go (ℕ-discrete a g)
 module _ (L : Layout) (S : Sound L) (s : State) (l : ℕ) (k : ℕ) (b : k < L .lines) where
   -- a manual release makes its line neutral, and leaves neutral what is
   pub neutral-on : (k ≡ l) ⊎ (direction s k ≡ 0) → direction (end L s (ev 7 l 1)) k ≡ 0
-  unfolding own ownManual withLines if_then_else_
+  unfolding own ownOf ownManual withLines if_then_else_
   neutral-on c = ⊎-elim (λ q. q ∙ own-neutral c (ℕ-discrete k l)) (λ t. t .0) (released L (S .ranges .lineCount) s (ev 7 l 1) k b)
     where
       own-neutral : (k ≡ l) ⊎ (direction s k ≡ 0) → Dec (k ≡ l) → direction (done L s (ev 7 l 1)) k ≡ 0

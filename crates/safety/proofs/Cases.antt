@@ -3,12 +3,10 @@ use mathlib.Core.Path.{_≡_, refl}
 use mathlib.Core.Bool.{true}
 use Rattle.laws.specs.Tests.{every}
 use Rattle.layout_facts.specs.BranchT.{branchT}
-use Rattle.layout_facts.proofs.BranchT.{computed}
-use Rattle.panel_facts.proofs.Cases.{panelComputed}
 use Rattle.safety.specs.Cases.{cases}
 use Rattle.safety.proofs.Computed.{runComputed}
 
 -- P1 to P8
 pub cases-hold : every (cases branchT) ≡ true
-unfolding computed runComputed panelComputed
+unfolding runComputed
 cases-hold = refl

@@ -18,15 +18,17 @@ use Rattle.interlocking.specs.State.{cold, codes, routesInRange, inRange, withS
 use Rattle.interlocking.specs.Own.{blockAt, ownStageAt, ownSection, ownPoint, throwReading, ownThrow, ownSet, ownCancel, ownSecure, openAt, ownManual, ownBar}
 use Rattle.interlocking.specs.Settle.{fallenAt, signals, stationProceeds, farProceeds, farDropped, farReading, farMoved, farAfter, farSections, heldOf, routeAfter, unlessIdle, routesBy, routes, lastBlock, exitLockedBy, passable, wasPassed, ends, directionAfter, lineRelease, settle}
 use Rattle.interlocking.specs.Settle as settling
-use Rattle.interlocking.specs.Step.{orderRefusal, refusal, meant, gives, own, after, refusedBy, answer, stepWhere, step}
-use Rattle.safety.specs.Shown.{shownBy, stands, signalShows, routeShows, lineShows, panel}
-use Rattle.safety.specs.History.{says, gave, shown, sinceSpell, untilSpell, moment, goesOn, history}
+use Rattle.interlocking.specs.Step.{orderRefusal, refusal, meant, gives, ownOf, own, after, refusedBy, answer, stepWhere, step, stepInRun}
+use Rattle.panel_facts.proofs.Cases.{panelComputed}
+use Rattle.step_facts.specs.Run.{box, boxInRun, stateAfter, answers, fromCold}
+use Rattle.safety.specs.Shown.{signalShows, routeShows, lineShows, panel}
+use Rattle.safety.specs.History.{says, shown, sinceSpell, untilSpell, moment, goesOn, history}
 use Rattle.safety.specs.History as told
 use Rattle.safety.specs.Demand3.{beyond}
 
 -- whoever unfolds this unfolds all that a run, its history and what shows in it are made of
 unfoldable pub runComputed : ℕ
-unfolding computed
+unfolding computed panelComputed
     if_then_else_ _and_ _or_ implies every all any lowestFrom lowest iter read eachFrom each put holds joined union addEntry setOf
     recorded reading lies allFree inPosition linePlaced routePlaced place nearest isOpen unbarred enterable letsOut clear fallen routeProceeds mainProceeds blockProceeds
     ownStage arrival nextBlock farSection farStage
@@ -38,6 +40,6 @@ unfolding computed
     blockAt ownStageAt ownSection ownPoint throwReading ownThrow ownSet ownCancel ownSecure openAt ownManual ownBar
     fallenAt signals stationProceeds farProceeds farDropped farReading farMoved farAfter farSections heldOf routeAfter unlessIdle routesBy routes
     lastBlock exitLockedBy passable wasPassed ends directionAfter lineRelease settle settling.exitLocked
-    objects secondWrong eventRefusal orderRefusal refusal meant gives own after refusedBy answer stepWhere step
-    shownBy stands signalShows routeShows lineShows panel says gave told.reading shown sinceSpell untilSpell moment goesOn history beyond
+    objects secondWrong eventRefusal orderRefusal refusal meant gives own ownOf after refusedBy answer stepWhere step stepInRun
+    box boxInRun stateAfter answers fromCold signalShows routeShows lineShows panel says told.reading shown sinceSpell untilSpell moment goesOn history beyond
 runComputed = 0

@@ -1,8 +1,10 @@
 -- Demand 3 holds: every event keeps the invariant, so every run has it, and it says what is demanded.
 use Prim.Native.Nat.{ℕ, _<_}
-use mathlib.Core.Path.{_≡_, refl, ap, _∙_}
+use mathlib.Core.Path.{_≡_, refl, sym, ap, _∙_}
+use mathlib.Core.Logic.{_≢_}
 use mathlib.Core.Bool.{true}
 use mathlib.Core.List.{List, [], _∷_}
+use native.Mathlib.Decide.{ℕ-discrete}
 use native.Mathlib.Omega.{arith}
 use borrow.Author.Tests.{eqb-true, eqb-false, ne-eqb}
 use lib.Dec.{eqb}
@@ -16,10 +18,11 @@ use Rattle.layout_facts.proofs.Loaded.{loaded-sound}
 use Rattle.interlocking.specs.declared.State.{State}
 use Rattle.interlocking.specs.State.{cold, inRange}
 use Rattle.interlocking.specs.Step.{refusal, refusedBy, answer, stepWhere, step}
-use Rattle.step_facts.specs.Run.{Event}
-use Rattle.safety.specs.Cases.{stateAfter}
+use Rattle.panel.specs.Panel.{routeByte}
+use Rattle.step_facts.specs.Run.{Event, box, stateAfter}
+use Rattle.step_facts.proofs.Step.{step-in-range}
 use Rattle.safety.specs.Shown.{Signal, main, Panel, routeShows, lineShows, panel}
-use Rattle.safety.specs.History.{History, shown, moment, goesOn, history}
+use Rattle.safety.specs.History.{History, says, shown, moment, goesOn, history}
 use Rattle.safety.specs.Demand3.{Proceeds, Enters, Guarded, Safe, Demand3}
 use Rattle.safety.proofs.Entries.{phase, Is, holds, fails, which, chosen, passed-over}
 use Rattle.safety.proofs.Invariant.{Inv, cold-has, refused}
@@ -27,14 +30,15 @@ use Rattle.safety.proofs.Routes.{granted, reads-on, apart-on, lights-on
 use Rattle.safety.proofs.Held.{opened-then, entered-then}
 use Rattle.safety.proofs.Far.{passing-then}
 use Rattle.safety.proofs.Alone.{shown-locked, main-for, enters-open, alone}
-use Rattle.safety.proofs.Within.{end}
+use Rattle.safety.proofs.Within.{end, says-of-one}
+use Rattle.safety.proofs.Granted.{reading-granted, step-end}
 
 -- ---- the invariant says what is demanded
 
 module _ (L : Layout) (S : Sound L) (s : State) (h : History) (I : Inv L s h) where
   -- a main signal at proceed has a route in phase 1, and that shows locked
   backed : (x : ℕ) → Proceeds (shown L h) (main x) → (r : ℕ) × (r < L .routes) × (routeIn L r .entry ≡ x) × (shown L h .route r ≡ 1)
-  unfolding panel routeShows
+  unfolding panel routeShows routeByte
   backed x p =
       let (r, there, one, starts) = main-for L S s h I x p in (
         r,
@@ -67,11 +71,12 @@ module _ (L : Layout) (S : Sound L) (s : State) (h : History) (I : Inv L s h) wh
 
 -- ---- every event keeps it
 
-module _ (L : Layout) (S : Sound L) (s : State) (h : History) (I : Inv L s h) (e : Event) where
+module _ (L : Layout) (ok : sound L ≡ true) (S : Sound L) (s : State) (h : History) (I : Inv L s h) (e : Event) where
   -- an accepted event, part by part
   accepted : refusal (sound L and inRange s) L s (e .kind) (e .first) (e .second) .number ≡ 0 → Inv L (end L s e) (granted L s e ∷ h)
   unfolding shown
   accepted pass = record {
+    ranged = rw (sym (step-end L s e pass)) (step-in-range L s _ _ _ (I .ranged));
     seen = refl;
     reads = reads-on L S s h I e pass;
     apart = apart-on L S s h I e pass;
@@ -82,26 +87,35 @@ module _ (L : Layout) (S : Sound L) (s : State) (h : History) (I : Inv L s h) (e
     passing = passing-then L S s h I e pass;
   }
 
+  -- every reading of a section that there is is accepted, so a refused event gives none
+  quiet : refusal (sound L and inRange s) L s (e .kind) (e .first) (e .second) .number ≢ 0 → (g : ℕ) → g < L .sections → says e g ≡ 0
+  quiet d g b = go (ℕ-discrete (says e g) 0)
+    where
+      go : Dec (says e g ≡ 0) → says e g ≡ 0
+      go (yes q) = q
+      go (no q) = let (k, f) = says-of-one e g q in absurd (d (rw (k, f) (reading-granted L s ok (I .ranged) g (e .second) b)))
+
   -- accepted or refused
-  kept : Inv L (step L s (e .kind) (e .first) (e .second) .next) (moment L e (step L s (e .kind) (e .first) (e .second)) ∷ h)
-  unfolding step stepWhere answer refusedBy moment
+  kept : Inv L (box L s e .next) (moment L e (box L s e) ∷ h)
+  unfolding box step stepWhere answer refusedBy moment
   kept = go (which (eqb (refusal (sound L and inRange s) L s (e .kind) (e .first) (e .second) .number) 0))
     where
       go : Is (eqb (refusal (sound L and inRange s) L s (e .kind) (e .first) (e .second) .number) 0)
-          → Inv L (step L s (e .kind) (e .first) (e .second) .next) (moment L e (step L s (e .kind) (e .first) (e .second)) ∷ h)
+          → Inv L (box L s e .next) (moment L e (box L s e) ∷ h)
       go (holds t) = rw (chosen _ _ _ t) (accepted (eqb-true _ 0 t))
-      go (fails f) = rw (passed-over _ _ _ f) (refused L s h _ I (eqb-false _ 0 f) refl)
+      go (fails f) = rw (passed-over _ _ _ f) (refused L S s h _ I (quiet (eqb-false _ 0 f)) refl)
 
 -- so every run has it
-ran : (L : Layout) → Sound L → (s : State) (h : History) → Inv L s h → (es : List Event) → Inv L (stateAfter L s es) (goesOn L s h es)
-unfolding goesOn
-ran L S s h I [] = I
-ran L S s h I (e ∷ es) = ran L S _ _ (kept L S s h I e) es
+ran : (L : Layout) → sound L ≡ true → Sound L → (s : State) (h : History) → Inv L s h → (es : List Event)
+    → Inv L (stateAfter (box L) s es) (goesOn L (box L) s h es)
+unfolding goesOn stateAfter
+ran L ok S s h I [] = I
+ran L ok S s h I (e ∷ es) = ran L ok S _ _ (kept L ok S s h I e) es
 
 -- on any sound layout, loaded or assembled by hand
 pub safe-run : (L : Layout) → sound L ≡ true → (es : List Event) → Safe L (history L es)
 unfolding history
-safe-run L ok es = let S = sound-says L ok in safe L S _ _ (ran L S cold [] (cold-has L S) es)
+safe-run L ok es = let S = sound-says L ok in safe L S _ _ (ran L ok S cold [] (cold-has L S) es)
 
 -- on any layout file that loads with 0
 pub demand3 : Demand3

@@ -3,11 +3,14 @@ use Prim.Native.Nat.{ℕ, _+_, _<_, _≤_}
 use mathlib.Core.Path.{_≡_, refl, sym, ap, _∙_}
 use mathlib.Core.Logic.{_≢_, inl, inr}
 use mathlib.Core.Bool.{true, false}
-use mathlib.Core.List.{_∷_}
+use mathlib.Core.List.{List, _∷_}
 use native.Mathlib.Decide.{ℕ-discrete}
 use native.Mathlib.Omega.{arith}
 use borrow.Author.Tests.{eqb-true, eq-eqb, ne-eqb, lt-ltb, not-true}
+use lib.ListN.{getD}
+use Rattle.laws.specs.Choice.{if_then_else_}
 use Rattle.laws.specs.Tests.{_and_}
+use Rattle.laws.specs.Tables.{read}
 use Rattle.laws.proofs.Tests.{and-left, and-right, and-both, not-both, fails-from, every-at, all-at, any-at, any-some}
 use Rattle.signals.specs.Readings.{allFree}
 use Rattle.signals.specs.Readings as readings
@@ -16,34 +19,35 @@ use Rattle.layout.specs.declared.Layout.{Layout}
 use Rattle.layout.specs.Layout.{lineIn, routeIn}
 use Rattle.layout.specs.Sound.{sound}
 use Rattle.layout_facts.specs.Plain.{block, path, Sound}
-use Rattle.layout_facts.proofs.Uses.{block-below, inner-below, entrance-path}
+use Rattle.layout_facts.proofs.Uses.{entrance-path}
 use Rattle.interlocking.specs.declared.State.{State}
 use Rattle.interlocking.specs.State.{inRange, withRoutes, withLines}
-use Rattle.interlocking.specs.Settle.{signals, farDropped, farReading, farSections, routesBy, routes, lineRelease, settle}
+use Rattle.interlocking.specs.Settle.{signals, farProceeds, farDropped, farReading, farSections, routesBy, routes, lineRelease, settle}
 use Rattle.interlocking.specs.Step.{refusal, after}
 use Rattle.step_facts.specs.Run.{Event}
-use Rattle.safety.specs.Shown.{stands, lineShows, panel}
+use Rattle.panel.specs.Panel.{stands}
+use Rattle.safety.specs.Shown.{lineShows, panel}
 use Rattle.safety.specs.History.{History, says, gave, reading, Since}
 use Rattle.safety.specs.Demand3.{Beyond, beyond, sectionAt, signalAt, farSection, Proceeds, Stops, Passage}
 use Rattle.safety.proofs.Entries.{phase, direction, stage, chosen, passed-over}
 use Rattle.safety.proofs.Passed.{two-ways, secure-neutral}
-use Rattle.safety.proofs.Within.{On, done, lit, end, says-of-one, says-other, phase-kept, direction-same, direction-held}
+use Rattle.safety.proofs.Within.{On, done, lit, end, says-of-one, says-other, phase-kept, lit-clear, direction-same, direction-held}
 use Rattle.safety.proofs.Blocks.{OwnCase, byHand, unread, frees, shuts, takes, FarCase, keeps, proves, loses}
-use Rattle.safety.proofs.Beyond.{BeyondCase, aBlock, aStation, beyond-case, far-section, farUp, far-proceeds}
+use Rattle.safety.proofs.Beyond.{BeyondCase, aBlock, aStation, beyond-case, far-there, far-section, farUp, far-proceeds}
 use Rattle.safety.proofs.Signals.{main-lit, main-stops, into-lit, into-stops}
 use Rattle.safety.proofs.Told.{reading-kept, reading-given}
 use Rattle.safety.proofs.Invariant.{Inv}
-use Rattle.safety.proofs.Routes.{granted, gave-granted, was-enterable, reads-on}
-use Rattle.safety.proofs.Held.{own-of, far-of}
+use Rattle.safety.proofs.Routes.{granted, still-open, was-enterable, reads-on}
+use Rattle.safety.proofs.Held.{own-of, far-of, opened-then}
 
 -- ---- the far section
 
-module _ (L : Layout) (S : Sound L) (l i w : ℕ) (b : l < L .lines) (c : i < lineIn L l .blocks) where
-  -- it is one of 64
-  far-below : (x : Beyond) → BeyondCase L l i w x → sectionAt L l x < 64
-  far-below x (aBlock j h d n up down) = block-below L S l j b h
-  far-below x (aStation e h a n) = inner-below L S l e b h
+-- the first section of a list that reads free
+first-free : (sections xs : List ℕ) (n : ℕ) → allFree sections n xs ≡ true → 0 < n → readings.reading sections (getD xs 0 0) ≡ 1
+unfolding allFree read if_then_else_
+first-free sections xs n h b = eqb-true _ 1 (all-at _ _ h 0 b)
 
+module _ (L : Layout) (S : Sound L) (l i w : ℕ) (b : l < L .lines) (c : i < lineIn L l .blocks) where
   -- rule 1: it is another section than the block
   far-other : (x : Beyond) → BeyondCase L l i w x → block L l i ≢ sectionAt L l x
   far-other x (aBlock j h d n up down) q = d (S .rule1 .once l i l j b c b h q .1)
@@ -53,27 +57,26 @@ module _ (L : Layout) (S : Sound L) (l i w : ℕ) (b : l < L .lines) (c : i < li
   -- in its path
   far-free : (s : State) (h : History) → Inv L s h → (x : Beyond) → BeyondCase L l i w x → farUp L s l w x ≡ true
       → readings.reading (s .section) (sectionAt L l x) ≡ 1
-  unfolding blockProceeds enterable isOpen mainProceeds routeProceeds clear allFree path routeIn
+  unfolding blockProceeds enterable isOpen mainProceeds routeProceeds clear path routeIn
   far-free s h I x (aBlock j k d n up down) p =
-      I .reads _ (block-below L S l j b k) ∙ I .opened l j b k (eqb-true _ 0 (every-at _ (and-right _ _ p) 0)) .isFree
+      I .reads _ (S .ranges .lines l b .blocks j k) ∙ I .opened l j b k (eqb-true _ 0 (every-at _ (and-right _ _ p) 0)) .isFree
   far-free s h I x (aStation e k a n) p =
       let (r, there, lit) = any-some _ _ p in
       let free = I .lights r there (eqb-true _ 1 (and-left _ _ lit)) in
       let paths = S .ranges .routes r there .pathCount in
       ap (readings.reading (s .section)) (sym (entrance-path L S r l e there b k (eqb-true _ _ (and-right _ _ lit))))
-      ∙ eqb-true _ 1 (all-at _ _ (every-at _ free 0) 0 (omega arith))
+      ∙ first-free _ _ _ (every-at _ free 0) (omega arith)
 
 -- ---- the far signal
 
--- the block signal into the block beyond, in a direction that there is
-far-stands : (L : Layout) (l w j : ℕ) → (w ≡ 1 → 0 < j) → (w ≢ 1 → j + 1 < lineIn L l .blocks) → w ≢ 0 → w ≤ 2
-    → stands L l j w ≡ true
+-- the block signal into block j of n, which lies beyond another
+far-stands : (n w j : ℕ) → (w ≡ 1 → 0 < j) → (w ≢ 1 → j + 1 < n) → stands n j w ≡ true
 unfolding stands
-far-stands L l w j up down z few = go (ℕ-discrete w 1)
+far-stands n w j up down = go (ℕ-discrete w 1)
   where
-    go : Dec (w ≡ 1) → stands L l j w ≡ true
+    go : Dec (w ≡ 1) → stands n j w ≡ true
     go (yes q) = chosen _ _ _ (eq-eqb w 1 q) ∙ lt-ltb 0 j (up q)
-    go (no q) = passed-over _ _ _ (ne-eqb w 1 q) ∙ and-both _ _ (eq-eqb w 2 (omega arith)) (lt-ltb (j + 1) _ (down q))
+    go (no q) = passed-over _ _ _ (ne-eqb w 1 q) ∙ lt-ltb (j + 1) n (down q)
 
 module _ (L : Layout) (S : Sound L) (s : State) (e : Event) (l i w : ℕ) (b : l < L .lines) where
   -- a signal at proceed shows so
@@ -81,7 +84,7 @@ module _ (L : Layout) (S : Sound L) (s : State) (e : Event) (l i w : ℕ) (b : l
   unfolding panel blockProceeds
   far-showed x (aBlock j h d n up down) z few p =
       let way = eqb-true (direction s l) w (and-left _ _ p) in
-      into-lit L s l j w (far-stands L l w j up down z (omega arith)) way (and-right _ _ p)
+      into-lit L s l j w z (omega arith) (far-stands _ w j up down) way (and-right _ _ p)
   far-showed x (aStation k h a n) z few p = main-lit L s _ p
 
   -- one that fell within the event still shows stop at its end: phases never return to 1, and the far sections open no block
@@ -90,7 +93,7 @@ module _ (L : Layout) (S : Sound L) (s : State) (e : Event) (l i w : ℕ) (b : l
   unfolding panel blockProceeds mainProceeds routeProceeds signals withRoutes
   far-stops x (aBlock j h d n up down) z few own now p f =
       let way = eqb-true (direction s l) w (and-left _ _ p) in
-      into-stops L (end L s e) l j w (far-stands L l w j up down z (omega arith)) now
+      into-stops L (end L s e) l j w z (omega arith) (far-stands _ w j up down) now
       (fails-from _ (λ t. not-both (and-both _ _ (eq-eqb _ w own) (was-enterable L S s e l j b h t)) f))
   far-stops x (aStation k h a n) z few own now p f =
       main-stops L (end L s e) _
@@ -112,16 +115,30 @@ module _ (L : Layout) (S : Sound L) (s : State) (h : History) (I : Inv L s h) (e
   there : (w : ℕ) → BeyondCase L l i w (beyond L l i w)
   there w = beyond-case L l i w c
 
-  -- what the event gave is what it said
-  gives : (g : ℕ) → gave (granted L s e) g ≡ says e g
-  gives = gave-granted L s e
-
   -- what the far section reads within the event is what the history tells of it
   far-reads : (w : ℕ) → farReading L (lit L s e) l i w ≡ reading (farSection L l i w) (granted L s e ∷ h)
   unfolding farReading lineIn after settle lineRelease withLines routes routesBy withRoutes farSections signals
   far-reads w =
       ap (readings.reading (lit L s e .section)) (far-section few (there w))
-      ∙ reads-on L S s h I e pass (farSection L l i w) (far-below L S l i w b c (beyond L l i w) (there w))
+      ∙ reads-on L S s h I e pass (farSection L l i w) (far-there L S l i w b c)
+
+  -- "to stop" follows from "from proceed" on a sound layout: within the event a far section that reads occupied holds its signal at stop. The next block
+  -- would be open and read free; a route in from the line would have the inner section free in its path
+  pub stop-follows : (w : ℕ) → farReading L (lit L s e) l i w ≡ 2 → farProceeds L (lit L s e) l i w ≡ false
+  unfolding blockProceeds enterable isOpen mainProceeds routeProceeds clear path routeIn after settle lineRelease withLines routes routesBy
+      withRoutes farSections signals
+  stop-follows w taken = far-proceeds (lit L s e) few (there w) ∙ fails-from _ (λ t. let z = go _ (there w) t in omega (arith, far-reads w))
+    where
+      go : (x : Beyond) → BeyondCase L l i w x → farUp L (lit L s e) l w x ≡ true → reading (sectionAt L l x) (granted L s e ∷ h) ≡ 1
+      go x (aBlock j k d n up down) p =
+          opened-then L S s h I e pass l j b k (still-open L S s e l j b k (eqb-true _ 0 (every-at _ (and-right _ _ p) 0))) .isFree
+      go x (aStation m k a n) p =
+          let (r, at, lit) = any-some _ _ p in
+          let free = lit-clear L (S .ranges .routeCount) s e r at (eqb-true _ 1 (and-left _ _ lit)) in
+          let paths = S .ranges .routes r at .pathCount in
+          sym (reads-on L S s h I e pass _ (S .ranges .lines l b .inners m k))
+          ∙ ap (readings.reading (done L s e .section)) (sym (entrance-path L S r l m at b k (eqb-true _ _ (and-right _ _ lit))))
+          ∙ first-free _ _ _ (every-at _ free 0) (omega arith)
 
   -- a block that was in stage 2 and stays there: the passage waits on
   waits-on : stage (done L s e) l i ≡ 3 → (direction (done L s e) l ≢ 0 → farReading L (lit L s e) l i (direction (done L s e) l) ≢ 3)
@@ -141,11 +158,11 @@ module _ (L : Layout) (S : Sound L) (s : State) (h : History) (I : Inv L s h) (e
 
       go : OwnCase L e l i (stage s l i) (stage (done L s e) l i) → (direction (done L s e) l ≢ 0) × Passage L l i (direction (done L s e) l) (granted L s e ∷ h)
       go (byHand k q x) = absurd (omega arith)
-      go (unread n q x) = on (sym x ∙ z) n (omega (arith, gives (block L l i))) (omega (arith, gives (block L l i)))
+      go (unread n q x) = on (sym x ∙ z) n (omega arith) (omega arith)
       go (frees k q was x) = absurd (omega arith)
       go (shuts k x) = absurd (omega arith)
       go (takes k q (inl x) y) = absurd (omega arith)
-      go (takes k q (inr x) y) = on (sym x ∙ z) (λ u. let v = u .0 in omega arith) (omega (arith, gives (block L l i))) (omega (arith, gives (block L l i)))
+      go (takes k q (inr x) y) = on (sym x ∙ z) (λ u. let v = u .0 in omega arith) (omega arith) (omega arith)
 
   -- a block that goes from stage 1 to 2: this event dropped the far signal and left the far section occupied. The far section read free before, so
   -- this event gave it occupied, so it gave the block nothing: the block was entered by an event before
@@ -156,8 +173,8 @@ module _ (L : Layout) (S : Sound L) (s : State) (h : History) (I : Inv L s h) (e
 
     of-far : says e (farSection L l i w) ≢ 0
     of-far q =
-        let was = sym (I .reads _ (far-below L S l i w b c (beyond L l i w) (there w))) ∙ far-free L S l i w b c s h I (beyond L l i w) (there w) up in
-        let still = reading-kept (granted L s e) h _ (gives _ ∙ q) in
+        let was = sym (I .reads _ (far-there L S l i w b c)) ∙ far-free L S l i w b c s h I (beyond L l i w) (there w) up in
+        let still = reading-kept (granted L s e) h _ q in
         omega (arith, now)
 
     of-block : says e (block L l i) ≡ 0
@@ -186,7 +203,7 @@ module _ (L : Layout) (S : Sound L) (s : State) (h : History) (I : Inv L s h) (e
       let ways : direction s l ≤ 2 = two-ways L s e pass l (omega (arith, S .ranges .lineCount)) in
       inl (record {
         entered = I .entered l i b c (entered-before w refl z d taken up);
-        stays = let quiet = gives _ ∙ of-block w refl z d taken up in (omega arith, omega arith);
+        stays = let quiet = of-block w refl z d taken up in (omega arith, omega arith);
         secured = (same, d);
         taken = now w refl z d taken up;
         fromProceed = rw (I .seen) (far-showed L S s e l i w b x (there w) d ways up);

@@ -8,6 +8,7 @@ use borrow.Author.Tests.{eqb-true, eq-eqb, ne-eqb, lt-leb, not-true}
 use lib.Dec.{eqb, leb}
 use Rattle.laws.specs.Choice.{if_then_else_}
 use Rattle.laws.specs.Tests.{_and_, _or_}
+use Rattle.laws.proofs.Searches.{lowest-past}
 use Rattle.laws.proofs.Tests.{and-left, and-right, and-both, not-both, fails-from, any-some}
 use Rattle.sets.specs.Sets as sets
 use Rattle.sets.proofs.Sets.{holds-setOf}
@@ -26,7 +27,6 @@ use Rattle.interlocking.specs.declared.State.{State}
 use Rattle.interlocking.specs.State.{inRange}
 use Rattle.interlocking.specs.Step.{orderRefusal, refusal, refusedBy, answer, stepWhere, step}
 use Rattle.step_facts.specs.Run.{Event}
-use Rattle.safety.proofs.Lowest.{lowest-past}
 use Rattle.safety.proofs.Entries.{phase, chosen, passed-over}
 use Rattle.safety.proofs.Within.{end}
 
@@ -84,10 +84,10 @@ module _ (L : Layout) (s : State) (ok : sound L ≡ true) (ranged : inRange s �
   unfolding between objects secondWrong orderRefusal if_then_else_ _and_ _or_ none refused
   second-granted = granted 10 0 0 refl refl refl refl
 
-  -- a section reads free
-  pub reading-granted : (g : ℕ) → g < L .sections → refusal (sound L and inRange s) L s 1 g 1 .number ≡ 0
+  -- a section reads, whatever the code
+  pub reading-granted : (g code : ℕ) → g < L .sections → refusal (sound L and inRange s) L s 1 g code .number ≡ 0
   unfolding between objects secondWrong orderRefusal if_then_else_ _and_ _or_ none refused
-  reading-granted g b = granted 1 g 1 refl (lt-leb _ g b) refl refl
+  reading-granted g code b = granted 1 g code refl (lt-leb _ g b) refl refl
 
   -- a manual release, where no route is locked and the line's blocks read free
   pub release-granted : (l : ℕ) → l < L .lines → ((r : ℕ) → r < L .routes → phase s r ≡ 0)

@@ -14,7 +14,7 @@ use Rattle.interlocking.specs.declared.State.{State}
 use Rattle.interlocking.specs.State.{inRange}
 use Rattle.interlocking.specs.Step.{refusal}
 use Rattle.step_facts.specs.Run.{Event}
-use Rattle.safety.specs.History.{History, says, gave, Since}
+use Rattle.safety.specs.History.{History, Since}
 use Rattle.safety.specs.Demand3.{Entered}
 use Rattle.safety.proofs.Entries.{direction, stage}
 use Rattle.safety.proofs.Passed.{release-free}
@@ -22,7 +22,7 @@ use Rattle.safety.proofs.Within.{done, lit, end, says-nothing}
 use Rattle.safety.proofs.Blocks.{OwnCase, byHand, unread, frees, shuts, takes, own-case, FarCase, keeps, proves, loses, stage-end}
 use Rattle.safety.proofs.Told.{entered-reads, Opened, opened-on, opened-by-hand, opened-by-passage}
 use Rattle.safety.proofs.Invariant.{Inv}
-use Rattle.safety.proofs.Routes.{granted, gave-granted, was-open}
+use Rattle.safety.proofs.Routes.{granted, was-open}
 
 module _ (L : Layout) (S : Sound L) (s : State) (h : History) (I : Inv L s h) (e : Event)
     (pass : refusal (sound L and inRange s) L s (e .kind) (e .first) (e .second) .number ≡ 0) (l i : ℕ) (b : l < L .lines) (c : i < lineIn L l .blocks) where
@@ -38,21 +38,18 @@ module _ (L : Layout) (S : Sound L) (s : State) (h : History) (I : Inv L s h) (e
   pub opened-then : stage (end L s e) l i ≡ 0 → Opened L l i (granted L s e ∷ h)
   opened-then z = go own-of
     where
-      gives : gave (granted L s e) (block L l i) ≡ says e (block L l i)
-      gives = gave-granted L s e (block L l i)
-
       opens : stage (done L s e) l i ≡ 0
       opens = was-open L S s e l i b c z
 
       go : OwnCase L e l i (stage s l i) (stage (done L s e) l i) → Opened L l i (granted L s e ∷ h)
       go (byHand k q x) =
-          opened-by-hand L l i (granted L s e) h (refl, k, q) (gives ∙ says-nothing e _ (omega arith))
-          (sym (I .reads _ (block-below L S l i b c)) ∙ (rw q at (release-free L s e pass k i (rw q c) (rw q (block-below L S l i b c)))))
-      go (unread n q x) = opened-on L l i (granted L s e) h (omega (arith, gives)) (omega (arith, gives)) (I .opened l i b c (sym x ∙ opens))
-      go (frees k q (inl was) x) = opened-on L l i (granted L s e) h (omega (arith, gives)) (omega (arith, gives)) (I .opened l i b c was)
+          opened-by-hand L l i (granted L s e) h (refl, k, q) (says-nothing e _ (omega arith))
+          (sym (I .reads _ (S .ranges .lines l b .blocks i c)) ∙ (rw q at (release-free L s e pass k i (rw q c) (rw q (block-below L S l i b c)))))
+      go (unread n q x) = opened-on L l i (granted L s e) h (omega arith) (omega arith) (I .opened l i b c (sym x ∙ opens))
+      go (frees k q (inl was) x) = opened-on L l i (granted L s e) h (omega arith) (omega arith) (I .opened l i b c was)
       go (frees k q (inr was) x) =
           let r = entered-reads (block L l i) h (I .entered l i b c (omega arith)) in
-          opened-by-passage L l i (granted L s e) h (direction s l) (gives ∙ q) (omega arith) (I .passing l i b c was .1)
+          opened-by-passage L l i (granted L s e) h (direction s l) q (omega arith) (I .passing l i b c was .1)
       go (shuts k x) = absurd (omega (arith, opens))
       go (takes k q x y) = absurd (omega (arith, opens))
 
@@ -61,9 +58,6 @@ module _ (L : Layout) (S : Sound L) (s : State) (h : History) (I : Inv L s h) (e
   unfolding Since
   entered-then z = go own-of
     where
-      gives : gave (granted L s e) (block L l i) ≡ says e (block L l i)
-      gives = gave-granted L s e (block L l i)
-
       held : FarCase L s (lit L s e) l i (direction (done L s e) l) (stage (done L s e) l i) (stage (end L s e) l i) → 2 ≤ stage (done L s e) l i
       held (keeps x f) = omega arith
       held (proves x was d o p) = omega arith
@@ -71,7 +65,7 @@ module _ (L : Layout) (S : Sound L) (s : State) (h : History) (I : Inv L s h) (e
 
       go : OwnCase L e l i (stage s l i) (stage (done L s e) l i) → Entered (block L l i) (granted L s e ∷ h)
       go (byHand k q x) = absurd (omega (arith, held far-of))
-      go (unread n q x) = inr ((omega (arith, gives), omega (arith, gives)), I .entered l i b c (omega (arith, held far-of)))
+      go (unread n q x) = inr ((omega arith, omega arith), I .entered l i b c (omega (arith, held far-of)))
       go (frees k q was x) = absurd (omega (arith, held far-of))
       go (shuts k x) = absurd (omega (arith, held far-of))
-      go (takes k q x y) = inl (gives ∙ q)
+      go (takes k q x y) = inl q

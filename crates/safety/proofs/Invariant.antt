@@ -5,28 +5,30 @@ use mathlib.Core.Logic.{_≢_, inr}
 use mathlib.Core.Bool.{true}
 use mathlib.Core.List.{[], _∷_}
 use native.Mathlib.Omega.{arith}
-use borrow.Author.Tests.{ne-eqb}
 use Rattle.signals.specs.Readings as readings
 use Rattle.signals.specs.Signals.{place, clear}
 use Rattle.layout.specs.declared.Layout.{Layout}
 use Rattle.layout.specs.Layout.{lineIn, routeIn, conflict}
 use Rattle.layout_facts.specs.Plain.{block, Sound}
 use Rattle.interlocking.specs.declared.State.{State}
-use Rattle.interlocking.specs.State.{cold}
+use Rattle.interlocking.specs.State.{cold, inRange}
+use Rattle.step_facts.proofs.Range.{cold-in-range}
 use Rattle.safety.specs.Shown.{panel}
 use Rattle.safety.specs.History.{Moment, History, nothing, gave, reading, shown, Since}
-use Rattle.safety.specs.Demand3.{farSection, Entered, Passage}
-use Rattle.safety.proofs.Entries.{phase, direction, stage, passed-over, read-same}
+use Rattle.safety.specs.Demand3.{Entered, Passage}
+use Rattle.safety.proofs.Entries.{phase, direction, stage, read-same}
+use Rattle.safety.proofs.Beyond.{far-there}
 use Rattle.safety.proofs.Told.{reading-kept, Opened, opened-on}
 
 -- ---- the invariant
 
--- what shows, and what sections read, is as the history tells it; no two conflicting routes are locked; a signal at proceed has all that keeps it there;
+-- the codes are in range; what shows, and what sections read, is as the history tells it; no two conflicting routes are locked; a signal at proceed has all that keeps it there;
 -- the line of a locked exit route is secured its way; an open block reads free and was cleared; one in stage 1 or 2 was entered; one in stage 2 waits
 -- for the free reading that closes a passage in the secured direction
 pub record Inv (L : Layout) (s : State) (h : History) : Type 0 where
+  pub ranged : inRange s ≡ true
   pub seen : shown L h ≡ panel L s
-  pub reads : (g : ℕ) → g < 64 → readings.reading (s .section) g ≡ reading g h
+  pub reads : (g : ℕ) → g < L .sections → readings.reading (s .section) g ≡ reading g h
   pub apart : (r q : ℕ) → r < L .routes → q < L .routes → conflict L r q ≡ true → phase s r ≢ 0 → phase s q ≢ 0 → ⊥
   pub lights : (r : ℕ) → r < L .routes → phase s r ≡ 1 → clear (L .line) (s .section) (s .point) (s .stage) (s .bar) (routeIn L r) ≡ true
   pub exits : (r : ℕ) → r < L .routes → routeIn L r .kind ≡ 2 → phase s r ≢ 0 → direction s (routeIn L r .line) ≡ routeIn L r .end + 1
@@ -51,8 +53,9 @@ module _ (L : Layout) (S : Sound L) where
   pub cold-has : Inv L cold []
   unfolding shown reading cold readings.reading
   cold-has = record {
+    ranged = cold-in-range;
     seen = refl;
-    reads = λ g b. read-same 64 3 3 g b;
+    reads = λ g b. read-same 64 3 3 g (omega (arith, S .ranges .sectionCount));
     apart = λ r q b c t d f. d (cold-phase r b);
     lights = λ r b p. absurd (omega (arith, cold-phase r b));
     exits = λ r b k d. absurd (d (cold-phase r b));
@@ -61,26 +64,24 @@ module _ (L : Layout) (S : Sound L) where
     passing = λ l i b h z. absurd (omega (arith, cold-stage l i b h));
   }
 
--- ---- a refused event gives nothing and changes nothing
+-- ---- an event that gives no section anything and changes nothing keeps it
 
-module _ (L : Layout) (s : State) (h : History) (m : Moment) (I : Inv L s h) (n : m .number ≢ 0) (same : m .shows ≡ panel L s) where
-  -- it gives nothing
-  quiet : (g : ℕ) → gave m g ≡ nothing
-  unfolding gave
-  quiet g = passed-over _ _ _ (ne-eqb _ 0 n)
-
+module _ (L : Layout) (S : Sound L) (s : State) (h : History) (m : Moment) (I : Inv L s h) (quiet : (g : ℕ) → g < L .sections → gave m g ≡ nothing)
+    (same : m .shows ≡ panel L s) where
+  -- blocks and far sections are sections of the layout
   pub refused : Inv L s (m ∷ h)
   unfolding shown Since
   refused = record {
+    ranged = I .ranged;
     seen = same;
-    reads = λ g b. I .reads g b ∙ sym (reading-kept m h g (quiet g));
+    reads = λ g b. I .reads g b ∙ sym (reading-kept m h g (quiet g b));
     apart = I .apart;
     lights = I .lights;
     exits = I .exits;
-    opened = λ l i b c z. let q = quiet (block L l i) in opened-on L l i m h (omega arith) (omega arith) (I .opened l i b c z);
-    entered = λ l i b c z. let q = quiet (block L l i) in inr ((omega arith, omega arith), I .entered l i b c z);
-    passing = λ l i b c z. let q = quiet (block L l i) in
+    opened = λ l i b c z. let q = quiet _ (S .ranges .lines l b .blocks i c) in opened-on L l i m h (omega arith) (omega arith) (I .opened l i b c z);
+    entered = λ l i b c z. let q = quiet _ (S .ranges .lines l b .blocks i c) in inr ((omega arith, omega arith), I .entered l i b c z);
+    passing = λ l i b c z. let q = quiet _ (S .ranges .lines l b .blocks i c) in
         let p = I .passing l i b c z in
-        let x = quiet (farSection L l i (direction s l)) in
+        let x = quiet _ (far-there L S l i (direction s l) b c) in
         (p .0, inr ((omega arith, omega arith, omega arith), p .1));
   }

@@ -1,11 +1,11 @@
 pub mod Cases
 pub mod Entries
-pub mod Lowest
 pub mod Passed
 pub mod Within
 pub mod Blocks
 pub mod Beyond
 pub mod Signals
+pub mod Shown
 pub mod Told
 pub mod Invariant
 pub mod Routes
@@ -15,7 +15,10 @@ pub mod Alone
 pub mod Demand3
 pub mod Words
 pub mod Computed
+pub mod Tested
 pub mod Sense
+pub mod WrongBoxes
+pub mod WrongRuns
 pub mod Granted
 pub mod Calm
 pub mod WayOut

@@ -2,7 +2,7 @@
 use Prim.Native.Nat.{ℕ, zero, suc, _+_, _*_, _≤_}
 use mathlib.Core.Path.{_≡_, refl}
 use mathlib.Core.Bool.{true}
-use mathlib.Core.List.{List, [], _∷_}
+use mathlib.Core.List.{List}
 use native.Mathlib.Nat.{le-refl}
 use native.Mathlib.Omega.{arith}
 use lib.ListN.{length, length-append}
@@ -12,13 +12,11 @@ use Rattle.layout.specs.Sound.{sound}
 use Rattle.layout_facts.specs.Plain.{Sound}
 use Rattle.layout_facts.proofs.Sound.{sound-says}
 use Rattle.layout_facts.proofs.Loaded.{loaded-sound}
-use Rattle.step_facts.proofs.Range.{cold-in-range}
-use Rattle.step_facts.proofs.Step.{step-in-range}
+use Rattle.step_facts.proofs.Run.{cold-run-in-range}
 use Rattle.interlocking.specs.declared.State.{State}
-use Rattle.interlocking.specs.State.{cold, inRange}
+use Rattle.interlocking.specs.State.{inRange}
 use Rattle.interlocking.specs.Step.{step}
 use Rattle.step_facts.specs.Run.{Event}
-use Rattle.safety.specs.Cases.{stateAfter}
 use Rattle.safety.specs.WayOut.{standing, cancels, ninetySeconds, readFree, allReadFree, releases, wayOut, WayOut, NoDeadEnd}
 use Rattle.safety.proofs.WayOut.{after-that, cancel-all, wait-all, read-all, release-all}
 
@@ -63,36 +61,25 @@ way-short L S s =
 
 -- ---- where it leads
 
--- given that every event leads from a state in range to one in range
-module _ (stays : (L : Layout) (s : State) (k a b : ℕ) → inRange s ≡ true → inRange (step L s k a b .next) ≡ true) where
-  -- from any state in range
-  pub leads-out : (L : Layout) → sound L ≡ true → (s : State) → inRange s ≡ true → WayOut L s
-  unfolding wayOut
-  leads-out L ok s ranged =
-      let S = sound-says L ok in
-      let G = after-that (cancel-all stays L ok S (L .routes) s (le-refl _) ranged (λ r b c. absurd (omega arith)))
-      (λ t r calm. after-that (wait-all stays L ok S t r calm)
-      (λ t r idle. after-that (read-all stays L ok S (L .lines) t (le-refl _) r (idle, λ l i b c. absurd (omega arith)))
-      (λ t r free. release-all stays L ok S (L .lines) t (le-refl _) r (free .0, free .1, λ l b c. absurd (omega arith))))) in
-      record {
-        granted = G .granted;
-        short = way-short L S s;
-        rest = record {
-          idle = G .ends .0;
-          neutral = λ l b. G .ends .2 l (omega arith) b .0;
-          isOpen = λ l i b c. G .ends .2 l (omega arith) b .1 i c;
-        };
-      }
+-- from any state in range
+pub leads-out : (L : Layout) → sound L ≡ true → (s : State) → inRange s ≡ true → WayOut L s
+unfolding wayOut
+leads-out L ok s ranged =
+    let S = sound-says L ok in
+    let G = after-that (cancel-all L ok S (L .routes) s (le-refl _) ranged (λ r b c. absurd (omega arith)))
+    (λ t r calm. after-that (wait-all L ok S t r calm)
+    (λ t r idle. after-that (read-all L ok S (L .lines) t (le-refl _) r (idle, λ l i b c. absurd (omega arith)))
+    (λ t r free. release-all L ok S (L .lines) t (le-refl _) r (free .0, free .1, λ l b c. absurd (omega arith))))) in
+    record {
+      granted = G .granted;
+      short = way-short L S s;
+      rest = record {
+        idle = G .ends .0;
+        neutral = λ l b. G .ends .2 l (omega arith) b .0;
+        isOpen = λ l i b c. G .ends .2 l (omega arith) b .1 i c;
+      };
+    }
 
-  -- every state of a run is in range
-  ran-in-range : (L : Layout) (es : List Event) (s : State) → inRange s ≡ true → inRange (stateAfter L s es) ≡ true
-  ran-in-range L [] s r = r
-  ran-in-range L (e ∷ es) s r = ran-in-range L es _ (stays L s _ _ _ r)
-
-  -- from any that a run reaches
-  pub no-dead-end-in-range : inRange cold ≡ true → NoDeadEnd
-  no-dead-end-in-range cold-ranged bytes ok es = leads-out _ (loaded-sound bytes ok) _ (ran-in-range _ es cold cold-ranged)
-
--- and every such state is in range
+-- every state that a run reaches is in range
 pub no-dead-end : NoDeadEnd
-no-dead-end = no-dead-end-in-range step-in-range cold-in-range
+no-dead-end bytes ok es = leads-out _ (loaded-sound bytes ok) _ (cold-run-in-range _ es)

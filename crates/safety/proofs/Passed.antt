@@ -10,6 +10,7 @@ use lib.Dec.{eqb, ltb}
 use Rattle.laws.specs.Choice.{if_then_else_}
 use Rattle.laws.specs.Tests.{_and_, lowest}
 use Rattle.laws.proofs.Choice.{if-both}
+use Rattle.laws.proofs.Searches.{lowest-none}
 use Rattle.laws.proofs.Tests.{and-right, and-both, not-both, fails-from, every-at, all-at, any-at}
 use Rattle.sets.specs.Sets as sets
 use Rattle.sets.proofs.Sets.{holds-setOf}
@@ -29,7 +30,6 @@ use Rattle.interlocking.specs.declared.State.{State}
 use Rattle.interlocking.specs.State.{codes, routesInRange, inRange}
 use Rattle.interlocking.specs.Step.{orderRefusal, refusal}
 use Rattle.step_facts.specs.Run.{Event}
-use Rattle.safety.proofs.Lowest.{lowest-none}
 use Rattle.safety.proofs.Entries.{phase, direction, holds, read-at}
 
 -- ---- reasons that there were not

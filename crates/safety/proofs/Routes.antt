@@ -23,7 +23,7 @@ use Rattle.interlocking.specs.Settle.{signals, farSections, routesBy, routes, l
 use Rattle.interlocking.specs.Step.{refusal, after}
 use Rattle.step_facts.specs.Run.{Event}
 use Rattle.safety.specs.Shown.{panel}
-use Rattle.safety.specs.History.{Moment, History, says, gave, reading}
+use Rattle.safety.specs.History.{Moment, History, says, reading}
 use Rattle.safety.proofs.Entries.{phase, direction, stage}
 use Rattle.safety.proofs.Passed.{set-alone, set-secured, cancel-locked, secure-neutral, release-unlocked}
 use Rattle.safety.proofs.Within.{On, done, lit, end, section-done, phase-clear, was-locked, direction-same, direction-locked}
@@ -33,11 +33,6 @@ use Rattle.safety.proofs.Invariant.{Inv}
 -- the moment of an accepted event
 abbrev pub granted : Layout → State → Event → Moment
 granted L s e = record { event = e; number = 0; shows = panel L (end L s e) }
-
--- it gave what it said
-pub gave-granted : (L : Layout) (s : State) (e : Event) (g : ℕ) → gave (granted L s e) g ≡ says e g
-unfolding gave if_then_else_
-gave-granted L s e g = refl
 
 module _ (L : Layout) (S : Sound L) (s : State) (e : Event) where
   -- a block is open at the end of an event if its own reading left it open
@@ -78,9 +73,9 @@ module _ (L : Layout) (S : Sound L) (s : State) (e : Event) where
 module _ (L : Layout) (S : Sound L) (s : State) (h : History) (I : Inv L s h) (e : Event)
     (pass : refusal (sound L and inRange s) L s (e .kind) (e .first) (e .second) .number ≡ 0) where
   -- what sections read
-  pub reads-on : (g : ℕ) → g < 64 → readings.reading (end L s e .section) g ≡ reading g (granted L s e ∷ h)
-  unfolding after settle lineRelease withLines routes routesBy withRoutes farSections signals reading gave if_then_else_
-  reads-on g b = section-done L s e g b ∙ ap (λ n. if eqb (says e g) 0 then n else says e g) (I .reads g b)
+  pub reads-on : (g : ℕ) → g < L .sections → readings.reading (end L s e .section) g ≡ reading g (granted L s e ∷ h)
+  unfolding after settle lineRelease withLines routes routesBy withRoutes farSections signals reading
+  reads-on g b = section-done L s e g (omega (arith, S .ranges .sectionCount)) ∙ ap (λ n. if eqb (says e g) 0 then n else says e g) (I .reads g b)
 
   -- a route that is locked afterwards was locked before, or is set by the event
   locked-before : (r : ℕ) → r < L .routes → phase (end L s e) r ≢ 0 → On 4 e r ⊎ (phase s r ≢ 0)

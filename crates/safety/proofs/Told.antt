@@ -24,11 +24,6 @@ says-few e g = if-both Few _ (λ t. if-both Few _ (λ u. omega arith) (λ u. if-
     Few : ℕ → Type 0
     Few n = n ≤ 3
 
--- the same of what was given
-gave-few : (m : Moment) (g : ℕ) → gave m g ≤ 3
-unfolding gave
-gave-few m g = if-both (λ n. n ≤ 3) _ (λ t. says-few (m .event) g) (λ f. omega arith)
-
 module _ (m : Moment) (h : History) (g : ℕ) where
   -- an event that gives a section nothing leaves its reading
   pub reading-kept : gave m g ≡ nothing → reading g (m ∷ h) ≡ reading g h
@@ -54,21 +49,10 @@ unfolding Since
 entered-reads g [] x = absurd x
 entered-reads g (m ∷ h) (inl p) = reading-given m h g 2 p (omega arith)
 entered-reads g (m ∷ h) (inr k) =
-    reading-stays m h g 2 (λ d. let few = gave-few m g in let n = k .0 .0 in let f = k .0 .1 in omega arith) (omega arith) (entered-reads g h (k .1))
-
--- and so does one that a train is passing
-pub passage-reads : (L : Layout) (l i w : ℕ) (h : History) → Passage L l i w h → reading (block L l i) h ≡ occupied
-unfolding Since
-passage-reads L l i w [] x = absurd x
-passage-reads L l i w (m ∷ h) (inl d) =
-    reading-stays m h (block L l i) 2 (λ q. let few = gave-few m (block L l i) in let n = d .stays .0 in let f = d .stays .1 in omega arith) (omega arith)
-    (entered-reads (block L l i) h (d .entered))
-passage-reads L l i w (m ∷ h) (inr k) =
-    reading-stays m h (block L l i) 2 (λ q. let few = gave-few m (block L l i) in let n = k .0 .0 in let f = k .0 .1 in omega arith) (omega arith)
-    (passage-reads L l i w h (k .1))
+    reading-stays m h g 2 (λ d. let few = says-few (m .event) g in let n = k .0 .0 in let f = k .0 .1 in omega arith) (omega arith) (entered-reads g h (k .1))
 
 -- while a section does not read free, its last spell of not reading free goes on
-pub in-spell : (g : ℕ) (h : History) → reading g h ≢ free → untilSpell g h ≡ h
+in-spell : (g : ℕ) (h : History) → reading g h ≢ free → untilSpell g h ≡ h
 unfolding untilSpell
 in-spell g [] d = refl
 in-spell g (m ∷ h) d = passed-over _ _ _ (ne-eqb _ 1 d)
@@ -93,7 +77,7 @@ module _ (L : Layout) (l i : ℕ) (m : Moment) (h : History) where
   opened-on n o c = record { isFree = now; cleared = go (c .cleared) }
     where
       now : reading (block L l i) (m ∷ h) ≡ 1
-      now = reading-stays m h (block L l i) 1 (λ d. let few = gave-few m (block L l i) in omega arith) (omega arith) (c .isFree)
+      now = reading-stays m h (block L l i) 1 (λ d. let few = says-few (m .event) (block L l i) in omega arith) (omega arith) (c .isFree)
 
       go : Cleared L l i h → Cleared L l i (m ∷ h)
       go (byPassage w p) = byPassage w (rw (chosen _ _ _ (eq-eqb _ 1 now)) p)

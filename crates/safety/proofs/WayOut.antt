@@ -22,8 +22,9 @@ use Rattle.layout_facts.proofs.Uses.{block-below}
 use Rattle.interlocking.specs.declared.State.{State}
 use Rattle.interlocking.specs.State.{codes, routesInRange, inRange}
 use Rattle.interlocking.specs.Step.{refusal, step}
-use Rattle.step_facts.specs.Run.{Event}
-use Rattle.safety.specs.Cases.{ev, stateAfter}
+use Rattle.step_facts.specs.Run.{Event, box, stateAfter}
+use Rattle.step_facts.proofs.Step.{step-in-range}
+use Rattle.safety.specs.Cases.{ev}
 use Rattle.safety.specs.WayOut.{standing, cancels, ninetySeconds, readFree, allReadFree, releases, Granted}
 use Rattle.safety.proofs.Entries.{phase, direction, stage, read-at}
 use Rattle.safety.proofs.Within.{end, says-nothing}
@@ -35,24 +36,24 @@ use Rattle.safety.proofs.Calm.{second, Calm, idle-on, calm-on, cancelle
 -- in one record, so that lists can be joined
 pub record Goes (L : Layout) (s : State) (es : List Event) (P : State → Type 0) : Type 0 where
   pub granted : Granted L s es
-  pub ranged : inRange (stateAfter L s es) ≡ true
-  pub ends : P (stateAfter L s es)
+  pub ranged : inRange (stateAfter (box L) s es) ≡ true
+  pub ends : P (stateAfter (box L) s es)
 
 module _ (L : Layout) (P : State → Type 0) where
   -- no event
   pub stop : (s : State) → inRange s ≡ true → P s → Goes L s [] P
-  unfolding Granted
+  unfolding Granted stateAfter box
   stop s r p = record { granted = tt; ranged = r; ends = p }
 
   -- one event more
   pub first : (s : State) (e : Event) (es : List Event) → step L s (e .kind) (e .first) (e .second) .number ≡ 0
       → Goes L (step L s (e .kind) (e .first) (e .second) .next) es P → Goes L s (e ∷ es) P
-  unfolding Granted
+  unfolding Granted stateAfter box
   first s e es n G = record { granted = (n, G .granted); ranged = G .ranged; ends = G .ends }
 
   -- one list after another
-  joined : (xs ys : List Event) (s : State) → Granted L s xs → Goes L (stateAfter L s xs) ys P → Goes L s (xs ++ ys) P
-  unfolding Granted
+  joined : (xs ys : List Event) (s : State) → Granted L s xs → Goes L (stateAfter (box L) s xs) ys P → Goes L s (xs ++ ys) P
+  unfolding Granted stateAfter box
   joined [] ys s g G = G
   joined (e ∷ xs) ys s g G = first s e (xs ++ ys) (g .0) (joined xs ys _ (g .1) G)
 
@@ -112,12 +113,11 @@ BlocksFree L n k s =
 abbrev LinesRest : Layout → ℕ → State → Type 0
 LinesRest L n s = (l : ℕ) → n ≤ l → l < L .lines → (direction s l ≡ 0) × ((i : ℕ) → i < lineIn L l .blocks → stage s l i ≡ 0)
 
-module _ (stays : (L : Layout) (s : State) (k a b : ℕ) → inRange s ≡ true → inRange (step L s k a b .next) ≡ true)
-    (L : Layout) (ok : sound L ≡ true) (S : Sound L) where
+module _ (L : Layout) (ok : sound L ≡ true) (S : Sound L) where
   -- one event that nothing refuses
   pub goes : (P : State → Type 0) (s : State) (e : Event) (es : List Event) → refusal (sound L and inRange s) L s (e .kind) (e .first) (e .second) .number ≡ 0
       → inRange s ≡ true → ((t : State) → t ≡ end L s e → inRange t ≡ true → Goes L t es P) → Goes L s (e ∷ es) P
-  goes P s e es pass ranged next = first L P s e es (step-granted L s e pass) (next _ (step-end L s e pass) (stays L s _ _ _ ranged))
+  goes P s e es pass ranged next = first L P s e es (step-granted L s e pass) (next _ (step-end L s e pass) (step-in-range L s _ _ _ ranged))
 
   -- cancel what is locked
   pub cancel-all : (n : ℕ) (s : State) → n ≤ L .routes → inRange s ≡ true → AllCalm L n s → Goes L s (cancels L n s) (AllCalm L 0)
@@ -147,7 +147,7 @@ module _ (stays : (L : Layout) (s : State) (k a b : ℕ) → inRange s ≡ true 
       cancel rest t =
           let pass = cancel-granted L s ok ranged n few (standing-locked s n t) (standing-kept s n t) in
           first L (AllCalm L 0) s (ev 5 n 0) _ (step-granted L s (ev 5 n 0) pass)
-          (rest _ (omega arith) (stays L s 5 n 0 ranged) (rw (step-end L s (ev 5 n 0) pass) then-calm))
+          (rest _ (omega arith) (step-in-range L s 5 n 0 ranged) (rw (step-end L s (ev 5 n 0) pass) then-calm))
 
   -- ninety seconds
   pub wait : (n k : ℕ) (s : State) → inRange s ≡ true → Counted L k s → Goes L s (replicate n (ev 10 0 0)) (Counted L (k + n))
@@ -168,8 +168,8 @@ module _ (stays : (L : Layout) (s : State) (k a b : ℕ) → inRange s ≡ true 
   counted-idle : (es : List Event) (s : State) → Goes L s es (Counted L 90) → Goes L s es (Idle L)
   counted-idle es s G = record { granted = G .granted; ranged = G .ranged; ends = λ r b. ⊎-elim (λ z. z) (λ t. absurd (late r b (t .1))) (G .ends r b) }
     where
-      late : (r : ℕ) → r < L .routes → 90 ≤ second (stateAfter L s es) r → ⊥
-      late r b t = let few = few-seconds (stateAfter L s es) (G .ranged) r (omega (arith, S .ranges .routeCount)) in omega arith
+      late : (r : ℕ) → r < L .routes → 90 ≤ second (stateAfter (box L) s es) r → ⊥
+      late r b t = let few = few-seconds (stateAfter (box L) s es) (G .ranged) r (omega (arith, S .ranges .routeCount)) in omega arith
 
   pub wait-all : (s : State) → inRange s ≡ true → AllCalm L 0 s → Goes L s ninetySeconds (Idle L)
   unfolding ninetySeconds
@@ -181,7 +181,7 @@ module _ (stays : (L : Layout) (s : State) (k a b : ℕ) → inRange s ≡ true 
   unfolding readFree
   read-blocks l zero s there few ranged p = stop L _ s ranged p
   read-blocks l (suc i) s there few ranged p =
-      goes _ s (ev 1 (block L l i) 1) _ (reading-granted L s ok ranged (block L l i) (S .ranges .lines l there .blocks i few)) ranged
+      goes _ s (ev 1 (block L l i) 1) _ (reading-granted L s ok ranged (block L l i) 1 (S .ranges .lines l there .blocks i few)) ranged
       (λ t at in-range. read-blocks l i t there (omega arith) in-range (rw at (idle, free)))
     where
       idle : Idle L (end L s (ev 1 (block L l i) 1))

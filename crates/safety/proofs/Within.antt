@@ -24,7 +24,7 @@ use Rattle.interlocking.specs.declared.State.{State}
 use Rattle.interlocking.specs.State.{withSections, withPoints, withRoutes, withLines, withBars}
 use Rattle.interlocking.specs.Own.{ownSection, ownPoint, ownThrow, ownSet, ownCancel, ownSecure, ownManual, ownBar}
 use Rattle.interlocking.specs.Settle.{fallenAt, signals, farSections, heldOf, routeAfter, unlessIdle, routesBy, routes, exitLockedBy, exitLocked, passable, ends, directionAfter, lineRelease, settle}
-use Rattle.interlocking.specs.Step.{meant, gives, own, after}
+use Rattle.interlocking.specs.Step.{meant, gives, ownOf, own, after}
 use Rattle.step_facts.specs.Run.{Event}
 use Rattle.safety.specs.History.{says}
 use Rattle.safety.proofs.Entries.{phase, direction, stage, chosen, passed-over, read-each, read-put}
@@ -61,7 +61,7 @@ pub data Done (L : Layout) (s : State) (e : Event) : State → Type 0 where
       → (t .section ≡ s .section) × (t .phase ≡ s .phase) × (t .direction ≡ s .direction) × (t .stage ≡ s .stage) → Done L s e t
 
 pub is-done : (L : Layout) (s : State) (e : Event) → Done L s e (done L s e)
-unfolding own ownPoint ownThrow ownBar withPoints withBars
+unfolding own ownOf ownPoint ownThrow ownBar withPoints withBars
 is-done L s e =
     if-both D (eqb k 1) (λ t. reads (eqb-true k 1 t))
     (λ f1. if-both D (eqb k 2) (λ t. let q = eqb-true k 2 t in leaves (omega arith) (refl, refl, refl, refl))
@@ -180,10 +180,15 @@ module _ (L : Layout) (few : L .routes ≤ 48) (s : State) (e : Event) (r : ℕ)
       go (yes z) = inl z
       go (no z) = inr (phase-kept z ∙ phase-lit ∙ fallen-else L (done L s e) r _ d)
 
-  -- a signal that shows proceed at the end had after the event's own effect all that keeps it there
+  -- a signal that still shows proceed had after the event's own effect all that keeps it there
+  pub lit-clear : phase (lit L s e) r ≡ 1
+      → clear (L .line) (done L s e .section) (done L s e .point) (done L s e .stage) (done L s e .bar) (routeIn L r) ≡ true
+  lit-clear p = fallen-not L (done L s e) r _ (sym phase-lit ∙ p)
+
+  -- and so had one that shows proceed at the end
   pub phase-clear : phase (end L s e) r ≡ 1
       → clear (L .line) (done L s e .section) (done L s e .point) (done L s e .stage) (done L s e .bar) (routeIn L r) ≡ true
-  phase-clear p = fallen-not L (done L s e) r _ (sym phase-lit ∙ sym (phase-kept (omega arith)) ∙ p)
+  phase-clear p = lit-clear (sym (phase-kept (omega arith)) ∙ p)
 
   -- a route that is locked at the end was locked before, or is set by the event
   pub was-locked : (e .kind ≡ 5 → phase s (e .first) ≢ 0) → phase (end L s e) r ≢ 0

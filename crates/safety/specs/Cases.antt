@@ -5,31 +5,26 @@ use mathlib.Core.List.{List, [], _∷_, _++_}
 use lib.ListN.{getD, replicate, take}
 use Rattle.layout.specs.declared.Layout.{Layout}
 use Rattle.interlocking.specs.declared.State.{State}
+use Rattle.interlocking.specs.declared.Answer.{Answer}
 use Rattle.interlocking.specs.State.{cold}
-use Rattle.interlocking.specs.Step.{step}
 use Rattle.layout.specs.Load.{load}
 use Rattle.panel_facts.specs.Cases.{same}
 use Rattle.panel_facts.specs.Cases as panels
-use Rattle.step_facts.specs.Run.{Event}
+use Rattle.step_facts.specs.Run.{Event, box, answers, fromCold}
 
 -- an event by its numbers
 abbrev pub ev : ℕ → ℕ → ℕ → Event
 ev k a b = record { kind = k; first = a; second = b }
 
--- number and detail of each answer of a run, one after the other
-abbrev pub answers : Layout → State → List Event → List ℕ
-answers L s [] = []
-answers L s (e ∷ es) = let r = step L s (e .kind) (e .first) (e .second) in r .number ∷ r .detail ∷ answers L (r .next) es
+-- number and detail of each answer, one after the other
+abbrev pub numbers : List Answer → List ℕ
+numbers [] = []
+numbers (a ∷ rest) = a .number ∷ a .detail ∷ numbers rest
 
--- the state after a run
-abbrev pub stateAfter : Layout → State → List Event → State
-stateAfter L s [] = s
-stateAfter L s (e ∷ es) = stateAfter L (step L s (e .kind) (e .first) (e .second) .next) es
-
--- the phase of route 0 after each event of a run
-abbrev pub route0 : Layout → State → List Event → List ℕ
-route0 L s [] = []
-route0 L s (e ∷ es) = let t = step L s (e .kind) (e .first) (e .second) .next in getD (t .phase) 0 0 ∷ route0 L t es
+-- the phase of route 0 after each
+abbrev pub route0 : List Answer → List ℕ
+route0 [] = []
+route0 (a ∷ rest) = getD (a .next .phase) 0 0 ∷ route0 rest
 
 -- what a case looks at: the phase of route 0, the line's direction, its block's stage
 abbrev pub look : State → List ℕ
@@ -54,15 +49,15 @@ p5 = ev 1 2 2 ∷ ev 1 3 2 ∷ ev 1 1 0 ∷ ev 1 1 1 ∷ []
 abbrev pub runs : Layout → List Bool
 runs L =
     -- P1: the answers
-    same (answers L cold p1) (8 ∷ 0 ∷ 0 ∷ 0 ∷ 0 ∷ 0 ∷ 0 ∷ 0 ∷ 0 ∷ 0 ∷ 0 ∷ 0 ∷ 10 ∷ 1 ∷ 0 ∷ 0 ∷ 0 ∷ 0 ∷ 0 ∷ 0 ∷ 0 ∷ 0 ∷ 5 ∷ 1 ∷ [])
+    same (numbers (answers (box L) cold p1)) (8 ∷ 0 ∷ 0 ∷ 0 ∷ 0 ∷ 0 ∷ 0 ∷ 0 ∷ 0 ∷ 0 ∷ 0 ∷ 0 ∷ 10 ∷ 1 ∷ 0 ∷ 0 ∷ 0 ∷ 0 ∷ 0 ∷ 0 ∷ 0 ∷ 0 ∷ 5 ∷ 1 ∷ [])
     -- P3: route 0 is released, the line secured, the block held in stage 1
-    ∷ same (look (stateAfter L cold (p1 ++ p3))) (0 ∷ 1 ∷ 2 ∷ [])
+    ∷ same (look (fromCold L (p1 ++ p3))) (0 ∷ 1 ∷ 2 ∷ [])
     -- P4: the block opens and the line is neutral
-    ∷ same (look (stateAfter L cold (p1 ++ (p3 ++ p4)))) (0 ∷ 0 ∷ 0 ∷ [])
+    ∷ same (look (fromCold L (p1 ++ (p3 ++ p4)))) (0 ∷ 0 ∷ 0 ∷ [])
     -- P5: held, secured
-    ∷ same (look (stateAfter L cold (p1 ++ (p3 ++ p5)))) (0 ∷ 1 ∷ 1 ∷ [])
+    ∷ same (look (fromCold L (p1 ++ (p3 ++ p5)))) (0 ∷ 1 ∷ 1 ∷ [])
     -- P6: cancelling after 89 seconds, idle after 90
-    ∷ same (route0 L (stateAfter L cold (p1 ++ (ev 5 0 0 ∷ []))) (replicate 90 (ev 10 0 0))) (replicate 89 3 ++ (0 ∷ []))
+    ∷ same (route0 (answers (box L) (fromCold L (p1 ++ (ev 5 0 0 ∷ []))) (replicate 90 (ev 10 0 0)))) (replicate 89 3 ++ (0 ∷ []))
     ∷ []
 
 -- P8: the layout file less its last byte gets 21 at 48

@@ -1,4 +1,5 @@
 -- A run, told by its history: each event, the number of its answer, and what showed after it. What is told of a history looks at nothing else.
+-- What sections read is told from the events alone, whatever the box answered: every code of a section that there is counts (section 1).
 use Prim.Native.Nat.{ℕ}
 use mathlib.Core.Path.{_≡_}
 use mathlib.Core.Logic.{_⊎_}
@@ -10,8 +11,7 @@ use Rattle.layout.specs.declared.Layout.{Layout}
 use Rattle.interlocking.specs.declared.State.{State}
 use Rattle.interlocking.specs.declared.Answer.{Answer}
 use Rattle.interlocking.specs.State.{cold}
-use Rattle.interlocking.specs.Step.{step}
-use Rattle.step_facts.specs.Run.{Event}
+use Rattle.step_facts.specs.Run.{Event, box}
 use Rattle.safety.specs.Shown.{Panel, panel}
 
 -- ---- moments
@@ -46,9 +46,9 @@ unfoldable pub says : Event → ℕ → ℕ
 says e g =
     if eqb (e .kind) 1 and eqb (e .first) g then (if eqb (e .second) 1 then free else if eqb (e .second) 2 then occupied else none) else nothing
 
--- what it gave section g: only an accepted event, answered by 0, gives
-unfoldable pub gave : Moment → ℕ → ℕ
-gave m g = if eqb (m .number) 0 then says (m .event) g else nothing
+-- what the event of a moment gave section g
+abbrev pub gave : Moment → ℕ → ℕ
+gave m g = says (m .event) g
 
 -- what section g reads: what was last given; none at the cold start
 unfoldable pub reading : ℕ → History → ℕ
@@ -95,11 +95,11 @@ untilSpell g (m ∷ h) = if eqb (reading g (m ∷ h)) free then untilSpell g h e
 unfoldable pub moment : Layout → Event → Answer → Moment
 moment L e a = record { event = e; number = a .number; shows = panel L (a .next) }
 
--- a history that goes on from state s through a list of events
-unfoldable pub goesOn : Layout → State → History → List Event → History
-goesOn L s h [] = h
-goesOn L s h (e ∷ es) = let a = step L s (e .kind) (e .first) (e .second) in goesOn L (a .next) (moment L e a ∷ h) es
+-- a history that goes on from state s through a list of events, each answered by the box f
+unfoldable pub goesOn : Layout → (State → Event → Answer) → State → History → List Event → History
+goesOn L f s h [] = h
+goesOn L f s h (e ∷ es) = goesOn L f (f s e .next) (moment L e (f s e) ∷ h) es
 
 -- the history of a list of events from the cold start
 unfoldable pub history : Layout → List Event → History
-history L es = goesOn L cold [] es
+history L es = goesOn L (box L) cold [] es

@@ -3,3 +3,5 @@ pub mod Shown
 pub mod History
 pub mod Demand3
 pub mod WayOut
+pub mod WrongBoxes
+pub mod WrongRuns

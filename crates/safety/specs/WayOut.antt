@@ -14,10 +14,9 @@ use Rattle.layout.specs.Layout.{lineIn}
 use Rattle.layout.specs.Load.{load}
 use Rattle.layout_facts.specs.Plain.{block}
 use Rattle.interlocking.specs.declared.State.{State}
-use Rattle.interlocking.specs.State.{cold}
 use Rattle.interlocking.specs.Step.{step}
-use Rattle.step_facts.specs.Run.{Event}
-use Rattle.safety.specs.Cases.{ev, stateAfter}
+use Rattle.step_facts.specs.Run.{Event, box, stateAfter, fromCold}
+use Rattle.safety.specs.Cases.{ev}
 
 -- ---- the way out
 
@@ -69,8 +68,8 @@ pub record AtRest (L : Layout) (s : State) : Type 0 where
 pub record WayOut (L : Layout) (s : State) : Type 0 where
   pub granted : Granted L s (wayOut L s)
   pub short : length (wayOut L s) ≤ L .routes + 90 + 9 * L .lines
-  pub rest : AtRest L (stateAfter L s (wayOut L s))
+  pub rest : AtRest L (stateAfter (box L) s (wayOut L s))
 
 -- from every state that a run can reach on an accepted layout
 abbrev pub NoDeadEnd : Type 0
-NoDeadEnd = (bytes : List ℕ) → load bytes .number ≡ 0 → (es : List Event) → WayOut (load bytes .layout) (stateAfter (load bytes .layout) cold es)
+NoDeadEnd = (bytes : List ℕ) → load bytes .number ≡ 0 → (es : List Event) → WayOut (load bytes .layout) (fromCold (load bytes .layout) es)

@@ -10,7 +10,7 @@ use Rattle.passage.specs.Passage.{ownStage}
 use Rattle.layout.specs.declared.Layout.{Layout}
 use Rattle.interlocking.specs.declared.State.{State}
 use Rattle.interlocking.specs.Own.{ownStageAt, ownSection, ownPoint, throwReading, ownThrow, ownSet, ownCancel, ownSecure, openAt, ownManual, ownBar}
-use Rattle.interlocking.specs.Step.{own}
+use Rattle.interlocking.specs.Step.{ownOf, own}
 use Rattle.step_facts.specs.Range.{In, InRange}
 use Rattle.step_facts.proofs.Range.{each-within, put-within, sections-range, points-range, routes-range, lines-range, bars-range}
 
@@ -89,7 +89,7 @@ module _ (L : Layout) {s : State} (R : InRange s) (a v : ℕ) where
 
   -- an event of any kind, whose second number says what it may
   pub own-range : (k : ℕ) → Says k v → InRange (own L s k a v)
-  unfolding own
+  unfolding own ownOf
   own-range k say =
       if-both InRange _ (λ t. section-range (say .reading (omega (arith, eqb-true))))
       (λ t. if-both InRange _ (λ t. point-range (say .reading (omega (arith, eqb-true))))

@@ -19,18 +19,22 @@ abbrev μ-loop : tie.MeasureT-loop
 -- another section's place
 elsewhere : tie.Need-loop-again Inv-loop μ-loop
 elsewhere c =
-    let there = c .before .before .before .loop-test .taken in
-    (c .before .before .before .before .loop .inv .0, redo-skip _ _ _ _ _ _ (c .before .before .before .before .loop .inv .1) there
-    (own-elsewhere _ _ _ _ _ _ _ _ (c .before .before .before .before .loop .inv .0) there (c .before .before .before .before .before .pre) (c .before .is-block .ensures)
-    (c .if1 .taken)))
+    let there = c .before .before .before .loop-test .taken in (
+      c .before .before .before .before .loop .inv .0,
+      redo-skip _ _ _ _ _ _ (c .before .before .before .before .loop .inv .1) there
+          (own-elsewhere _ _ _ _ _ _ _ _ (c .before .before .before .before .loop .inv .0) there (c .before .before .before .before .before .pre) (c .before .is-block .ensures)
+          (c .if1 .taken)),
+    )
 
 -- the section's own place
 here : tie.Need-loop-again-2 Inv-loop μ-loop
 here c =
-    let there = c .before .before .before .before .loop-test .taken in
-    (c .before .before .before .before .before .loop .inv .0, redo-on _ _ _ _ _ _ _ (c .before .before .before .before .before .loop .inv .1) there
-    (own-here _ _ _ _ _ _ _ _ (c .before .before .before .before .before .loop .inv .0) there (c .before .before .before .before .before .before .pre)
-    (c .before .before .is-block .ensures) _ (c .before .if1 .left) (c .own-stage .ensures)))
+    let there = c .before .before .before .before .loop-test .taken in (
+      c .before .before .before .before .before .loop .inv .0,
+      redo-on _ _ _ _ _ _ _ (c .before .before .before .before .before .loop .inv .1) there
+          (own-here _ _ _ _ _ _ _ _ (c .before .before .before .before .before .loop .inv .0) there (c .before .before .before .before .before .before .pre)
+          (c .before .before .is-block .ensures) _ (c .before .if1 .left) (c .own-stage .ensures)),
+    )
 
 pub stages-after-spec : {M : Type 1} → statement M
 stages-after-spec = tie.close (tie.spec Inv-loop μ-loop (λ c. (search (needs, length-mapped), redo-start _ _ _ _ (c .pre) (search needs))) (λ c. search redoes) (λ c. search redoes) (λ c. search redoes) (λ c κs. search redoes) (λ c. search redoes) (λ c. search redoes) elsewhere (λ c. search redoes) (λ c. search redoes) (λ c κs. search redoes) (λ c. search redoes) (λ c. search redoes) (λ c. search redoes) (λ c. search redoes) here (λ c. search redoes))

@@ -14,10 +14,10 @@ abbrev Inv-loop : tie.InvT-loop
 Inv-loop m n entries sections old-phases old-directions old-points old-stages old-bars phases directions points stages bars ls stage₀ k₀ stage k =
     (length ls ≡ 8)
     × Redone 64 m
-        (farStageAt ls n entries sections
-        (record { phases = old-phases; directions = old-directions; points = old-points; stages = old-stages; bars = old-bars })
-        (record { phases = phases; directions = directions; points = points; stages = stages; bars = bars }))
-        stage₀ stage k
+    (farStageAt ls n entries sections
+    (record { phases = old-phases; directions = old-directions; points = old-points; stages = old-stages; bars = old-bars })
+    (record { phases = phases; directions = directions; points = points; stages = stages; bars = bars }))
+    stage₀ stage k
 
 abbrev μ-loop : tie.MeasureT-loop
 μ-loop m n entries sections old-phases old-directions old-points old-stages old-bars phases directions points stages bars ls stage₀ k₀ stage k = m - k

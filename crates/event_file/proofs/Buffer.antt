@@ -1,0 +1,175 @@
+-- However the event file is cut into reads, the program prints what is printed of the whole file.
+use Prim.Native.Nat.{ℕ, zero, suc, _+_, _<_, _≤_}
+use mathlib.Core.Path.{_≡_, refl, sym, ap, ap₂, subst, _∙_}
+use mathlib.Core.Bool.{Bool, true, false}
+use mathlib.Core.List.{List, [], _∷_, _++_, flatten, append-assoc, append-nil}
+use native.Mathlib.Nat.{add-zero}
+use native.Mathlib.Omega.{arith}
+use borrow.Author.Tests.{eqb-true}
+use lib.Dec.{eqb}
+use lib.ListN.{length, take, drop, length-append, length-drop, take-append-drop}
+use lib.Seq.{length-take-le}
+use Rattle.laws.specs.Choice.{if_then_else_}
+use Rattle.laws.proofs.Choice.{if-lt, if-ge, if-eq, if-ne}
+use Rattle.layout.specs.declared.Layout.{Layout}
+use Rattle.layout.specs.Sound.{sound}
+use Rattle.layout.specs.Load.{load}
+use Rattle.layout_facts.proofs.Loaded.{loaded-sound}
+use Rattle.interlocking.specs.declared.State.{State}
+use Rattle.interlocking.specs.declared.Answer.{Answer}
+use Rattle.interlocking.specs.State.{inRange, cold}
+use Rattle.step_facts.specs.Run.{Event, box, boxInRun}
+use Rattle.step_facts.proofs.Range.{cold-in-range}
+use Rattle.event_file.specs.Lines.{mostText, mostLine}
+use Rattle.event_file.specs.Run.{Run, pieceOf}
+use Rattle.event_file.specs.List.{mostFault, layoutWord, eventsWord, faultLine, faultIn, opening, openingIn, listFrom, printed}
+use Rattle.event_file.specs.Buffer.{roomForLines, mostCalls, isLast, Onward, readOn, goOn, listInCalls, printedInCalls}
+use Rattle.event_file.proofs.PanelText.{text-room, line-room}
+use Rattle.event_file.proofs.AskedOnce.{piece-same, piece-ranged}
+use Rattle.event_file.proofs.Onward.{fromPlace}
+use Rattle.event_file.proofs.Outcomes.{Outcome, goes, waits, ends, fails, piece-outcome}
+
+-- a fault's line has room where any line has
+fault-room : (room : ℕ) (panel : Bool) (word : List ℕ) (number detail : ℕ) → mostLine panel ≤ room
+    → faultLine word number detail ≡ faultIn room word number detail
+unfolding faultIn
+fault-room room panel word number detail h = if-ge room mostFault _ _ _ (omega (arith, text-room panel, line-room panel)) refl
+
+-- the last read is the one after which none is
+last-none : (reads : List (List ℕ)) → isLast reads ≡ true → flatten reads ≡ []
+unfolding isLast flatten
+last-none [] e = refl
+last-none (r ∷ reads) e = absurd (let y : _≡_ {A = ℕ} 0 1 = cc in omega arith)
+
+module _ (f : State → Event → Answer) (panel : Bool) (L : Layout) (room : ℕ) (r : mostLine panel ≤ room) (file : List ℕ) where
+  -- so many calls print the list from the buffer's place on, wherever that lies in the file
+  abbrev Prints : ℕ → Onward → Type 0
+  Prints calls on = (gone bytes : List ℕ) (reads : List (List ℕ)) (s : State) (n at : ℕ) → file ≡ gone ++ (bytes ++ flatten reads)
+      → at ≤ length bytes → length bytes + length (flatten reads) + length reads < calls + at
+      → on bytes reads (length gone) s n at ≡ fromPlace file f panel L s n (length gone + at)
+
+  -- ---- after a call
+
+  module _ (calls : ℕ) (on : Onward) (prints : Prints calls on) (gone bytes : List ℕ) where
+    -- what is left and the next read are the next bytes of the file
+    read-prints : (reads : List (List ℕ)) (g : Run) → isLast reads ≡ false → file ≡ gone ++ (bytes ++ flatten reads) → g .at ≤ length bytes
+        → length bytes + length (flatten reads) + length reads < suc calls + g .at
+        → readOn on bytes reads (length gone) g ≡ fromPlace file f panel L (g .state) (g .count) (length gone + g .at)
+    unfolding isLast flatten readOn
+    read-prints [] g q cut h few = absurd (let y : _≡_ {A = ℕ} 0 1 = cc in omega arith)
+    read-prints (more ∷ reads) g q cut h few =
+        let there : length (gone ++ take (g .at) bytes) ≡ length gone + g .at =
+        length-append gone (take (g .at) bytes) ∙ ap (λ k. length gone + k) (length-take-le (g .at) bytes h) in
+        let fewer : length (drop (g .at) bytes ++ more) + length (flatten reads) + length reads < calls + 0 =
+        omega (arith, length-append (drop (g .at) bytes) more, length-drop (g .at) bytes, length-append more (flatten reads)) in
+        subst (λ before. on (drop (g .at) bytes ++ more) reads before (g .state) (g .count) 0 ≡ fromPlace file f panel L (g .state) (g .count) before) there
+        (prints (gone ++ take (g .at) bytes) (drop (g .at) bytes ++ more) reads (g .state) (g .count) 0 again (omega arith) fewer
+        ∙ ap (fromPlace file f panel L (g .state) (g .count)) (add-zero (length (gone ++ take (g .at) bytes))))
+      where
+        again : file ≡ gone ++ take (g .at) bytes ++ (drop (g .at) bytes ++ more ++ flatten reads)
+        again = cut ∙ ap (λ xs. gone ++ (xs ++ (more ++ flatten reads))) (sym (take-append-drop (g .at) bytes)) ∙ simp append-assoc
+
+    -- by how far the call came
+    on-prints : (reads : List (List ℕ)) (s : State) (n at : ℕ) (g : Run) → file ≡ gone ++ (bytes ++ flatten reads)
+        → length bytes + length (flatten reads) + length reads < suc calls + at
+        → Outcome f panel L file gone bytes (isLast reads) s n at (suc at) g
+        → fromPlace file f panel L s n (length gone + at) ≡ g .text ++ goOn room on bytes reads (length gone) g
+    unfolding goOn
+    on-prints reads s n at g cut few (goes a b c e) =
+        e ∙ ap (λ xs. g .text ++ xs)
+        (if-lt (g .stop) 2 _ _ _ a (sym (prints gone bytes reads (g .state) (g .count) (g .at) cut c (omega arith))))
+    on-prints reads s n at g cut few (waits a b c d e) =
+        e ∙ ap (λ xs. g .text ++ xs)
+        (if-ge (g .stop) 2 _ _ _ (omega arith) (if-eq (g .stop) 2 _ _ _ a (sym (read-prints reads g b cut d (omega arith)))))
+    on-prints reads s n at g cut few (ends a e) =
+        e ∙ sym (append-nil (g .text)) ∙ ap (λ xs. g .text ++ xs)
+        (if-ge (g .stop) 2 _ _ _ (omega arith) (if-ne (g .stop) 2 _ _ _ (λ z. omega arith) (if-eq (g .stop) 3 _ _ _ a refl)))
+    on-prints reads s n at g cut few (fails a e) =
+        e ∙ ap (λ xs. g .text ++ xs)
+        (if-ge (g .stop) 2 _ _ _ (omega arith) (if-ne (g .stop) 2 _ _ _ (λ z. omega arith) (if-ne (g .stop) 3 _ _ _ (λ z. omega arith)
+        (fault-room room panel eventsWord (g .stop) (length gone + g .at) r))))
+
+  -- ---- all calls
+
+  -- each call takes an event or a read, so there are calls enough
+  calls-print : (calls : ℕ) → Prints calls (listInCalls calls f panel L room)
+  unfolding listInCalls
+  calls-print zero gone bytes reads s n at cut h few = absurd (omega arith)
+  calls-print (suc calls) gone bytes reads s n at cut h few =
+      sym (on-prints calls (listInCalls calls f panel L room) (calls-print calls) gone bytes reads s n at _ cut few
+      (piece-outcome f panel L file gone bytes (isLast reads) (flatten reads) cut (last-none reads) room r s n at h))
+
+-- the bytes of the first read and of the reads after it are the file; there are calls for every byte and every read
+pub cut-list-same : (f : State → Event → Answer) (panel : Bool) (L : Layout) (calls room : ℕ) (first : List ℕ) (reads : List (List ℕ)) (s : State) (n : ℕ)
+    → mostLine panel ≤ room → length (flatten (first ∷ reads)) + length reads < calls
+    → listInCalls calls f panel L room first reads 0 s n 0
+    ≡ listFrom (suc (length (flatten (first ∷ reads)))) f panel L (flatten (first ∷ reads)) s n 0
+unfolding flatten
+cut-list-same f panel L calls room first reads s n r few =
+    calls-print f panel L room r (first ++ flatten reads) calls [] first reads s n 0 refl (omega arith) (omega (arith, length-append first (flatten reads)))
+
+-- ---- the step that is asked for soundness once
+
+module _ (panel : Bool) (L : Layout) (room : ℕ) (h : sound L ≡ true) where
+  -- from a state in range both print the same
+  abbrev Agree : Onward → Onward → Type 0
+  Agree on other = (bytes : List ℕ) (reads : List (List ℕ)) (before : ℕ) (s : State) (n at : ℕ) → inRange s ≡ true
+      → on bytes reads before s n at ≡ other bytes reads before s n at
+
+  module _ (on other : Onward) (agree : Agree on other) (bytes : List ℕ) (before : ℕ) (g : Run) (e : inRange (g .state) ≡ true) where
+    -- with the next read
+    read-agrees : (reads : List (List ℕ)) → readOn on bytes reads before g ≡ readOn other bytes reads before g
+    unfolding readOn
+    read-agrees [] = refl
+    read-agrees (r ∷ reads) = agree (drop (g .at) bytes ++ r) reads (before + g .at) (g .state) (g .count) 0 e
+
+    -- after any call
+    on-agrees : (reads : List (List ℕ)) → goOn room on bytes reads before g ≡ goOn room other bytes reads before g
+    unfolding goOn
+    on-agrees reads = rw (agree bytes reads before (g .state) (g .count) (g .at) e, read-agrees reads)
+
+  -- the piece is the same, and its state is in range for the next
+  calls-agree : (calls : ℕ) → Agree (listInCalls calls (boxInRun L) panel L room) (listInCalls calls (box L) panel L room)
+  unfolding listInCalls
+  calls-agree zero bytes reads before s n at e = refl
+  calls-agree (suc calls) bytes reads before s n at e =
+      let g : Run = pieceOf (box L) panel L (isLast reads) bytes room s n at in
+      rw (piece-same panel L (isLast reads) bytes h room s n at e)
+      (ap (λ xs. g .text ++ xs) (on-agrees _ _ (calls-agree calls) bytes before g (piece-ranged panel L (isLast reads) bytes h room s n at e) reads))
+
+-- ---- all that is printed
+
+-- the same test chooses between equals
+choice-same : (t : Bool) (x y z w : List ℕ) → (t ≡ true → x ≡ z) → (t ≡ false → y ≡ w) → if t then x else y ≡ if t then z else w
+unfolding if_then_else_
+choice-same true x y z w p q = p refl
+choice-same false x y z w p q = q refl
+
+-- the opening has room where any line has
+opening-room : (room : ℕ) (panel : Bool) (L : Layout) → mostLine panel ≤ room → opening panel L ≡ openingIn room panel L
+unfolding openingIn
+opening-room room panel L h = if-ge room (mostLine panel) _ _ _ h refl
+
+-- whatever the cutting, with room for a line and calls for every byte and every read, the program prints what is printed of the two files
+pub cut-print-same : (calls room : ℕ) (panel : Bool) (layoutFile first : List ℕ) (reads : List (List ℕ)) → mostLine panel ≤ room
+    → length (flatten (first ∷ reads)) + length reads < calls
+    → printedInCalls calls room panel layoutFile first reads ≡ printed panel layoutFile (flatten (first ∷ reads))
+unfolding printedInCalls printed
+cut-print-same calls room panel layoutFile first reads r few =
+    let L : Layout = load layoutFile .layout in
+    choice-same (eqb (load layoutFile .number) 0) _ _ _ _
+    (λ t. ap₂ (λ xs ys. xs ++ ys) (sym (opening-room room panel L r))
+    (calls-agree panel L room (loaded-sound layoutFile (eqb-true _ 0 t)) calls first reads 0 cold 0 0 cold-in-range
+    ∙ cut-list-same (box L) panel L calls room first reads cold 0 r few))
+    (λ t. sym (fault-room room panel layoutWord _ _ r))
+
+-- the program's buffer has room for every line
+room-enough : (panel : Bool) → mostLine panel ≤ roomForLines
+unfolding mostLine mostText if_then_else_
+room-enough true = omega arith
+room-enough false = omega arith
+
+-- so it is with the program's own numbers
+pub program-prints : (panel : Bool) (layoutFile first : List ℕ) (reads : List (List ℕ)) → length (flatten (first ∷ reads)) + length reads < mostCalls
+    → printedInCalls mostCalls roomForLines panel layoutFile first reads ≡ printed panel layoutFile (flatten (first ∷ reads))
+program-prints panel layoutFile first reads few = cut-print-same mostCalls roomForLines panel layoutFile first reads (room-enough panel) few

@@ -1,0 +1,107 @@
+-- The list from a place of the file on: as many events as the file has bytes are enough, and what stands at the place tells how it begins.
+use Prim.Native.Nat.{ℕ, zero, suc, _+_, _<_, _≤_}
+use mathlib.Core.Path.{_≡_, refl, sym, ap, subst}
+use mathlib.Core.Bool.{Bool}
+use mathlib.Core.List.{List, [], _++_}
+use mathlib.Core.Logic.{_⊎_, inl, inr, ⊎-elim}
+use native.Mathlib.Omega.{arith}
+use lib.Dec.{ltb}
+use lib.ListN.{length}
+use Rattle.laws.proofs.Choice.{if-both}
+use Rattle.layout.specs.declared.Layout.{Layout}
+use Rattle.interlocking.specs.declared.State.{State}
+use Rattle.interlocking.specs.declared.Answer.{Answer}
+use Rattle.step_facts.specs.Run.{Event}
+use Rattle.numbers.specs.declared.Number.{Number}
+use Rattle.numbers.specs.declared.Number.the-variants.{Value, Fault}
+use Rattle.numbers.specs.Number.{numberAt}
+use Rattle.numbers.proofs.Readings.{number-after, number-inside, fault-number}
+use Rattle.event_file.specs.declared.Next.{Next}
+use Rattle.event_file.specs.declared.Next.the-variants.{Taken, Bad, Nothing}
+use Rattle.event_file.specs.Read.{withSecond, withFirst, withKind, eventAt}
+use Rattle.event_file.specs.Run.{nextCount}
+use Rattle.event_file.specs.List.{eventsWord, faultLine, answerLine, listNext, listFrom}
+use Rattle.event_file.proofs.Reading.{event-none}
+
+module _ (file : List ℕ) where
+  -- ---- an event ends behind the place where it begins and not past the file's end, and a fault is 21 or 22
+
+  -- what is said so of what stands at a place
+  abbrev pub Past : ℕ → Next → Type 0
+  Past at (Taken kind first second next) = (at < next) × (next ≤ length file)
+  Past at (Bad number place) = (number ≡ 21) ⊎ (number ≡ 22)
+  Past at Nothing = Unit {0}
+
+  -- the fault of one number
+  fault-past : (place : ℕ) {m p : ℕ} → Fault m p ≡ numberAt file place → (m ≡ 21) ⊎ (m ≡ 22)
+  fault-past place e = ⊎-elim (λ z. inr z) (λ z. inl (z .0)) (fault-number file place e refl)
+
+  -- each number begins where the one before it ends
+  second-past : (at kind first place : ℕ) (n : Number) → at ≤ place → n ≡ numberAt file place → Past at (withSecond kind first n)
+  unfolding withSecond
+  second-past at kind first place (Value value next) h e = (omega (arith, number-after file place e refl), number-inside file place e refl)
+  second-past at kind first place (Fault number p) h e = fault-past place e
+
+  first-past : (at kind place : ℕ) (n : Number) → at ≤ place → n ≡ numberAt file place → Past at (withFirst file kind n)
+  unfolding withFirst
+  first-past at kind place (Value value next) h e =
+      second-past at kind value next (numberAt file next) (omega (arith, number-after file place e refl)) refl
+  first-past at kind place (Fault number p) h e = fault-past place e
+
+  kind-past : (at place : ℕ) (n : Number) → at ≤ place → n ≡ numberAt file place → Past at (withKind file n)
+  unfolding withKind
+  kind-past at place (Value value next) h e =
+      first-past at value next (numberAt file next) (omega (arith, number-after file place e refl)) refl
+  kind-past at place (Fault number p) h e = fault-past place e
+
+  -- so it holds of every place
+  pub event-past : (at : ℕ) → Past at (eventAt file at)
+  unfolding eventAt
+  event-past at = if-both (Past at) (ltb at (length file)) (λ t. kind-past at at (numberAt file at) (omega arith) refl) (λ t. tt)
+
+  module _ (f : State → Event → Answer) (panel : Bool) (L : Layout) where
+    -- ---- one more event is allowed, and there is none
+
+    -- an event takes at least a byte, so what is left is enough for what follows it
+    next-more : (m : ℕ)
+        → ((s : State) (n at : ℕ) → length file ≤ m + at → listFrom (suc m) f panel L file s n at ≡ listFrom m f panel L file s n at)
+        → (s : State) (n at : ℕ) (x : Next) → Past at x → length file ≤ suc m + at
+        → listNext f panel L s n (λ t next. listFrom (suc m) f panel L file t n next) x
+        ≡ listNext f panel L s n (λ t next. listFrom m f panel L file t n next) x
+    unfolding listNext
+    next-more m before s n at (Taken kind first second next) p h =
+        let r : Answer = f s (record { kind = kind; first = first; second = second }) in
+        ap (λ xs. answerLine panel L n r ++ xs) (before (r .next) n next (omega (arith, p .0)))
+    next-more m before s n at (Bad number place) p h = refl
+    next-more m before s n at Nothing p h = refl
+
+    -- by the events that are allowed
+    one-more : (m : ℕ) (s : State) (n at : ℕ) → length file ≤ m + at → listFrom (suc m) f panel L file s n at ≡ listFrom m f panel L file s n at
+    unfolding listFrom listNext
+    one-more zero s n at h = let past : length file ≤ at = omega arith in rw (← event-none file at past)
+    one-more (suc m) s n at h = next-more m (one-more m) s (nextCount n) at (eventAt file at) (event-past at) h
+
+    -- ---- from a place on
+
+    -- the list with as many events as the file may have
+    abbrev pub fromPlace : State → ℕ → ℕ → List ℕ
+    fromPlace s n at = listFrom (suc (length file)) f panel L file s n at
+
+    module _ (s : State) (n at : ℕ) where
+      -- it begins with the line of the event there, with the fault there, or it is empty
+      pub from-taken : (kind first second next : ℕ) → eventAt file at ≡ Taken kind first second next
+          → let r : Answer = f s (record { kind = kind; first = first; second = second }) in
+          fromPlace s n at ≡ answerLine panel L (nextCount n) r ++ fromPlace (r .next) (nextCount n) next
+      unfolding listFrom listNext
+      from-taken kind first second next e =
+          let r : Answer = f s (record { kind = kind; first = first; second = second }) in
+          let p : Past at (Taken kind first second next) = subst (Past at) e (event-past at) in
+          rw e (ap (λ xs. answerLine panel L (nextCount n) r ++ xs) (sym (one-more (length file) (r .next) (nextCount n) next (omega (arith, p .0)))))
+
+      pub from-bad : (number place : ℕ) → eventAt file at ≡ Bad number place → fromPlace s n at ≡ faultLine eventsWord number place
+      unfolding listFrom listNext
+      from-bad number place e = rw e
+
+      pub from-none : eventAt file at ≡ Nothing → fromPlace s n at ≡ []
+      unfolding listFrom listNext
+      from-none e = rw e

@@ -1,0 +1,48 @@
+-- The panel of a sound layout has at most 376 bytes, so a line with the panel shows all of it.
+use Prim.Native.Nat.{ℕ, zero, suc, _*_, _≤_}
+use mathlib.Core.Path.{_≡_, refl, sym, ap}
+use mathlib.Core.Bool.{true}
+use native.Mathlib.Omega.{arith}
+use lib.Dec.{eqb}
+use lib.ListN.{length}
+use Rattle.laws.specs.Tests.{_and_}
+use Rattle.laws.proofs.Choice.{if-true, if-false, if-ge}
+use Rattle.track.specs.Objects.{line}
+use Rattle.layout.specs.declared.Layout.{Layout}
+use Rattle.layout.specs.Layout.{lineIn}
+use Rattle.layout.specs.Sound.{sound}
+use Rattle.layout_facts.specs.Plain.{Ranges}
+use Rattle.layout_facts.proofs.Sound.{sound-says}
+use Rattle.interlocking.specs.declared.State.{State}
+use Rattle.interlocking.specs.State.{inRange}
+use Rattle.panel.specs.declared.Drawn.{Drawn}
+use Rattle.panel.specs.Panel.{blocks, panelLength, image, answer}
+use Rattle.panel.proofs.Laws.{length-image}
+use Rattle.event_file.specs.Lines.{shown}
+
+module _ (L : Layout) (w : Ranges L) where
+  -- a line has at most eight blocks
+  blocks-most : (n : ℕ) → n ≤ L .lines → blocks n (L .line) ≤ 8 * n
+  unfolding blocks lineIn
+  blocks-most zero h = omega arith
+  blocks-most (suc n) h = let before = blocks-most n (omega arith) in let here = w .lines n h .blockCount in omega arith
+
+  -- 64 sections, 32 points, 32 signals, 48 routes, 8 lines, and three bytes for each of 64 blocks
+  length-most : panelLength L ≤ 376
+  unfolding panelLength
+  length-most =
+      let most = blocks-most (L .lines) (omega arith) in
+      let lines = w .lineCount in
+      omega (arith, w .sectionCount .1, w .pointCount, w .signalCount, w .routeCount)
+
+module _ (L : Layout) (s : State) (h : sound L ≡ true) (e : inRange s ≡ true) where
+  -- the line's 512 bytes are enough, so the answer is 0
+  drawn-whole : record { number = 0; length = length (image L s) } ≡ answer L s 512
+  unfolding answer _and_
+  drawn-whole =
+      if-false _ _ _ _ (rw (h, e)) (if-ge 512 (length (image L s)) _ _ _ (omega (arith, length-image L s, length-most L (sound-says L h .ranges))) refl)
+
+  -- what a line with the panel shows of a state in range on a sound layout is its image, whole
+  pub shown-whole : shown L s ≡ image L s
+  unfolding shown
+  shown-whole = sym (if-true _ _ _ _ (ap (λ (d : Drawn). eqb (d .number) 0) (sym drawn-whole)) refl)

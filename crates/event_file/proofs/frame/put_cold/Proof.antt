@@ -1,0 +1,8 @@
+-- The cold start is the state whose line is written.
+use borrow.Author.Needs.{needs}
+use Rattle.event_file.proofs.Words.{cold-made}
+use Rattle.event_file.proofs.frame.put_cold.Statement.{statement}
+use Rattle.event_file.proofs.frame.put_cold.Tie as tie
+
+pub put-cold-spec : {M : Type 1} → statement M
+put-cold-spec = tie.close (tie.spec (λ c κs. search needs) (λ c κs. search needs) (λ c. search needs) (λ c. search (needs, cold-made)))

@@ -1,0 +1,4 @@
+pub mod Text
+pub mod Lines
+pub mod Pieces
+pub mod Trip

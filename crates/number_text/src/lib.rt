@@ -1,0 +1,10 @@
+// Numbers as a person writes them, in decimal with comments, turned into the number form of section 2 and back, a piece of a file at a time.
+mod pack;
+mod unpack;
+
+pub use pack::Packed;
+pub use pack::Reader;
+pub use pack::pack_piece;
+pub use pack::start;
+pub use unpack::Unpacked;
+pub use unpack::unpack_piece;

@@ -1,0 +1,10 @@
+-- No room, or the digits.
+use native.Mathlib.Omega.{arith}
+use Rattle.numerals.proofs.Numerals.{numerals, put-no-room, put-room}
+use Rattle.numerals.proofs.put_digits.Statement.{statement}
+use Rattle.numerals.proofs.put_digits.Tie as tie
+
+pub put-digits-spec : {M : Type 1} → statement M
+put-digits-spec =
+    tie.close
+    (tie.spec (λ c. put-no-room _ _ _ _ (omega arith)) (λ c. search numerals) (λ c. put-no-room _ _ _ _ (omega arith)) (λ c κs. omega arith) (λ c. search numerals) (λ c. put-room _ _ _ _ _ _ (omega arith) (c .before .before .write-digits .ensures)))

@@ -1,0 +1,216 @@
+-- Boxes that are wrong in one thing: the step of a run with one of its parts done another way, as an error that looks reasonable would (section 9), or
+-- with one guard left out. `proofs/WrongBoxes` proves that with the step's own parts they are the step of a run, so each differs from it in that alone.
+use Prim.Native.Nat.{ℕ, _*_, _/_, _%_}
+use mathlib.Core.Bool.{Bool, true, false, not}
+use mathlib.Core.List.{[], _∷_}
+use lib.Dec.{eqb, leb}
+use lib.ListN.{replicate}
+use Rattle.laws.specs.Choice.{if_then_else_}
+use Rattle.laws.specs.Tests.{_and_, every, all, any}
+use Rattle.laws.specs.Tables.{each, read, put}
+use Rattle.sets.specs.Sets.{setOf}
+use Rattle.track.specs.Objects.{line, route}
+use Rattle.signals.specs.Readings.{recorded}
+use Rattle.signals.specs.Signals.{isOpen, unbarred}
+use Rattle.passage.specs.Passage.{ownStage, farStage}
+use Rattle.release.specs.declared.Gives.{Gives}
+use Rattle.layout.specs.declared.Layout.{Layout}
+use Rattle.reasons.specs.declared.Refusal.{Refusal}
+use Rattle.reasons.specs.Refusal.{when, firstOf}
+use Rattle.reasons.specs.Leaves.{notFree, locked, exitLocked}
+use Rattle.refusals.specs.Orders.{routeRefusal}
+use Rattle.refusals.specs.Events.{eventRefusal}
+use Rattle.interlocking.specs.declared.State.{State}
+use Rattle.interlocking.specs.declared.Answer.{Answer}
+use Rattle.interlocking.specs.State.{cold, withSections, withRoutes, withLines}
+use Rattle.interlocking.specs.Own.{blockAt}
+use Rattle.interlocking.specs.Settle.{signals, farProceeds, farDropped, farReading, farSections, routes, passable, wasPassed, lineRelease}
+use Rattle.interlocking.specs.Settle as settling
+use Rattle.interlocking.specs.Step.{refusal, meant, gives, own, refusedBy}
+use Rattle.step_facts.specs.Run.{Event}
+
+-- ---- a step from its parts: what is refused; what the event does itself; then signals, far sections, routes, line release (section 5)
+
+-- a box: in each state, for each event, an answer with the next state
+abbrev pub Box : Type 0
+Box = Layout → State → Event → Answer
+
+-- a refusal leaves the state as it was; else one part after the other
+abbrev pub stepBy : (Layout → State → Event → Refusal) → (Layout → State → Event → State) → (Layout → State → State) → (Layout → State → State → State)
+    → (Layout → State → Gives → State) → (Layout → State → State → State) → Box
+stepBy refuse act light move free end L s e =
+    if eqb (refuse L s e .number) 0 then record {
+      number = 0;
+      detail = 0;
+      next = end L s (free L (move L s (light L (act L s e))) (gives (e .kind) (e .first) (meant (e .kind) (e .second))));
+    }
+    else refusedBy (refuse L s e) s
+
+-- what is refused, soundness being asked before the first event; what an event does itself
+abbrev pub asked : Layout → Bool
+asked L = leb (L .lines) 8 and leb (L .routes) 48
+
+abbrev pub refuses : Layout → State → Event → Refusal
+refuses L s e = refusal (asked L) L s (e .kind) (e .first) (e .second)
+
+abbrev pub does : Layout → State → Event → State
+does L s e = own L s (e .kind) (e .first) (meant (e .kind) (e .second))
+
+-- ---- what is refused
+
+-- section 9: code 0 is refused, and the stored reading kept
+abbrev pub refusesNone : Box
+refusesNone = stepBy (λ L s e. firstOf (when (eqb (e .kind) 1 and eqb (e .second) 0) 3 0 ∷ refuses L s e ∷ [])) does signals farSections routes lineRelease
+
+-- an order of kind k is refused by this
+abbrev pub refuseBy : ℕ → (Layout → State → ℕ → Refusal) → Layout → State → Event → Refusal
+refuseBy k refuse L s e =
+    if eqb (e .kind) k then firstOf (eventRefusal (asked L) L (e .kind) (e .first) (e .second) ∷ refuse L s (e .first) ∷ []) else refuses L s e
+
+abbrev refusesBy : ℕ → (Layout → State → ℕ → Refusal) → Box
+refusesBy k refuse = stepBy (refuseBy k refuse) does signals farSections routes lineRelease
+
+-- section 3: 17 is not asked of a manual release; 7 and 8 are not
+abbrev pub releasesLocked : Box
+releasesLocked = refusesBy 7 (λ L s l. notFree (s .section) (setOf (line (L .line) l .blocks) (line (L .line) l .block)))
+
+abbrev pub releasesTaken : Box
+releasesTaken = refusesBy 7 (λ L s l. exitLocked L (s .phase) l)
+
+-- section 3: 5 is not asked of a route that is set
+abbrev pub asksNoConflict : Box
+asksNoConflict =
+    refusesBy 4 (λ L s r. firstOf (
+    when (locked (s .phase) r) 4 r
+    ∷ routeRefusal (L .line) (s .section) (s .point) (s .direction) (s .stage) (s .bar) (route (L .route) r)
+    ∷ []))
+
+-- ---- a block's own reading
+
+-- a reading takes a block from stage to stage by this
+abbrev pub readBy : (ℕ → ℕ → ℕ) → Layout → State → Event → State
+readBy stage L s e =
+    if eqb (e .kind) 1 then withSections (does L s e) (does L s e .section)
+    (each (8 * L .lines) (λ k was. if blockAt (L .line) (e .first) k then stage (recorded (e .second)) was else was) (s .stage))
+    else does L s e
+
+abbrev readsBy : (ℕ → ℕ → ℕ) → Box
+readsBy stage = stepBy refuses (readBy stage) signals farSections routes lineRelease
+
+-- section 9: a block opens because it reads free again
+abbrev pub opensFree : Box
+opensFree = readsBy (λ v was. if eqb v 1 then 0 else ownStage v was)
+
+-- section 5: none of the block is passed over, so that a passage is counted with a none between
+abbrev pub passesNone : Box
+passesNone = readsBy (λ v was. if eqb v 3 then was else ownStage v was)
+
+-- ---- far sections (section 5)
+
+-- a line has this direction, and in it the stage of its block i becomes that
+abbrev pub moveBy : (State → ℕ → ℕ) → (Layout → State → State → ℕ → ℕ → ℕ → ℕ → ℕ) → Layout → State → State → State
+moveBy way stage L before s =
+    withLines s (s .direction)
+    (each (8 * L .lines) (λ k was. if eqb (way s (k / 8)) 0 then was else stage L before s (k / 8) (k % 8) (way s (k / 8)) was) (s .stage))
+
+abbrev movesBy : (State → ℕ → ℕ) → (Layout → State → State → ℕ → ℕ → ℕ → ℕ → ℕ) → Box
+movesBy way stage = stepBy refuses does signals (moveBy way stage) routes lineRelease
+
+-- the direction that the line is secured in
+abbrev pub secured : State → ℕ → ℕ
+secured s l = read 8 0 (s .direction) l
+
+-- section 9: a signal already at stop counts as changed to stop
+abbrev pub countsStopped : Box
+countsStopped = movesBy secured (λ L before s l i w was. farStage (farReading L s l i w) (not (farProceeds L s l i w)) was)
+
+-- the far signal is not asked
+abbrev pub asksNoSignal : Box
+asksNoSignal = movesBy secured (λ L before s l i w was. farStage (farReading L s l i w) true was)
+
+-- the far section need not read occupied
+abbrev pub asksNoArrival : Box
+asksNoArrival = movesBy secured (λ L before s l i w was. farStage (if eqb (farReading L s l i w) 3 then 3 else 2) (farDropped L before s l i w) was)
+
+-- none of the far section is passed over
+abbrev pub passesFarNone : Box
+passesFarNone = movesBy secured (λ L before s l i w was. farStage (if eqb (farReading L s l i w) 3 then 1 else farReading L s l i w) (farDropped L before s l i w) was)
+
+-- a block in stage 0 goes to 2 as well as one in stage 1
+abbrev pub asksNoEntry : Box
+asksNoEntry = movesBy secured (λ L before s l i w was.
+    if eqb was 1 and eqb (farStage (farReading L s l i w) (farDropped L before s l i w) 2) 3 then 3
+    else farStage (farReading L s l i w) (farDropped L before s l i w) was)
+
+-- in neutral the far section is that of A to B
+abbrev pub movesInNeutral : Box
+movesInNeutral =
+    movesBy (λ s l. if eqb (secured s l) 0 then 1 else secured s l)
+    (λ L before s l i w was. farStage (farReading L s l i w) (farDropped L before s l i w) was)
+
+-- ---- signals and seconds
+
+-- section 9: a cleared bar brings back a fallen exit signal, where it has all that keeps it at proceed
+abbrev raised : Layout → State → State
+raised L s =
+    withRoutes s (each (L .routes) (λ r was. if eqb was 2 and eqb (route (L .route) r .kind) 2 then 1 else was) (s .phase)) (s .step) (s .second)
+
+abbrev pub bringsBack : Box
+bringsBack = stepBy refuses (λ L s e. if eqb (e .kind) 9 then raised L (does L s e) else does L s e) signals farSections routes lineRelease
+
+-- section 9: the cancel wait ends at 89: the cancel counts as a second
+abbrev counted : State → ℕ → State
+counted s r = withRoutes s (s .phase) (s .step) (put 48 (s .second) r 1)
+
+abbrev pub waits89 : Box
+waits89 = stepBy refuses (λ L s e. if eqb (e .kind) 5 then counted (does L s e) (e .first) else does L s e) signals farSections routes lineRelease
+
+-- ---- line release (section 5)
+
+-- a secured line becomes neutral where this holds
+abbrev pub endBy : (Layout → State → State → ℕ → ℕ → Bool) → Layout → State → State → State
+endBy ended L before s =
+    withLines s (each (L .lines) (λ l was. if eqb was 0 then was else if ended L before s l was then 0 else was) (s .direction)) (s .stage)
+
+abbrev endsWhere : (Layout → State → State → ℕ → ℕ → Bool) → Box
+endsWhere ended = stepBy refuses does signals farSections routes (endBy ended)
+
+-- no exit route of the line is locked
+abbrev unlocked : Layout → State → ℕ → Bool
+unlocked L s l = not (any (L .routes) (settling.exitLocked (L .route) (s .phase) l))
+
+-- left out
+abbrev pub neverEnds : Box
+neverEnds = endsWhere (λ L before s l w. false)
+
+-- a locked exit route is not asked
+abbrev pub endsLocked : Box
+endsLocked = endsWhere (λ L before s l w. wasPassed before (line (L .line) l) l w and all (line (L .line) l .blocks) (passable s l))
+
+-- a held block is not asked, but for the last in travel
+abbrev pub endsHeld : Box
+endsHeld =
+    endsWhere (λ L before s l w. every (
+    wasPassed before (line (L .line) l) l w
+    ∷ isOpen (s .stage) l (settling.lastBlock (line (L .line) l) w)
+    ∷ all (line (L .line) l .blocks) (unbarred (s .bar) l)
+    ∷ unlocked L s l
+    ∷ []))
+
+-- a bar is not asked
+abbrev pub endsBarred : Box
+endsBarred =
+    endsWhere (λ L before s l w. every (wasPassed before (line (L .line) l) l w ∷ all (line (L .line) l .blocks) (isOpen (s .stage) l) ∷ unlocked L s l ∷ []))
+
+-- it is not asked that the last block in travel went from stage 2 to open
+abbrev pub endsUnpassed : Box
+endsUnpassed = endsWhere (λ L before s l w. all (line (L .line) l .blocks) (passable s l) and unlocked L s l)
+
+-- ---- the cold start (sections 1 and 5)
+
+-- blocks open; sections read free
+abbrev pub coldOpen : State
+coldOpen = withLines cold (cold .direction) (replicate 64 0)
+
+abbrev pub coldFree : State
+coldFree = withSections cold (replicate 64 1) (cold .stage)
