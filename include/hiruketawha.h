@@ -162,7 +162,8 @@ void hiruketawha_cold(struct hiruketawha_state *state);
 void hiruketawha_no_layout(struct hiruketawha_layout *layout);
 
 /* A layout file of `length` bytes into the layout's record (section 2). Where it is accepted, 0 and 0, and the whole record is written.
- * Where it is refused, 21 to 26 with the detail, and the record keeps what it held: a layout that was in use stays in use. */
+ * Where it is refused, 21 to 26 with the detail, and the record keeps what it held: a layout that was in use stays in use. After a file is
+ * accepted the state begins anew: call hiruketawha_cold, since what is promised of a run holds for one layout from the cold start. */
 struct hiruketawha_load_reply hiruketawha_load(const uint8_t *bytes, size_t length, struct hiruketawha_layout *layout);
 
 /* One event (sections 3 to 6) on the state's record, on that layout; numbers of any size. 0 and 0, and the record is the next state; or a

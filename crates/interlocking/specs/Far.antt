@@ -1,4 +1,5 @@
--- Far sections and line release (section 5), said of a line's record and of the tables of a state alone.
+-- Far sections and line release (section 5) as the code asks for them, of a line's record and of the tables of a state alone; Settle says the same of
+-- a layout and a state.
 use Prim.Native.Nat.{ℕ, _/_, _%_}
 use mathlib.Core.Bool.{Bool, not}
 use mathlib.Core.List.{List, [], _∷_}
@@ -22,10 +23,11 @@ pub record Tables : Type 0 where
   pub stages : List ℕ
   pub bars : List ℕ
 
--- a main signal shows proceed: one of the n routes that start at it is in phase 1; entries has the signal at which each route starts
+-- route r is in phase 1 and starts at signal x; entries has the signal at which each route starts
 unfoldable pub entryShows : List ℕ → List ℕ → ℕ → ℕ → Bool
 entryShows entries phases x r = eqb (read 48 0 phases r) 1 and eqb (read 48 0 entries r) x
 
+-- a main signal shows proceed: one of the n routes that start at it is in phase 1
 unfoldable pub mainShows : ℕ → List ℕ → List ℕ → ℕ → Bool
 mainShows n entries phases x = any n (entryShows entries phases x)
 
@@ -58,7 +60,7 @@ farStageAt ls n entries sections before t k was =
 unfoldable pub passes : List ℕ → List ℕ → ℕ → ℕ → Bool
 passes stages bars l i = isOpen stages l i and unbarred bars l i
 
--- line l, secured in direction w, becomes neutral; before has the stages before the event
+-- line l, secured in direction w, becomes neutral; before has the stages before the event, in which code 3 is stage 2
 unfoldable pub endsBy : Line → ℕ → List Route → List ℕ → List ℕ → List ℕ → List ℕ → ℕ → ℕ → Bool
 endsBy b n rs before stages bars phases l w = every (
     eqb (read 64 1 before (place l (lastBlock b w))) 3

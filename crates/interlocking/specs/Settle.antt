@@ -103,7 +103,7 @@ exitLocked rs phases l r = exitLockedBy phases (route rs r) l r
 unfoldable pub passable : State → ℕ → ℕ → Bool
 passable s l i = isOpen (s .stage) l i and unbarred (s .bar) l i
 
--- the last block in travel was in stage 2
+-- the last block in travel was in stage 2, of which the code is 3
 unfoldable pub wasPassed : State → Line → ℕ → ℕ → Bool
 wasPassed before b l w = eqb (read 64 1 (before .stage) (place l (lastBlock b w))) 3
 

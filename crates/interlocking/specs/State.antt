@@ -1,4 +1,5 @@
--- The state of the box: a code for each section, point, route, line and block, as section 7 counts them.
+-- The state of the box: a code for each section, point, route, line and block. The codes are section 7's, but for a route's phase, which tells a
+-- signal at proceed (1) from a fallen one (2): cancelling is 3 here.
 use Prim.Native.Nat.{ℕ}
 use mathlib.Core.Bool.{Bool}
 use mathlib.Core.List.{List, [], _∷_}

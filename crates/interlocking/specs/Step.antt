@@ -42,7 +42,7 @@ refusal isSound L s k a b = firstOf (eventRefusal isSound L k a b ∷ orderRefus
 unfoldable pub meant : ℕ → ℕ → ℕ
 meant k b = if leb k 2 then recorded b else b
 
--- what it gives: kind 1 a section its reading, kind 10 a second
+-- what it gives: kind 1 a section its reading, kind 10 a second; 64 is no section
 unfoldable pub gives : ℕ → ℕ → ℕ → Gives
 gives k a v =
     if eqb k 1 then record { section = a; reading = v; tick = 0 }

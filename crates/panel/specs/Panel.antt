@@ -61,7 +61,7 @@ stands n i w = if eqb w 1 then ltb 0 i else ltb (i + 1) n
 
 -- a block signal: 0 dark or absent, else 22 where the block may be entered and 20 where not
 unfoldable pub lamp : Bool → Bool → ℕ
-lamp lit free = if lit then (if free then 22 else 20) else 0
+lamp lit mayEnter = if lit then (if mayEnter then 22 else 20) else 0
 
 -- the signal into block i of line l for direction w: on a secured line those of the secured direction are lit
 unfoldable pub blockSignal : List Line → List ℕ → List ℕ → List ℕ → List ℕ → ℕ → ℕ → ℕ → ℕ

@@ -16,7 +16,7 @@ ownStage given stage =
     else if eqb given 3 then 1
     else stage
 
--- the arrival end of a direction: B for A to B, 1; A for B to A, 2
+-- the arrival end of a direction: end B, 1, in direction 1 (A to B); end A, 0, in direction 2 (B to A)
 unfoldable pub arrival : ℕ → ℕ
 arrival w = if eqb w 1 then 1 else 0
 
@@ -29,7 +29,7 @@ unfoldable pub farSection : Line → ℕ → ℕ → ℕ
 farSection b w i = if eqb (nextBlock b w i) 8 then inner b (arrival w) else getD (b .block) (nextBlock b w i) 0
 
 -- stage 1 becomes 2 when the far section reads occupied in an event in which the far signal goes from proceed to stop;
--- stage 2 becomes 1 when the far section reads none
+-- stage 2 becomes 1 when the far section reads none. In the table a block held in stage 0, 1, 2 has the code 1, 2, 3, and 0 is open
 unfoldable pub farStage : ℕ → Bool → ℕ → ℕ
 farStage far dropped stage =
     if eqb stage 2 then (if eqb far 2 and dropped then 3 else 2) else if eqb stage 3 then (if eqb far 3 then 2 else 3) else stage

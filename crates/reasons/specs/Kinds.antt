@@ -8,7 +8,7 @@ use Rattle.track.specs.Lists.{between}
 use Rattle.layout.specs.declared.Layout.{Layout}
 use Rattle.layout.specs.Layout.{lineIn}
 
--- how many objects there are of the kind that an event of kind k names: sections, points, routes, lines
+-- how many objects there are of the kind that an event of kind k names: sections, points, routes, lines; kind 10 names none and is not asked
 unfoldable pub objects : Layout → ℕ → ℕ
 objects L k = if eqb k 1 then L .sections else if leb k 3 then L .points else if leb k 5 then L .routes else L .lines
 

@@ -21,7 +21,7 @@ unfoldable pub throwRefusal : Layout → List ℕ → List ℕ → List ℕ → 
 throwRefusal L sections phases directions p =
     firstOf (byRoute L phases p ∷ byLine L directions p ∷ notFree sections (joined 0 (read 32 0 (L .pointsection) p)) ∷ [])
 
--- an exit route besides: 9, 6 for the line's points, 11, 10 for the block it enters
+-- an exit route besides: 9, 6 for the line's points, 11, 10 for the block it enters; a train leaves end 0 in direction 1 and end 1 in direction 2
 unfoldable pub exitRefusal : List Line → List ℕ → List ℕ → List ℕ → List ℕ → Route → Refusal
 exitRefusal ls points directions stages bars a =
     firstOf (

@@ -30,13 +30,16 @@ firstWatched a = if eqb (a .kind) 2 then getD (a .path) (a .paths - 1) 0 else ge
 unfoldable pub secondWatched : List Line → Route → ℕ
 secondWatched ls a = if eqb (a .kind) 2 then endBlock ls a else getD (a .path) (a .paths - 1) 0
 
--- the step done, from what was given to the first and the second section of the pair, and what they read after the event: the first is given
--- occupied; the second is given occupied while the first reads occupied; the first is given free. If the first reads free before the second step,
--- or either reads none before the third, it starts again
+-- the steps, from what was given to the first and the second section of the pair, and what they read after the event: 1, the first is given occupied;
+-- 2, the second is given occupied while the first reads occupied; 3, the first is given free. If the first reads free before the second step, or
+-- either reads none before the third, it starts again
+
+-- the step done, where it was 0 or 1 and neither reads none
 unfoldable pub earlyStep : ℕ → ℕ → ℕ → ℕ → ℕ
 earlyStep step gave1 gave2 reads1 =
     if eqb step 1 then (if eqb reads1 1 then 0 else if eqb gave2 2 and eqb reads1 2 then 2 else 1) else if eqb gave1 2 then 1 else 0
 
+-- the step done, where it was any
 unfoldable pub stepFrom : ℕ → ℕ → ℕ → ℕ → ℕ → ℕ
 stepFrom step gave1 gave2 reads1 reads2 =
     if eqb step 3 then 3
@@ -44,14 +47,16 @@ stepFrom step gave1 gave2 reads1 reads2 =
     else if eqb step 2 then (if eqb gave1 1 then 3 else 2)
     else earlyStep step gave1 gave2 reads1
 
+-- the step done of a route
 unfoldable pub stepAfter : List Line → List ℕ → Route → Gives → ℕ → ℕ
 stepAfter ls sections a e step =
     stepFrom step (given e (firstWatched a)) (given e (secondWatched ls a)) (reading sections (firstWatched a)) (reading sections (secondWatched ls a))
 
--- all path sections read free, the last one excepted for kinds 0 and 1, and, for kind 1, the block nearest its end reads free
+-- how many path sections a train leaves behind: all, the last one excepted for kinds 0 and 1
 unfoldable pub leftSections : Route → ℕ
 leftSections a = if eqb (a .kind) 2 then a .paths else a .paths - 1
 
+-- the train has left the route behind: those read free and, for kind 1, the block nearest its end reads free
 unfoldable pub left : List Line → List ℕ → Route → Bool
 left ls sections a = allFree sections (leftSections a) (a .path) and implies (eqb (a .kind) 1) (eqb (reading sections (endBlock ls a)) 1)
 

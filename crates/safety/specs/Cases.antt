@@ -50,13 +50,13 @@ abbrev pub runs : Layout → List Bool
 runs L =
     -- P1: the answers
     same (numbers (answers (box L) cold p1)) (8 ∷ 0 ∷ 0 ∷ 0 ∷ 0 ∷ 0 ∷ 0 ∷ 0 ∷ 0 ∷ 0 ∷ 0 ∷ 0 ∷ 10 ∷ 1 ∷ 0 ∷ 0 ∷ 0 ∷ 0 ∷ 0 ∷ 0 ∷ 0 ∷ 0 ∷ 5 ∷ 1 ∷ [])
-    -- P3: route 0 is released, the line secured, the block held in stage 1
+    -- P3: route 0 is released, the line secured, the block held in stage 1 (code 2)
     ∷ same (look (fromCold L (p1 ++ p3))) (0 ∷ 1 ∷ 2 ∷ [])
     -- P4: the block opens and the line is neutral
     ∷ same (look (fromCold L (p1 ++ (p3 ++ p4)))) (0 ∷ 0 ∷ 0 ∷ [])
-    -- P5: held, secured
+    -- P5: held in stage 0 (code 1), secured
     ∷ same (look (fromCold L (p1 ++ (p3 ++ p5)))) (0 ∷ 1 ∷ 1 ∷ [])
-    -- P6: cancelling after 89 seconds, idle after 90
+    -- P6: cancelling (phase 3) after 89 seconds, idle after 90
     ∷ same (route0 (answers (box L) (fromCold L (p1 ++ (ev 5 0 0 ∷ []))) (replicate 90 (ev 10 0 0)))) (replicate 89 3 ++ (0 ∷ []))
     ∷ []
 

@@ -1,4 +1,4 @@
--- What a state in range is, table by table: the codes that sections 1 and 4 to 7 have for each object.
+-- What a state in range is, table by table: the codes that there are for each object (sections 1 and 4 to 7; phases as in the state).
 use Prim.Native.Nat.{ℕ, _<_, _≤_}
 use mathlib.Core.List.{List}
 use lib.ListN.{getD}
