@@ -1,11 +1,11 @@
 -- The panel of a state as text, and a line with it or without.
 use Prim.Native.Nat.{ℕ, zero, suc, _+_, _*_, _<_, _≤_}
 use mathlib.Core.Path.{_≡_, refl, sym, ap, ap₂, subst, _∙_}
-use mathlib.Core.Bool.{Bool, true, false, not}
+use mathlib.Core.Bool.{Bool, true, false}
 use mathlib.Core.List.{List, [], _∷_, _++_}
 use native.Mathlib.Omega.{arith}
 use borrow.Author.Needs.{needs}
-use borrow.Author.Tests.{ltb-false, eqb-true, eqb-false, not-true, not-false}
+use borrow.Author.Tests.{ltb-false, eqb-true, eqb-false}
 use lib.Dec.{eqb}
 use lib.ListN.{length, drop, set, List·getD-append}
 use Rattle.laws.specs.Choice.{if_then_else_}
@@ -14,7 +14,7 @@ use Rattle.layout.specs.declared.Layout.{Layout}
 use Rattle.interlocking.specs.declared.State.{State}
 use Rattle.panel.specs.declared.Drawn.{Drawn}
 use Rattle.panel.specs.Panel.{join, image, refused, answer, drawn}
-use Rattle.event_file.specs.Lines.{space, bar, three, afterSpace, spaced, shown, panelText, lineText, lineOf, mostText, mostLine}
+use Rattle.event_file.specs.Lines.{space, lineEnd, bar, three, afterSpace, spaced, shown, panelText, lineText, lineOf, mostText, mostLine}
 use Rattle.event_file.specs.Writes.{Put}
 use Rattle.event_file.proofs.Numerals.{put-one, put-then, put-within}
 
@@ -82,33 +82,35 @@ module _ (L : Layout) (s : State) (d : Drawn) (before after : List ℕ) (e : d �
 
 -- ---- a line
 
--- every line has room for its three numbers, one with the panel for that too
+-- every line has room for its three numbers
 pub text-room : (p : Bool) → 62 ≤ mostText p
 unfolding mostText if_then_else_
 text-room true = omega arith
 text-room false = omega arith
-
-pub panel-room : (p : Bool) → not p ≡ false → mostText p ≡ 2112
-unfolding mostText if_then_else_
-panel-room p e = rw (not-false p e)
 
 pub line-room : (p : Bool) → mostLine p ≡ mostText p + 1
 unfolding mostLine
 line-room p = refl
 
 module _ (p : Bool) (L : Layout) (s : State) (n x d : ℕ) (a b : List ℕ) (at m : ℕ) where
-  pub text-plain : not p ≡ true → Put a at (three n x d) 62 b m → Put a at (lineText p L s n x d) (mostText p) b m
-  unfolding lineText mostText if_then_else_
-  text-plain e q = rw (not-true p e) q
+  -- without the panel
+  pub line-plain : p ≡ false → Put a at (three n x d ++ (lineEnd ∷ [])) 63 b m → Put a at (lineOf p L s n x d) (mostLine p) b m
+  unfolding lineOf lineText mostLine mostText if_then_else_
+  line-plain e q = rw e q
 
-  pub text-panel : (c : List ℕ) (k : ℕ) → not p ≡ false → Put a at (three n x d) 62 b m → Put b m (panelText L s) 2050 c k
-      → Put a at (lineText p L s n x d) (mostText p) c k
-  unfolding lineText mostText if_then_else_
-  text-panel c k e q r = rw (not-false p e) (put-then q r)
+  -- with it
+  pub line-panel : p ≡ true → Put a at (lineOf true L s n x d) (mostLine true) b m → Put a at (lineOf p L s n x d) (mostLine p) b m
+  line-panel e q = rw e q
 
-  pub line-made : Put a at (lineText p L s n x d) (mostText p) b m → Put a at (lineOf p L s n x d) (mostLine p) (set b m 10) (m + 1)
-  unfolding lineOf mostLine
-  line-made q = put-then q (put-one 10)
+-- the numbers and the end
+pub plain-made : (n x d : ℕ) (a b : List ℕ) (at m : ℕ) → Put a at (three n x d) 62 b m → Put a at (three n x d ++ (lineEnd ∷ [])) 63 (set b m 10) (m + 1)
+plain-made n x d a b at m q = put-then q (put-one 10)
+
+-- the numbers, the panel and the end
+pub panel-line-made : (L : Layout) (s : State) (n x d : ℕ) (a b c : List ℕ) (at m k : ℕ) → Put a at (three n x d) 62 b m → Put b m (panelText L s) 2050 c k
+    → Put a at (lineOf true L s n x d) (mostLine true) (set c k 10) (k + 1)
+unfolding lineOf lineText mostLine mostText if_then_else_
+panel-line-made L s n x d a b c at m k q r = put-then (put-then q r) (put-one 10)
 
 -- the most bytes of a line with the panel, and without
 pub most-panel : (p : Bool) → p ≡ true → 2113 ≡ mostLine p

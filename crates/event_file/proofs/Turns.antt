@@ -1,6 +1,7 @@
 -- The turns of a run, each from the facts that choose it.
 use Prim.Native.Nat.{ℕ, zero, suc, _+_, _-_, _<_, _≤_}
 use mathlib.Core.Path.{_≡_, refl, sym, ap, subst, _∙_}
+use mathlib.Core.Logic.{_⊎_, inl, inr, ⊎-elim}
 use mathlib.Core.Bool.{Bool, true, false, not}
 use mathlib.Core.List.{List, _++_}
 use native.Mathlib.Nat.{add-zero}
@@ -8,6 +9,7 @@ use native.Mathlib.Numerals.{add-one}
 use native.Mathlib.Omega.{arith}
 use borrow.Author.Needs.{needs}
 use borrow.Author.Tests.{eq-eqb, ne-eqb}
+use denote.Enum.Declared.{tagOf}
 use lib.Dec.{eqb}
 use lib.ListN.{length}
 use Rattle.laws.specs.Choice.{if_then_else_}
@@ -17,40 +19,19 @@ use Rattle.laws.proofs.Choice.{if-true, if-false, if-lt, if-ge}
 use Rattle.layout.specs.declared.Layout.{Layout}
 use Rattle.interlocking.specs.declared.State.{State}
 use Rattle.interlocking.specs.declared.Answer.{Answer}
-use Rattle.interlocking.specs.Step.{stepInRun}
-use Rattle.step_facts.specs.Run.{Event, boxInRun}
+use Rattle.step_facts.specs.Run.{Event}
 use Rattle.event_file.specs.declared.Next.{Next}
 use Rattle.event_file.specs.declared.Next.the-variants.{Taken, Bad, Nothing}
 use Rattle.event_file.specs.declared.pieces.Piece.{Piece}
 use Rattle.event_file.specs.Read.{eventAt}
 use Rattle.event_file.specs.Lines.{lineOf, mostLine}
-use Rattle.event_file.specs.Run.{Run, nextCount, stopped, took, nextOf, turnOf, after, turnRun, start, turns, pieceOf, halted, Went}
+use Rattle.event_file.specs.Run.{Run, nextCount, stopped, took, nextOf, turnOf, after, turnRun, start, turns, pieceOf, halted, haltedBy, soFar, Went}
 use Rattle.event_file.specs.Writes.{Put}
+use Rattle.event_file.proofs.Next.{the-type}
 use Rattle.event_file.proofs.Numerals.{put-then, put-within}
+use Rattle.event_file.proofs.Onward.{Past, event-past}
 
--- ---- one turn
-
-module _ (a : List ℕ) (p r : Piece) (most : ℕ) where
-  -- nothing more is written
-  pub halted-went : (at why : ℕ) → r ≡ halted p at why → Went a (p .written) most a r (stopped (p .state) (p .count) at why)
-  unfolding halted stopped
-  halted-went at why e = rw e (record {
-    state = refl;
-    count = refl;
-    at = refl;
-    stop = refl;
-    text = record { buffer = refl; place = sym (add-zero (p .written)); near = omega arith; long = refl };
-  })
-
--- an event's line is written
-pub taken-went : (panel : Bool) (L : Layout) (a b : List ℕ) (from m n next k : ℕ) (q r : Answer) → n ≡ m → r ≡ q
-    → Put a from (lineOf panel L (r .next) n (r .number) (r .detail)) (mostLine panel) b k
-    → Went a from (mostLine panel) b (record { state = r .next; count = n; at = next; written = k; stop = 0 }) (took panel L m next q)
-unfolding took
-taken-went panel L a b from m n next k q r e f t =
-    subst (λ x. Went a from (mostLine panel) b (record { state = r .next; count = n; at = next; written = k; stop = 0 }) (took panel L x next q)) e
-    (subst (λ (x : Answer). Went a from (mostLine panel) b (record { state = r .next; count = n; at = next; written = k; stop = 0 }) (took panel L n next x)) f
-    (record { state = refl; count = refl; at = refl; stop = refl; text = t }))
+-- ---- why a run ends
 
 -- an event past the piece's end is no fault where more is to come
 pub both-fail : (t u : Bool) → u ≡ false → t and u ≡ false
@@ -58,60 +39,106 @@ unfolding _and_
 both-fail true u z = z
 both-fail false u z = refl
 
-module _ (panel : Bool) (L : Layout) (last : Bool) (p r : Piece) (x : Next) (most : ℕ) (a : List ℕ) where
+module _ (last : Bool) (p r : Piece) (x : Next) where
   -- by what stands at the next place
-  pub next-taken : (b : List ℕ) {kind first second next : ℕ} → x ≡ Taken kind first second next
-      → Went a (p .written) most b r (took panel L (nextCount (p .count)) next (stepInRun L (p .state) kind first second))
-      → Went a (p .written) most b r (nextOf (boxInRun L) panel L last (p .state) (p .count) (p .at) x)
-  unfolding nextOf boxInRun
-  next-taken b e q = rw e q
+  pub halts-past : {number place : ℕ} → x ≡ Bad number place → last ≡ false → number ≡ 21 → r ≡ halted p (p .at) 2 → r ≡ haltedBy last p x
+  unfolding haltedBy _and_ if_then_else_
+  halts-past e h f q = rw (e, f, h) q
 
-  pub next-past : {number place : ℕ} → x ≡ Bad number place → last ≡ false → number ≡ 21 → r ≡ halted p (p .at) 2
-      → Went a (p .written) most a r (nextOf (boxInRun L) panel L last (p .state) (p .count) (p .at) x)
-  unfolding nextOf _and_ if_then_else_
-  next-past e h f q = rw (e, f, h) (halted-went a p r most (p .at) 2 q)
+  pub halts-cut : {number place : ℕ} → x ≡ Bad number place → last ≡ true → r ≡ halted p place number → r ≡ haltedBy last p x
+  unfolding haltedBy if_then_else_
+  halts-cut {number} {place} e h q = rw (e, both-fail (eqb number 21) (not last) (ap not h)) q
 
-  pub next-cut : {number place : ℕ} → x ≡ Bad number place → last ≡ true → r ≡ halted p place number
-      → Went a (p .written) most a r (nextOf (boxInRun L) panel L last (p .state) (p .count) (p .at) x)
-  unfolding nextOf if_then_else_
-  next-cut {number} {place} e h q = rw (e, both-fail (eqb number 21) (not last) (ap not h)) (halted-went a p r most place number q)
+  pub halts-bad : {number place : ℕ} → x ≡ Bad number place → (number ≡ 21 → ⊥) → r ≡ halted p place number → r ≡ haltedBy last p x
+  unfolding haltedBy _and_ if_then_else_
+  halts-bad {number} {place} e h q = rw (e, ne-eqb number 21 h) q
 
-  pub next-bad : {number place : ℕ} → x ≡ Bad number place → (number ≡ 21 → ⊥) → r ≡ halted p place number
-      → Went a (p .written) most a r (nextOf (boxInRun L) panel L last (p .state) (p .count) (p .at) x)
-  unfolding nextOf _and_ if_then_else_
-  next-bad {number} {place} e h q = rw (e, ne-eqb number 21 h) (halted-went a p r most place number q)
+  pub halts-end : x ≡ Nothing → last ≡ true → r ≡ halted p (p .at) 3 → r ≡ haltedBy last p x
+  unfolding haltedBy if_then_else_
+  halts-end e h q = rw (e, h) q
 
-  pub next-end : x ≡ Nothing → last ≡ true → r ≡ halted p (p .at) 3
-      → Went a (p .written) most a r (nextOf (boxInRun L) panel L last (p .state) (p .count) (p .at) x)
-  unfolding nextOf if_then_else_
-  next-end e h q = rw (e, h) (halted-went a p r most (p .at) 3 q)
+  pub halts-none : x ≡ Nothing → last ≡ false → r ≡ halted p (p .at) 2 → r ≡ haltedBy last p x
+  unfolding haltedBy if_then_else_
+  halts-none e h q = rw (e, h) q
 
-  pub next-none : x ≡ Nothing → last ≡ false → r ≡ halted p (p .at) 2
-      → Went a (p .written) most a r (nextOf (boxInRun L) panel L last (p .state) (p .count) (p .at) x)
-  unfolding nextOf if_then_else_
-  next-none e h q = rw (e, h) (halted-went a p r most (p .at) 2 q)
+-- an event ends no run
+pub halts-not : (last : Bool) (p : Piece) (x : Next) {kind first second next : ℕ} → x ≡ Taken kind first second next → p ≡ haltedBy last p x
+unfolding haltedBy
+halts-not last p x e = rw e
 
-pub ruleset nexts = (needs, next-taken, next-past, next-cut, next-bad, next-end, next-none)
+pub ruleset halts = (needs, halts-not, halts-past, halts-cut, halts-bad, halts-end, halts-none)
+
+-- ---- one turn
+
+-- a run that ended, and wrote nothing more
+record Ended (a : List ℕ) (from most : ℕ) (r : Piece) (g : Run) : Type 0 where
+  pub went : Went a from most a r g
+  pub stops : r .stop ≡ 0 → ⊥
+
+module _ (a : List ℕ) (p r : Piece) (most : ℕ) where
+  -- with an end that is not 0
+  halted-ended : (at why : ℕ) → (why ≡ 0 → ⊥) → r ≡ halted p at why → Ended a (p .written) most r (stopped (p .state) (p .count) at why)
+  unfolding halted stopped
+  halted-ended at why h e = rw e (record {
+    went = record {
+      state = refl;
+      count = refl;
+      at = refl;
+      stop = refl;
+      text = record { buffer = refl; place = sym (add-zero (p .written)); near = omega arith; long = refl };
+    };
+    stops = h;
+  })
+
+  -- one way or another
+  either-ended : (t : Bool) (at why place number : ℕ) → (why ≡ 0 → ⊥) → (number ≡ 0 → ⊥)
+      → r ≡ (if t then halted p at why else halted p place number)
+      → Ended a (p .written) most r (if t then stopped (p .state) (p .count) at why else stopped (p .state) (p .count) place number)
+  unfolding if_then_else_
+  either-ended true at why place number h k e = halted-ended at why h e
+  either-ended false at why place number h k e = halted-ended place number k e
+
+  -- by what stands at the next place, where that is no event: its variant is the one of a fault or the one of the file's end
+  next-ended : (f : State → Event → Answer) (panel : Bool) (L : Layout) (last : Bool) (bytes : List ℕ) (x : Next) → Past bytes (p .at) x
+      → (tagOf the-type x ≡ 1) ⊎ (tagOf the-type x ≡ 2) → r ≡ haltedBy last p x
+      → Ended a (p .written) most r (nextOf f panel L last (p .state) (p .count) (p .at) x)
+  unfolding nextOf haltedBy
+  next-ended f panel L last bytes (Taken kind first second next) h (inl k) e = absurd (let z : _≡_ {A = ℕ} 0 1 = k in omega arith)
+  next-ended f panel L last bytes (Taken kind first second next) h (inr k) e = absurd (let z : _≡_ {A = ℕ} 0 2 = k in omega arith)
+  next-ended f panel L last bytes (Bad number place) h k e =
+      either-ended _ (p .at) 2 place number (λ z. let y : 2 ≡ 0 = z in omega arith) (λ z. ⊎-elim (λ y. omega arith) (λ y. omega arith) h) e
+  next-ended f panel L last bytes Nothing h k e =
+      either-ended last (p .at) 3 (p .at) 2 (λ z. let y : 3 ≡ 0 = z in omega arith) (λ z. let y : 2 ≡ 0 = z in omega arith) e
+
+-- an event's line is written
+taken-went : (panel : Bool) (L : Layout) (a b : List ℕ) (from m n next k : ℕ) (q r : Answer) → n ≡ m → r ≡ q
+    → Put a from (lineOf panel L (r .next) n (r .number) (r .detail)) (mostLine panel) b k
+    → Went a from (mostLine panel) b (soFar (r .next) n next k) (took panel L m next q)
+unfolding took soFar
+taken-went panel L a b from m n next k q r e f t =
+    subst (λ x. Went a from (mostLine panel) b (soFar (r .next) n next k) (took panel L x next q)) e
+    (subst (λ (x : Answer). Went a from (mostLine panel) b (soFar (r .next) n next k) (took panel L n next x)) f
+    (record { state = refl; count = refl; at = refl; stop = refl; text = t }))
 
 -- ---- the turns of a call
 
-module _ (f : State → Event → Answer) (panel : Bool) (L : Layout) (last : Bool) (bytes : List ℕ) where
-  -- no room
-  pub turn-full : (a : List ℕ) (p r : Piece) (most room v : ℕ) → v ≡ mostLine panel → room < v → r ≡ halted p (p .at) 1
-      → Went a (p .written) most a r (turnOf f panel L last bytes room (p .state) (p .count) (p .at))
-  unfolding turnOf
-  turn-full a p r most room v e h q =
-      let less : room < mostLine panel = omega (arith, e) in
-      subst (Went a (p .written) most a r) (if-lt room (mostLine panel) _ _ _ less refl) (halted-went a p r most (p .at) 1 q)
+-- no more is written than the buffer holds
+pub run-within : (a b : List ℕ) (s : State) (n at written : ℕ) (g : Run) → Went a 0 (length a) b (soFar s n at written) g → written ≤ length b
+unfolding soFar
+run-within a b s n at written g w = omega (arith, w .text .near, w .text .long)
 
+module _ (f : State → Event → Answer) (panel : Bool) (L : Layout) (last : Bool) (bytes : List ℕ) where
   -- room
-  pub turn-goes : (a b : List ℕ) (from room v : ℕ) (s : State) (n at : ℕ) (x : Next) (r : Piece) → v ≡ mostLine panel → v ≤ room → x ≡ eventAt bytes at
-      → Went a from (mostLine panel) b r (nextOf f panel L last s n at x) → Went a from room b r (turnOf f panel L last bytes room s n at)
+  turn-goes : (room v : ℕ) (s : State) (n at : ℕ) (x : Next) → v ≡ mostLine panel → v ≤ room → x ≡ eventAt bytes at
+      → nextOf f panel L last s n at x ≡ turnOf f panel L last bytes room s n at
   unfolding turnOf
-  turn-goes a b from room v s n at x r d h e q =
-      let room-for : mostLine panel ≤ room = omega (arith, d) in
-      subst (Went a from room b r) (if-ge room (mostLine panel) _ _ _ room-for (ap (nextOf f panel L last s n at) e))
-      (record { state = q .state; count = q .count; at = q .at; stop = q .stop; text = put-within room room-for (q .text) })
+  turn-goes room v s n at x d h e = if-ge room (mostLine panel) _ _ _ (omega (arith, d)) (ap (nextOf f panel L last s n at) e)
+
+  -- none
+  turn-full : (room v : ℕ) (s : State) (n at : ℕ) → v ≡ mostLine panel → room < v
+      → stopped s n at 1 ≡ turnOf f panel L last bytes room s n at
+  unfolding turnOf
+  turn-full room v s n at e h = if-lt room (mostLine panel) _ _ _ (omega (arith, e)) refl
 
   module _ (room : ℕ) (g : Run) where
     abbrev runAt : ℕ → Run
@@ -134,11 +161,11 @@ module _ (f : State → Event → Answer) (panel : Bool) (L : Layout) (last : Bo
     abbrev ranTo : ℕ → Run
     ranTo i = runAt (length a) (start s n at) i
 
-    pub run-start : Went a 0 (length a) a (record { state = s; count = n; at = at; written = 0; stop = 0 }) (ranTo 0)
-    unfolding iter start
+    pub run-start : Went a 0 (length a) a (soFar s n at 0) (ranTo 0)
+    unfolding iter start soFar
     run-start = record { state = refl; count = refl; at = refl; stop = refl; text = record { buffer = refl; place = refl; near = omega arith; long = refl } }
 
-    pub run-on : (b c : List ℕ) (p r : Piece) (i : ℕ) → Went a 0 (length a) b p (ranTo i) → p .stop ≡ 0
+    run-on : (b c : List ℕ) (p r : Piece) (i : ℕ) → Went a 0 (length a) b p (ranTo i) → p .stop ≡ 0
         → Went b (p .written) (length b - p .written) c r (turnOf f panel L last bytes (length b - p .written) (p .state) (p .count) (p .at))
         → Went a 0 (length a) c r (ranTo (i + 1))
     unfolding turnRun after
@@ -165,17 +192,63 @@ module _ (f : State → Event → Answer) (panel : Bool) (L : Layout) (last : Bo
             record { buffer = w .text .buffer; place = w .text .place; near = omega (arith, w .text .place); long = w .text .long } in
             put-within (length a) h (put-then front (v .text))
 
-    -- all turns are done, or the run stopped before
-    pub run-done : (b : List ℕ) (p : Piece) (i : ℕ) → Went a 0 (length a) b p (ranTo i) → i ≤ turns → turns ≤ i
-        → Went a 0 (length a) b p (pieceOf f panel L last bytes (length a) s n at)
+    -- all turns are done
+    pub run-done : (b : List ℕ) (p r : Piece) (i : ℕ) → Went a 0 (length a) b p (ranTo i) → r ≡ p → i ≤ turns → turns ≤ i
+        → Went a 0 (length a) b r (pieceOf f panel L last bytes (length a) s n at)
     unfolding pieceOf
-    run-done b p i w h k = let e : turns ≡ i = omega arith in rw e w
+    run-done b p r i w q h k = let e : turns ≡ i = omega arith in rw (q, e) w
 
-    pub run-stopped : (b : List ℕ) (p : Piece) (i : ℕ) → Went a 0 (length a) b p (ranTo i) → i < turns → (p .stop ≡ 0 → ⊥)
+    -- or the run stops before
+    run-stopped : (b : List ℕ) (p : Piece) (i : ℕ) → Went a 0 (length a) b p (ranTo i) → i ≤ turns → (p .stop ≡ 0 → ⊥)
         → Went a 0 (length a) b p (pieceOf f panel L last bytes (length a) s n at)
     unfolding pieceOf
     run-stopped b p i w h z =
         let e : turns - i + i ≡ turns = omega arith in
         subst (Went a 0 (length a) b p) (sym (stays (length a) (start s n at) i (turns - i) (λ q. z (w .stop ∙ q))) ∙ ap ranTo e) w
 
-pub ruleset runs = (needs, turn-full, turn-goes, run-start, run-on, run-done, run-stopped)
+    module _ (b : List ℕ) (t : State) (m place written i : ℕ) (w : Went a 0 (length a) b (soFar t m place written) (ranTo i)) (l : i < turns)
+        (v : ℕ) (d : v ≡ mostLine panel) where
+      ended-run : (r : Piece) → Ended b written (length b - written) r (turnOf f panel L last bytes (length b - written) t m place)
+          → Went a 0 (length a) b r (pieceOf f panel L last bytes (length a) s n at)
+      unfolding soFar
+      ended-run r e = run-stopped b r (i + 1) (run-on b b (soFar t m place written) r i w refl (e .went)) (omega arith) (e .stops)
+
+      -- no room for another line
+      pub run-full : (p r : Piece) → length b - written < v → p ≡ soFar t m place written → r ≡ halted p place 1
+          → Went a 0 (length a) b r (pieceOf f panel L last bytes (length a) s n at)
+      unfolding soFar
+      run-full p r h e q =
+          ended-run r (subst (Ended b written (length b - written) r) (turn-full (length b - written) v t m place d h)
+          (halted-ended b (soFar t m place written) r (length b - written) place 1 (λ z. let y : 1 ≡ 0 = z in omega arith)
+          (q ∙ ap (λ (x : Piece). halted x place 1) e)))
+
+      module _ (x : Next) (h : v ≤ length b - written) (e : x ≡ eventAt bytes place) where
+        -- no event stands at the next place
+        pub run-halted : (p r : Piece) → (tagOf the-type x ≡ 1) ⊎ (tagOf the-type x ≡ 2) → p ≡ soFar t m place written → r ≡ haltedBy last p x
+            → Went a 0 (length a) b r (pieceOf f panel L last bytes (length a) s n at)
+        unfolding soFar
+        run-halted p r k c q =
+            ended-run r (subst (Ended b written (length b - written) r) (turn-goes (length b - written) v t m place x d h e)
+            (next-ended b (soFar t m place written) r (length b - written) f panel L last bytes x
+            (subst (Past bytes place) (sym e) (event-past bytes place)) k (q ∙ ap (λ (y : Piece). haltedBy last y x) c)))
+
+        -- an event is answered, and its line is written
+        pub run-taken : (c : List ℕ) (kind first second next number k : ℕ) (r : Answer) → x ≡ Taken kind first second next
+            → r ≡ f t (record { kind = kind; first = first; second = second }) → number ≡ nextCount m
+            → Put b written (lineOf panel L (r .next) number (r .number) (r .detail)) (mostLine panel) c k
+            → Went a 0 (length a) c (soFar (r .next) number next k) (ranTo (i + 1))
+        unfolding soFar nextOf
+        run-taken c kind first second next number k r o q u line =
+            let went : Went b written (mostLine panel) c (soFar (r .next) number next k) (nextOf f panel L last t m place x) =
+            rw o (taken-went panel L b c written (nextCount m) number next k _ r u q line) in
+            run-on b c (soFar t m place written) (soFar (r .next) number next k) i w refl
+            (subst (Went b written (length b - written) c (soFar (r .next) number next k)) (turn-goes (length b - written) v t m place x d h e)
+            (record {
+              state = went .state;
+              count = went .count;
+              at = went .at;
+              stop = went .stop;
+              text = put-within (length b - written) (omega (arith, d)) (went .text);
+            }))
+
+pub ruleset runs = (needs, run-start, run-within, run-full, run-halted, run-done)

@@ -80,6 +80,16 @@ pieceOf f panel L last bytes room s n at = iter (λ i. turnRun f panel L last by
 unfoldable pub halted : Piece → ℕ → ℕ → Piece
 halted p at why = record { state = p .state; count = p .count; at = at; written = p .written; stop = why }
 
+-- and with the end that what stands at the next place makes; an event makes none
+unfoldable pub haltedBy : Bool → Piece → Next → Piece
+haltedBy last p (Taken kind first second next) = p
+haltedBy last p (Bad number place) = if eqb number 21 and not last then halted p (p .at) 2 else halted p place number
+haltedBy last p Nothing = if last then halted p (p .at) 3 else halted p (p .at) 2
+
+-- a run that did not stop
+unfoldable pub soFar : State → ℕ → ℕ → ℕ → Piece
+soFar s n at written = record { state = s; count = n; at = at; written = written; stop = 0 }
+
 -- the record r holds the run g, whose text was written into a buffer from a place on
 pub record Went (before : List ℕ) (from most : ℕ) (later : List ℕ) (r : Piece) (g : Run) : Type 0 where
   pub state : r .state ≡ g .state

@@ -40,7 +40,7 @@ fn put_cold(layout: Layout, out: &mut [u8]) -> usize
     ensures { λ r. ⌜ Put (now (out .entry)) 0 (lineOf true layout cold 0 0 0) (mostLine true) (now (out .exit)) r ⌝ }
 {
     let state = State::cold();
-    lines::put_line(true, layout, state, 0, 0, 0, out, 0)
+    lines::put_panel_line(layout, state, 0, 0, 0, out, 0)
 }
 
 // What stands before the first event, where the buffer has room for a line.

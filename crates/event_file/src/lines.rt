@@ -1,9 +1,11 @@
 // Lines of text into a lent buffer.
+ghost use mathlib.Core.Bool.{true};
+ghost use mathlib.Core.List.{[], _∷_, _++_};
 ghost use Prim.Native.Nat.{_+_, _*_, _≤_};
 ghost use lib.ListN.{length};
 use interlocking::State;
 use layout::Layout;
-ghost use Rattle.event_file.specs.Lines.{digits, two, three, afterSpace, spaced, panelText, lineText, lineOf, mostText, mostLine};
+ghost use Rattle.event_file.specs.Lines.{lineEnd, digits, two, three, afterSpace, spaced, panelText, lineOf, mostLine};
 ghost use Rattle.event_file.specs.Writes.{Put};
 
 // A number in decimal, in so many places at most, from a place on; the place after it.
@@ -79,42 +81,31 @@ fn put_panel(layout: Layout, state: State, out: &mut [u8], at: usize) -> usize
     put_bytes(&image, drawn.length, out, at + 2)
 }
 
-// A line without its end: event number, answer, detail, and the panel where that is asked for.
-fn put_text(
-    panel: bool,
-    layout: Layout,
-    state: State,
-    n: u64,
-    answer: u64,
-    detail: u64,
-    out: &mut [u8],
-    at: usize,
-) -> usize
-    requires { ⌜ at + mostLine panel ≤ length (now out) ⌝ }
-    ensures { λ r. ⌜ Put (now (out .entry)) at (lineText panel layout state n answer detail) (mostText panel) (now (out .exit)) r ⌝ }
+// A line without the panel: event number, answer and detail.
+pub fn put_line(n: u64, answer: u8, detail: u32, out: &mut [u8], at: usize) -> usize
+    requires { ⌜ at + 63 ≤ length (now out) ⌝ }
+    ensures { λ r. ⌜ Put (now (out .entry)) at (three n answer detail ++ (lineEnd ∷ [])) 63 (now (out .exit)) r ⌝ }
 {
-    let end = put_three(n, answer, detail, out, at);
-    if !panel {
-        return end;
-    }
-    put_panel(layout, state, out, end)
+    let end = put_three(n, answer as u64, detail as u64, out, at);
+    out[end] = 10;
+    end + 1
 }
 
-// A line.
-pub fn put_line(
-    panel: bool,
+// A line with the panel of the state then.
+pub fn put_panel_line(
     layout: Layout,
     state: State,
     n: u64,
-    answer: u64,
-    detail: u64,
+    answer: u8,
+    detail: u32,
     out: &mut [u8],
     at: usize,
 ) -> usize
-    requires { ⌜ at + mostLine panel ≤ length (now out) ⌝ }
-    ensures { λ r. ⌜ Put (now (out .entry)) at (lineOf panel layout state n answer detail) (mostLine panel) (now (out .exit)) r ⌝ }
+    requires { ⌜ at + mostLine true ≤ length (now out) ⌝ }
+    ensures { λ r. ⌜ Put (now (out .entry)) at (lineOf true layout state n answer detail) (mostLine true) (now (out .exit)) r ⌝ }
 {
-    let end = put_text(panel, layout, state, n, answer, detail, out, at);
+    let before = put_three(n, answer as u64, detail as u64, out, at);
+    let end = put_panel(layout, state, out, before);
     out[end] = 10;
     end + 1
 }
