@@ -1,6 +1,6 @@
 // Plays every event file of an archive on its layout, and prints what section 8 says of each: event_cases ARCHIVE
-// The archive is the layout file after its length in two bytes, lowest first; then for each event file a byte, 1 where the panels are to be
-// printed and 0 where not, its length in two bytes, and the file.
+// The archive is entries: a byte, 2 for a layout file, 1 for an event file of which the panels are to be printed and 0 for one without; the
+// file's length in two bytes, lowest first; and the file. An event file is played on the layout before it.
 use interlocking::State;
 use layout::Layout;
 use libc::STDERR_FILENO;
@@ -52,43 +52,47 @@ fn play(panel: bool, layout: Layout, file: &[u8]) {
     }
 }
 
-// The event file at a place is played; the place after it.
-fn play_at(layout: Layout, archive: &[u8], at: usize) -> usize {
-    let panel = byte_at(archive, at) == 1;
-    let from = sum(at, 3);
-    let to = sum(from, length_at(archive, sum(at, 1)));
-    if to <= archive.len() {
-        if from <= to {
-            play(panel, layout, &archive[from..to]);
-        }
-    }
-    to
+// The place after the entry at a place.
+fn entry_end(archive: &[u8], at: usize) -> usize {
+    sum(sum(at, 3), length_at(archive, sum(at, 1)))
 }
 
-// All event files from a place on.
-fn play_all(layout: Layout, archive: &[u8], from: usize) {
-    let mut at = from;
+// The layout after the entry at a place: its own, where it is a layout file.
+fn layout_after(before: Layout, archive: &[u8], at: usize) -> Layout {
+    let from = sum(at, 3);
+    let to = entry_end(archive, at);
+    if byte_at(archive, at) != 2 || archive.len() < to || to < from {
+        return before;
+    }
+    let loaded = layout::load(&archive[from..to]);
+    loaded.layout
+}
+
+// The entry at a place is played, where it is an event file.
+fn play_at(layout: Layout, archive: &[u8], at: usize) {
+    let from = sum(at, 3);
+    let to = entry_end(archive, at);
+    if byte_at(archive, at) == 2 || archive.len() < to || to < from {
+        return;
+    }
+    play(byte_at(archive, at) == 1, layout, &archive[from..to]);
+}
+
+// All entries; before the first layout file there is no layout.
+fn play_all(archive: &[u8]) {
+    let none = layout::load(b"");
+    let mut layout = none.layout;
+    let mut at: usize = 0;
     let mut turns: u32 = 65536;
     while turns > 0 {
         if archive.len() <= at {
             return;
         }
-        at = play_at(layout, archive, at);
+        layout = layout_after(layout, archive, at);
+        play_at(layout, archive, at);
+        at = entry_end(archive, at);
         turns -= 1;
     }
-}
-
-// The layout at the archive's start, and the event files after it.
-fn run(archive: &[u8]) {
-    let end = sum(2, length_at(archive, 0));
-    if archive.len() < end {
-        return;
-    }
-    if end < 2 {
-        return;
-    }
-    let loaded = layout::load(&archive[2..end]);
-    play_all(loaded.layout, archive, end);
 }
 
 fn main() {
@@ -106,5 +110,5 @@ fn main() {
     let mut room = io::large_buffer();
     let size = io::read_full(fd, &mut room);
     libc::close(fd);
-    run(&room[..size]);
+    play_all(&room[..size]);
 }

@@ -4,12 +4,13 @@ use Rattle.event_cases.proofs.play_all.Statement.{statement}
 use Rattle.event_cases.proofs.play_all.Tie as tie
 
 abbrev Inv-loop : tie.InvT-loop
-Inv-loop layout archive from at₀ turns₀ at turns = Unit {0}
+Inv-loop archive layout₀ at₀ turns₀ layout at turns = Unit {0}
 
 abbrev μ-loop : tie.MeasureT-loop
-μ-loop layout archive from at₀ turns₀ at turns = turns
+μ-loop archive layout₀ at₀ turns₀ layout at turns = turns
 
 pub play-all-spec : {M : Type 1} → statement M
 play-all-spec =
     tie.close
-    (tie.spec Inv-loop μ-loop (λ c. tt) (λ c. search needs) (λ c κs. search needs) (λ c. search needs) (λ c. search needs) (λ c. tt) (λ c. search needs))
+    (tie.spec Inv-loop μ-loop (λ c. search needs) (λ c κs. search needs) (λ c. tt) (λ c. search needs) (λ c κs. search needs) (λ c κs. search needs)
+    (λ c κs. search needs) (λ c. search needs) (λ c. search needs) (λ c. tt) (λ c. search needs))
