@@ -15,8 +15,8 @@ use Rattle.interlocking.specs.declared.State.{State}
 use Rattle.panel.specs.declared.Drawn.{Drawn}
 use Rattle.panel.specs.Panel.{join, image, refused, answer, drawn}
 use Rattle.event_file.specs.Lines.{space, lineEnd, bar, three, afterSpace, spaced, shown, panelText, lineText, lineOf, mostText, mostLine}
-use Rattle.event_file.specs.Writes.{Put}
-use Rattle.event_file.proofs.Numerals.{put-one, put-then, put-within}
+use Rattle.numerals.specs.Writes.{Put}
+use Rattle.numerals.proofs.Writes.{put-one, put-then, put-within}
 
 -- ---- what a panel's answer says of its length
 

@@ -7,8 +7,9 @@ use native.Mathlib.Omega.{arith}
 use borrow.Author.Needs.{needs}
 use lib.ListN.{length, take, drop, getD, set, length-take, length-drop}
 use lib.Seq.{take-suc, take-all, sets-eq, getD-append-add, getD-drop, getD-take}
-use Rattle.event_file.specs.Writes.{Put, rest}
-use Rattle.event_file.proofs.Numerals.{put-one, put-then, put-within}
+use Rattle.numerals.specs.Writes.{Put}
+use Rattle.event_file.specs.Writes.{rest}
+use Rattle.numerals.proofs.Writes.{put-one, put-then, put-within}
 
 module _ (from till : ℕ) (a : List ℕ) where
   -- how many they are

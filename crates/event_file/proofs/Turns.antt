@@ -26,9 +26,9 @@ use Rattle.event_file.specs.declared.pieces.Piece.{Piece}
 use Rattle.event_file.specs.Read.{eventAt}
 use Rattle.event_file.specs.Lines.{lineOf, mostLine}
 use Rattle.event_file.specs.Run.{Run, nextCount, stopped, took, nextOf, turnOf, after, turnRun, start, turns, pieceOf, halted, haltedBy, soFar, Went}
-use Rattle.event_file.specs.Writes.{Put}
+use Rattle.numerals.specs.Writes.{Put}
 use Rattle.event_file.proofs.Next.{the-type}
-use Rattle.event_file.proofs.Numerals.{put-then, put-within}
+use Rattle.numerals.proofs.Writes.{put-then, put-within}
 use Rattle.event_file.proofs.Onward.{Past, event-past}
 
 -- ---- why a run ends

@@ -1,9 +1,9 @@
 -- No second result, and no second buffer, meets the contract of a public function. Each `Post` is the contract itself, as the function is proved to meet it.
 use Prim.Native.Nat.{ℕ}
 use mathlib.Core.Path.{_≡_}
-use mathlib.Core.List.{List}
 use denote.Ref.{now}
 use Rattle.laws.proofs.Only.{Determines, only}
+use Rattle.numerals.proofs.Unique.{DeterminesBytes}
 use Rattle.interlocking.specs.declared.State.{State}
 use Rattle.event_file.specs.declared.pieces.Piece.{Piece}
 use Rattle.event_file.proofs.next_event.Reads as next-event
@@ -16,11 +16,6 @@ use Rattle.event_file.proofs.pieces.run_piece.Reads as run-piece
 -- what stands at a place of an event file
 pub next-event-determined : Determines next-event.Post
 next-event-determined κs a r q s = only
-
--- at every call, two outcomes that meet the contract have the same result and leave the same bytes
-abbrev DeterminesBytes : {K : Type 0} {A R S : K → Type 0} → ((κs : K) → S κs → List ℕ) → ((κs : K) → A κs → R κs → S κs → Type 0) → Type 0
-DeterminesBytes {K} {A} {R} {S} bytes Post =
-    (κs : K) (a : A κs) (r q : R κs) (s t : S κs) → Post κs a r s → Post κs a q t → (r ≡ q) × (bytes κs s ≡ bytes κs t)
 
 -- what stands before the first event
 pub opening-line-determined : DeterminesBytes (λ κs s. now (s .1 .1 .0)) opening-line.Post

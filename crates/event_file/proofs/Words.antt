@@ -15,8 +15,8 @@ use Rattle.interlocking.specs.declared.State.{State}
 use Rattle.interlocking.specs.State.{cold}
 use Rattle.event_file.specs.Lines.{two, lineOf, mostLine}
 use Rattle.event_file.specs.List.{header, faultLine, mostFault, faultIn, opening, openingIn}
-use Rattle.event_file.specs.Writes.{Put}
-use Rattle.event_file.proofs.Numerals.{put-one, put-then, put-within}
+use Rattle.numerals.specs.Writes.{Put}
+use Rattle.numerals.proofs.Writes.{put-one, put-then, put-within}
 use Rattle.event_file.proofs.PanelText.{text-room, line-room}
 
 -- ---- a word

@@ -1,18 +1,14 @@
 -- What is printed of an event (section 8), in ASCII.
-use Prim.Native.Nat.{ℕ, zero, suc, _+_, _/_, _%_}
+use Prim.Native.Nat.{ℕ, _+_}
 use mathlib.Core.Bool.{Bool}
 use mathlib.Core.List.{List, [], _∷_, _++_}
 use lib.ListN.{length, getD}
-use lib.Dec.{eqb, ltb}
+use lib.Dec.{eqb}
 use Rattle.laws.specs.Choice.{if_then_else_}
+use Rattle.numerals.specs.Digits.{digits}
 use Rattle.layout.specs.declared.Layout.{Layout}
 use Rattle.interlocking.specs.declared.State.{State}
 use Rattle.panel.specs.Panel.{join, image, answer}
-
--- a number in decimal, in so many places at most
-unfoldable pub digits : ℕ → ℕ → List ℕ
-digits zero n = []
-digits (suc places) n = if ltb n 10 then (48 + n) ∷ [] else digits places (n / 10) ++ ((48 + n % 10) ∷ [])
 
 -- a space, a line's end, and the bar before a panel's bytes
 abbrev pub space : ℕ

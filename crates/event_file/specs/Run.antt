@@ -17,7 +17,7 @@ use Rattle.event_file.specs.declared.Next.the-variants.{Taken, Bad, Noth
 use Rattle.event_file.specs.declared.pieces.Piece.{Piece}
 use Rattle.event_file.specs.Read.{eventAt}
 use Rattle.event_file.specs.Lines.{lineOf, mostLine}
-use Rattle.event_file.specs.Writes.{Put}
+use Rattle.numerals.specs.Writes.{Put}
 
 -- how far a run came: the state, how many events there were, the place of the next one, why it stopped, and what is printed.
 -- 0 it did not stop; 1 no room for another line; 2 the next event lies past the piece's end; 3 the file's end; 21, 22 a fault, at its place

@@ -10,7 +10,7 @@ ghost use lib.ListN.{length};
 ghost use Rattle.interlocking.specs.State.{cold};
 ghost use Rattle.event_file.specs.Lines.{lineOf, mostLine};
 ghost use Rattle.event_file.specs.List.{layoutWord, eventsWord, header, faultLine, mostFault, faultIn, openingIn};
-ghost use Rattle.event_file.specs.Writes.{Put};
+ghost use Rattle.numerals.specs.Writes.{Put};
 
 // The bytes of a word, from a place on.
 fn put_word(word: &[u8], out: &mut [u8], at: usize) -> usize

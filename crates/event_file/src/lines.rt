@@ -5,24 +5,16 @@ ghost use Prim.Native.Nat.{_+_, _*_, _≤_};
 ghost use lib.ListN.{length};
 use interlocking::State;
 use layout::Layout;
-ghost use Rattle.event_file.specs.Lines.{lineEnd, digits, two, three, afterSpace, spaced, panelText, lineOf, mostLine};
-ghost use Rattle.event_file.specs.Writes.{Put};
+ghost use Rattle.event_file.specs.Lines.{lineEnd, two, three, afterSpace, spaced, panelText, lineOf, mostLine};
+ghost use Rattle.numerals.specs.Digits.{digits};
+ghost use Rattle.numerals.specs.Writes.{Put};
 
-// A number in decimal, in so many places at most, from a place on; the place after it.
+// A number in decimal, where the buffer has room for so many places.
 fn put_digits(places: u8, n: u64, out: &mut [u8], at: usize) -> usize
     requires { ⌜ at + places ≤ length (now out) ⌝ }
     ensures { λ r. ⌜ Put (now (out .entry)) at (digits places n) places (now (out .exit)) r ⌝ }
 {
-    if places == 0 {
-        return at;
-    }
-    if n < 10 {
-        out[at] = 48 + n as u8;
-        return at + 1;
-    }
-    let last = put_digits(places - 1, n / 10, out, at);
-    out[last] = 48 + (n % 10) as u8;
-    last + 1
+    numerals::put_digits(places, n, out, at)
 }
 
 // Two numbers with a space between.

@@ -8,7 +8,8 @@ ghost use mathlib.Core.Path.{_≡_};
 ghost use lib.ListN.{length};
 ghost use Rattle.step_facts.specs.Run.{boxInRun};
 ghost use Rattle.event_file.specs.Lines.{mostLine};
-ghost use Rattle.event_file.specs.Writes.{Put, rest};
+ghost use Rattle.numerals.specs.Writes.{Put};
+ghost use Rattle.event_file.specs.Writes.{rest};
 ghost use Rattle.event_file.specs.Run.{nextCount, pieceOf, halted, haltedBy, soFar, Went};
 
 // How far a run came: the state, how many events there were, the place of the next one, how many bytes were written, and why it stopped.

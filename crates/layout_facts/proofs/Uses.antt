@@ -6,7 +6,6 @@ use mathlib.Core.Logic.{_≢_, inl, inr}
 use native.Mathlib.Omega.{arith}
 use native.Mathlib.Decide.{ℕ-discrete}
 use Rattle.laws.proofs.Choice.{if-both}
-use Rattle.laws.proofs.Tests.{same-test}
 use Rattle.layout.specs.declared.Layout.{Layout}
 use Rattle.layout.specs.Layout.{lineIn, routeIn, conflict}
 use Rattle.layout_facts.specs.Plain.{block, innerSection, entranceSignal, path, nearestBlock, Sound, commonPath}
@@ -16,10 +15,6 @@ module _ (L : Layout) (S : Sound L) where
   -- a block's section is one of 64
   pub block-below : (l i : ℕ) → l < L .lines → i < lineIn L l .blocks → block L l i < 64
   block-below l i hl hi = omega (arith, S .ranges .lines l hl .blocks i hi)
-
-  -- an inner section is one of 64
-  pub inner-below : (l e : ℕ) → l < L .lines → e ≤ 1 → innerSection L l e < 64
-  inner-below l e hl he = omega (arith, S .ranges .lines l hl .inners e he)
 
   -- the block nearest an end is there
   pub nearest-there : (l e : ℕ) → l < L .lines → nearestBlock L l e < lineIn L l .blocks
@@ -57,7 +52,3 @@ module _ (L : Layout) (S : Sound L) where
       let pq = S .ranges .routes q hq .pathCount in
       S .rule6 .listed r q hr hq d (commonPath (routeIn L r .paths - 1) (routeIn L q .paths - 1) (omega arith) (omega arith)
       (S .rule5 .last r hr kr ∙ ap₂ (innerSection L) line end ∙ sym (S .rule5 .last q hq kq)))
-
-  -- two routes conflict as much one way as the other
-  pub conflict-same : (r q : ℕ) → r < L .routes → q < L .routes → conflict L r q ≡ conflict L q r
-  conflict-same r q hr hq = same-test _ _ (S .conflicts .bothWays r q hr hq) (S .conflicts .bothWays q r hq hr)

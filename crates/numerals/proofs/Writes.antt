@@ -14,6 +14,14 @@ sets-append [] ys l i = ap (λ k. sets l k ys) (add-zero i)
 sets-append (x ∷ xs) ys l i =
     ap (λ k. sets (sets (set l i x) (suc i) xs) k ys) (add-suc i (length xs) ∙ sym (suc-add i (length xs))) ∙ sets-append xs ys (set l i x) (suc i)
 
+-- so two runs of bytes, one after the other, are one: what the buffer is then, and the next place
+pub written-then : (a xs ys : List ℕ) (at : ℕ) {b c : List ℕ} {m n : ℕ} → b ≡ sets a at xs → m ≡ at + length xs → c ≡ sets b m ys → n ≡ m + length ys
+    → (c ≡ sets a at (xs ++ ys)) × (n ≡ at + length (xs ++ ys))
+written-then a xs ys at p q r s = (
+  r ∙ ap₂ (λ l k. sets l k ys) p q ∙ sets-append xs ys a at,
+  s ∙ ap (λ k. k + length ys) q ∙ add-assoc at (length xs) (length ys) ∙ ap (λ k. at + k) (sym (length-append xs ys)),
+)
+
 module _ {a : List ℕ} {at : ℕ} where
   -- nothing
   pub put-none : (most : ℕ) → Put a at [] most a at
@@ -25,9 +33,9 @@ module _ {a : List ℕ} {at : ℕ} where
 
   -- one piece after another
   pub put-then : {xs ys b c : List ℕ} {i j m n : ℕ} → Put a at xs i b m → Put b m ys j c n → Put a at (xs ++ ys) (i + j) c n
-  put-then {xs} {ys} p q = record {
-    buffer = q .buffer ∙ ap₂ (λ l k. sets l k ys) (p .buffer) (p .place) ∙ sets-append xs ys a at;
-    place = q .place ∙ ap (λ k. k + length ys) (p .place) ∙ add-assoc at (length xs) (length ys) ∙ ap (λ k. at + k) (sym (length-append xs ys));
+  put-then {xs} {ys} p q = let w = written-then a xs ys at (p .buffer) (p .place) (q .buffer) (q .place) in record {
+    buffer = w .0;
+    place = w .1;
     near = omega (arith, p .near, q .near);
     long = q .long ∙ p .long;
   }

@@ -1,15 +1,8 @@
 -- No second answer, and no second buffer, meets the contract of a public function. `Post` is the contract itself, as the function is proved to meet it.
-use mathlib.Core.Path.{_≡_}
-use mathlib.Core.List.{List}
-use Prim.Native.Nat.{ℕ}
 use denote.Ref.{now}
 use Rattle.laws.proofs.Only.{only}
+use Rattle.numerals.proofs.Unique.{DeterminesBytes}
 use Rattle.panel.proofs.panel.Reads as panel
-
--- at every call, two outcomes that meet the contract have the same result and leave the same bytes
-abbrev DeterminesBytes : {K : Type 0} {A R S : K → Type 0} → ((κs : K) → S κs → List ℕ) → ((κs : K) → A κs → R κs → S κs → Type 0) → Type 0
-DeterminesBytes {K} {A} {R} {S} bytes Post =
-    (κs : K) (a : A κs) (r q : R κs) (s t : S κs) → Post κs a r s → Post κs a q t → (r ≡ q) × (bytes κs s ≡ bytes κs t)
 
 -- the answer, and every byte of the lent buffer
 pub panel-determined : DeterminesBytes (λ κs s. now (s .1 .1 .0)) panel.Post

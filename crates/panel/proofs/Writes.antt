@@ -1,14 +1,15 @@
 -- Bytes written one after the other into a buffer.
 use Prim.Native.Nat.{ℕ, zero, suc, _+_, _≤_}
-use mathlib.Core.Path.{_≡_, refl, sym, ap, ap₂, _∙_}
+use mathlib.Core.Path.{_≡_, refl, sym, ap, _∙_}
 use mathlib.Core.List.{List, [], _∷_, _++_}
-use native.Mathlib.Nat.{add-zero, add-suc, suc-add, zero-add, add-assoc}
+use native.Mathlib.Nat.{add-zero, add-suc, suc-add, zero-add}
 use native.Mathlib.Numerals.{add-one}
 use native.Mathlib.Omega.{arith}
 use borrow.Author.Needs.{needs}
-use lib.ListN.{length, set, length-append}
-use lib.Seq.{sets, length-sets}
+use lib.ListN.{length, set}
+use lib.Seq.{length-sets}
 use Rattle.laws.specs.Tables.{tableFrom, table}
+use Rattle.numerals.proofs.Writes.{written-then}
 use Rattle.panel.specs.Panel.{join}
 use Rattle.panel.specs.Writes.{Wrote}
 
@@ -30,11 +31,6 @@ join-more n f = rw (add-one, join)
 
 -- ---- what is written after what was written
 
-sets-append : (xs ys l : List ℕ) (i : ℕ) → sets (sets l i xs) (i + length xs) ys ≡ sets l i (xs ++ ys)
-sets-append [] ys l i = ap (λ k. sets l k ys) (add-zero i)
-sets-append (x ∷ xs) ys l i =
-    ap (λ k. sets (sets (set l i x) (suc i) xs) k ys) (add-suc i (length xs) ∙ sym (suc-add i (length xs))) ∙ sets-append xs ys (set l i x) (suc i)
-
 module _ {a : List ℕ} {k : ℕ} where
   -- nothing; one byte; one run of bytes after another
   wrote-none : Wrote a k [] a k
@@ -44,10 +40,7 @@ module _ {a : List ℕ} {k : ℕ} where
   wrote-one x = record { buffer = refl; place = refl }
 
   pub wrote-then : {xs ys b c : List ℕ} {m n : ℕ} → Wrote a k xs b m → Wrote b m ys c n → Wrote a k (xs ++ ys) c n
-  wrote-then {xs} {ys} p q = record {
-    buffer = q .buffer ∙ ap₂ (λ l i. sets l i ys) (p .buffer) (p .place) ∙ sets-append xs ys a k;
-    place = q .place ∙ ap (λ i. i + length ys) (p .place) ∙ add-assoc k (length xs) (length ys) ∙ ap (λ i. k + i) (sym (length-append xs ys));
-  }
+  wrote-then {xs} {ys} p q = let w = written-then a xs ys k (p .buffer) (p .place) (q .buffer) (q .place) in record { buffer = w .0; place = w .1 }
 
   -- a buffer keeps its length
   pub wrote-length : {xs b : List ℕ} {m : ℕ} → Wrote a k xs b m → length b ≡ length a

@@ -2,7 +2,7 @@
 use Prim.Native.Nat.{_+_, _-_, _≤_}
 use mathlib.Core.Path.{_≡_}
 use lib.ListN.{length, take}
-use Rattle.event_file.specs.Writes.{Put}
+use Rattle.numerals.specs.Writes.{Put}
 use Rattle.event_file.proofs.Words.{words}
 use Rattle.event_file.proofs.frame.put_word.Statement.{statement}
 use Rattle.event_file.proofs.frame.put_word.Tie as tie

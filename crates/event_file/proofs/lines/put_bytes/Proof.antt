@@ -2,7 +2,7 @@
 use Prim.Native.Nat.{_-_, _*_, _≤_}
 use native.Mathlib.Omega.{arith}
 use Rattle.event_file.specs.Lines.{spaced}
-use Rattle.event_file.specs.Writes.{Put}
+use Rattle.numerals.specs.Writes.{Put}
 use Rattle.event_file.proofs.Numerals.{panels}
 use Rattle.event_file.proofs.lines.put_bytes.Statement.{statement}
 use Rattle.event_file.proofs.lines.put_bytes.Tie as tie

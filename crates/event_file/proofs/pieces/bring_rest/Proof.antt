@@ -3,7 +3,8 @@ use Prim.Native.Nat.{_+_, _-_}
 use mathlib.Core.Path.{_≡_}
 use native.Mathlib.Omega.{arith}
 use lib.ListN.{take}
-use Rattle.event_file.specs.Writes.{Put, rest}
+use Rattle.numerals.specs.Writes.{Put}
+use Rattle.event_file.specs.Writes.{rest}
 use Rattle.event_file.proofs.Rest.{rests}
 use Rattle.event_file.proofs.pieces.bring_rest.Statement.{statement}
 use Rattle.event_file.proofs.pieces.bring_rest.Tie as tie
