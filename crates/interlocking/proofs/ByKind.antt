@@ -11,11 +11,11 @@ use Rattle.laws.proofs.Choice.{if-eq, if-ne}
 use Rattle.laws.proofs.Tests.{and-right}
 use Rattle.track.specs.declared.Line.{Line}
 use Rattle.track.specs.Lists.{between}
-use Rattle.signals.specs.Readings.{recorded}
+use Rattle.tables.specs.Readings.{recorded}
 use Rattle.release.specs.declared.Gives.{Gives}
 use Rattle.layout.specs.declared.Layout.{Layout}
 use Rattle.reasons.specs.declared.Refusal.{Refusal}
-use Rattle.reasons.specs.Refusal.{none}
+use Rattle.reasons.specs.Refusal.{noRefusal}
 use Rattle.refusals.specs.Orders.{throwRefusal, setRefusal, cancelRefusal, secureRefusal, manualRefusal}
 use Rattle.refusals.specs.Events.{secondWrong}
 use Rattle.interlocking.specs.declared.State.{State}
@@ -50,7 +50,7 @@ module _ (L : Layout) (s : State) (k a : ℕ) (r : Refusal) where
   unfolding orderRefusal if_then_else_
   manual-refused = of-kind k (λ n. orderRefusal L s n a) 7
 
-  pub never-refused : (k ≡ 3 → ⊥) → (k ≡ 4 → ⊥) → (k ≡ 5 → ⊥) → (k ≡ 6 → ⊥) → (k ≡ 7 → ⊥) → r ≡ none → r ≡ orderRefusal L s k a
+  pub never-refused : (k ≡ 3 → ⊥) → (k ≡ 4 → ⊥) → (k ≡ 5 → ⊥) → (k ≡ 6 → ⊥) → (k ≡ 7 → ⊥) → r ≡ noRefusal → r ≡ orderRefusal L s k a
   unfolding orderRefusal
   never-refused h₃ h₄ h₅ h₆ h₇ e =
       if-ne k 3 _ _ r h₃ (if-ne k 4 _ _ r h₄ (if-ne k 5 _ _ r h₅ (if-ne k 6 _ _ r h₆ (if-ne k 7 _ _ r h₇ e))))

@@ -16,10 +16,12 @@ use Rattle.laws.proofs.Arrays.{read-in}
 use Rattle.track.specs.declared.Line.{Line}
 use Rattle.track.specs.declared.Route.{Route}
 use Rattle.track.specs.Objects.{line, route, noLine, noRoute, entrance}
-use Rattle.signals.specs.Readings.{reading}
-use Rattle.signals.specs.Signals.{place, isOpen, unbarred, linePlaced}
+use Rattle.tables.specs.Readings.{reading, linePlaced}
+use Rattle.tables.specs.Blocks.{place, isOpen, unbarred}
+use Rattle.tables.specs.Locks.{lockedExitBy, lockedExit}
+use Rattle.signals.specs.Signals.{enterableBy}
 use Rattle.passage.specs.Passage.{arrival, nextBlock, farSection, farStage}
-use Rattle.interlocking.specs.Settle.{lastBlock, exitLockedBy, exitLocked}
+use Rattle.interlocking.specs.Settle.{lastBlock}
 use Rattle.interlocking.specs.Far.{Tables, mainShows, blockShows, farShows, farDrops, farTo, farStageAt, passes, endsBy, directionBy}
 
 -- ---- a route and a line of the table, as the code reads them
@@ -40,7 +42,7 @@ module _ (directions points stages bars : List ℕ) (b : Line) (l i w d : ℕ) (
   unfolding blockShows _and_
   shows-other-way h = rw (ne-eqb (read 8 0 directions l) w (λ z. h (e ∙ z)))
 
-  pub shows-that-way : (r : Bool) → d ≡ w → r ≡ every (isOpen stages l i ∷ unbarred bars l i ∷ linePlaced points b ∷ [])
+  pub shows-that-way : (r : Bool) → d ≡ w → r ≡ enterableBy b points stages bars l i
       → r ≡ blockShows b directions points stages bars l i w
   unfolding blockShows _and_
   shows-that-way r h q = rw (eq-eqb (read 8 0 directions l) w (sym e ∙ h)) q
@@ -130,9 +132,9 @@ module _ (b : Line) (w r : ℕ) where
   last-there h q = if-eq w 1 _ _ r h q
 
 pub exit-at : (rs : List Route) (phases : List ℕ) (k r n : ℕ) (d : Route) {v : Bool} → length rs ≡ 48 → r < n → n ≤ 48
-    → v ≡ exitLockedBy phases (getD rs r d) k r → v ≡ exitLocked rs phases k r
-unfolding exitLocked
-exit-at rs phases k r n d q b few e = e ∙ ap (λ (a : Route). exitLockedBy phases a k r) (route-in rs r n d q b few)
+    → v ≡ lockedExitBy phases (getD rs r d) k r → v ≡ lockedExit rs phases k r
+unfolding lockedExit
+exit-at rs phases k r n d q b few e = e ∙ ap (λ (a : Route). lockedExitBy phases a k r) (route-in rs r n d q b few)
 
 -- by the test at which it fails
 module _ (b : Line) (n : ℕ) (rs : List Route) (before stages bars phases : List ℕ) (k w : ℕ) (v : Bool)
@@ -146,7 +148,7 @@ module _ (b : Line) (n : ℕ) (rs : List Route) (before stages bars phases : Lis
     unfolding endsBy
     ends-held g = every-passes _ _ v _ false p h (every-stops _ _ u q g)
 
-    pub ends-unless-locked : (x : Bool) → x ≡ any n (exitLocked rs phases k) → not u ≡ false → not x ≡ endsBy b n rs before stages bars phases k w
+    pub ends-unless-locked : (x : Bool) → x ≡ any n (lockedExit rs phases k) → not u ≡ false → not x ≡ endsBy b n rs before stages bars phases k w
     unfolding endsBy
     ends-unless-locked x r g = every-passes _ _ v _ (not x) p h (every-passes _ _ u _ (not x) q g (every-last _ (not x) (ap not r)))
 

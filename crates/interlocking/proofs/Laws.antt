@@ -14,8 +14,8 @@ use Rattle.laws.proofs.Choice.{if-true, if-false, if-eq, if-ne}
 use Rattle.laws.proofs.Each.{put-set}
 use Rattle.track.specs.declared.Line.{Line}
 use Rattle.track.specs.Objects.{line}
-use Rattle.signals.specs.Readings.{lies}
-use Rattle.signals.specs.Signals.{place}
+use Rattle.tables.specs.Readings.{lies}
+use Rattle.tables.specs.Blocks.{place}
 use Rattle.passage.specs.Passage.{ownStage}
 use Rattle.interlocking.specs.declared.State.{State}
 use Rattle.interlocking.specs.State.{codes, routesInRange, withSections, withPoints, withRoutes, withLines, withBars}

@@ -17,7 +17,7 @@ use Rattle.laws.proofs.Each.{Redone, each-at, each-past, length-each, each-over
 use Rattle.track.specs.declared.Line.{Line}
 use Rattle.track.specs.declared.Route.{Route}
 use Rattle.track.specs.Objects.{line, route, entrance}
-use Rattle.signals.specs.Readings.{reading}
+use Rattle.tables.specs.Readings.{reading}
 use Rattle.signals.specs.Signals.{clear, fallen, enterable, routeProceeds, mainProceeds, blockProceeds}
 use Rattle.passage.specs.Passage.{arrival, nextBlock, farSection, farStage}
 use Rattle.release.specs.declared.Gives.{Gives}

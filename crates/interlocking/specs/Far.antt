@@ -9,11 +9,14 @@ use Rattle.laws.specs.Tests.{_and_, every, all, any}
 use Rattle.laws.specs.Tables.{read}
 use Rattle.track.specs.declared.Line.{Line}
 use Rattle.track.specs.declared.Route.{Route}
+use Rattle.track.specs.Codes.{neutral, stage0, stage2, atProceed}
 use Rattle.track.specs.Objects.{line, entrance}
-use Rattle.signals.specs.Readings.{reading}
-use Rattle.signals.specs.Signals.{place, isOpen, unbarred, linePlaced}
+use Rattle.tables.specs.Readings.{reading}
+use Rattle.tables.specs.Blocks.{place, isOpen, unbarred}
+use Rattle.tables.specs.Locks.{direction, phase, lockedExit}
+use Rattle.signals.specs.Signals.{enterableBy}
 use Rattle.passage.specs.Passage.{arrival, nextBlock, farSection, farStage}
-use Rattle.interlocking.specs.Settle.{lastBlock, exitLocked}
+use Rattle.interlocking.specs.Settle.{lastBlock}
 
 -- what signals go by: the phases of routes, the directions of lines, what points read, the stages and bars of blocks
 pub record Tables : Type 0 where
@@ -23,18 +26,18 @@ pub record Tables : Type 0 where
   pub stages : List ℕ
   pub bars : List ℕ
 
--- route r is in phase 1 and starts at signal x; entries has the signal at which each route starts
+-- route r starts at signal x, which is at proceed for it; entries has the signal at which each route starts
 unfoldable pub entryShows : List ℕ → List ℕ → ℕ → ℕ → Bool
-entryShows entries phases x r = eqb (read 48 0 phases r) 1 and eqb (read 48 0 entries r) x
+entryShows entries phases x r = eqb (phase phases r) atProceed and eqb (read 48 0 entries r) x
 
--- a main signal shows proceed: one of the n routes that start at it is in phase 1
+-- a main signal shows proceed: for one of the n routes
 unfoldable pub mainShows : ℕ → List ℕ → List ℕ → ℕ → Bool
 mainShows n entries phases x = any n (entryShows entries phases x)
 
 -- the block signal into block i of line l for direction w shows proceed
 unfoldable pub blockShows : Line → List ℕ → List ℕ → List ℕ → List ℕ → ℕ → ℕ → ℕ → Bool
 blockShows b directions points stages bars l i w =
-    eqb (read 8 0 directions l) w and every (isOpen stages l i ∷ unbarred bars l i ∷ linePlaced points b ∷ [])
+    eqb (direction directions l) w and enterableBy b points stages bars l i
 
 -- the far signal of block i of line l in direction w shows proceed
 unfoldable pub farShows : Line → ℕ → List ℕ → Tables → ℕ → ℕ → ℕ → Bool
@@ -53,20 +56,20 @@ farTo b n entries sections before t k w was =
 
 unfoldable pub farStageAt : List Line → ℕ → List ℕ → List ℕ → Tables → Tables → ℕ → ℕ → ℕ
 farStageAt ls n entries sections before t k was =
-    if eqb (read 8 0 (t .directions) (k / 8)) 0 then was
-    else farTo (line ls (k / 8)) n entries sections before t k (read 8 0 (t .directions) (k / 8)) was
+    if eqb (direction (t .directions) (k / 8)) neutral then was
+    else farTo (line ls (k / 8)) n entries sections before t k (direction (t .directions) (k / 8)) was
 
 -- block i of line l is open and not barred
 unfoldable pub passes : List ℕ → List ℕ → ℕ → ℕ → Bool
 passes stages bars l i = isOpen stages l i and unbarred bars l i
 
--- line l, secured in direction w, becomes neutral; before has the stages before the event, in which code 3 is stage 2
+-- line l, secured in direction w, becomes neutral; before has the stages before the event
 unfoldable pub endsBy : Line → ℕ → List Route → List ℕ → List ℕ → List ℕ → List ℕ → ℕ → ℕ → Bool
 endsBy b n rs before stages bars phases l w = every (
-    eqb (read 64 1 before (place l (lastBlock b w))) 3
+    eqb (read 64 stage0 before (place l (lastBlock b w))) stage2
     ∷ all (b .blocks) (passes stages bars l)
-    ∷ not (any n (exitLocked rs phases l))
+    ∷ not (any n (lockedExit rs phases l))
     ∷ [])
 
 unfoldable pub directionBy : Line → ℕ → List Route → List ℕ → List ℕ → List ℕ → List ℕ → ℕ → ℕ → ℕ
-directionBy b n rs before stages bars phases l was = if eqb was 0 then was else if endsBy b n rs before stages bars phases l was then 0 else was
+directionBy b n rs before stages bars phases l was = if eqb was neutral then was else if endsBy b n rs before stages bars phases l was then neutral else was

@@ -8,9 +8,10 @@ use Rattle.laws.specs.Choice.{if_then_else_}
 use Rattle.laws.specs.Tests.{_and_}
 use Rattle.laws.specs.Tables.{each, put}
 use Rattle.track.specs.declared.Line.{Line}
+use Rattle.track.specs.Codes.{none, neutral, openBlock, atProceed, cancelling}
 use Rattle.track.specs.Objects.{line}
-use Rattle.signals.specs.Readings.{lies}
-use Rattle.signals.specs.Signals.{place}
+use Rattle.tables.specs.Readings.{lies}
+use Rattle.tables.specs.Blocks.{place}
 use Rattle.passage.specs.Passage.{ownStage}
 use Rattle.interlocking.specs.declared.State.{State}
 use Rattle.interlocking.specs.State.{withSections, withPoints, withRoutes, withLines, withBars}
@@ -33,18 +34,18 @@ ownPoint s p v = withPoints s (put 32 (s .point) p v) (s .order)
 
 -- 3: a throw stores the order; the point reads none afterwards unless it already read that position
 unfoldable pub throwReading : List ℕ → ℕ → ℕ → ℕ
-throwReading points p w = if eqb (lies points p) w then w else 3
+throwReading points p w = if eqb (lies points p) w then w else none
 
 unfoldable pub ownThrow : State → ℕ → ℕ → State
 ownThrow s p w = withPoints s (put 32 (s .point) p (throwReading (s .point) p w)) (put 32 (s .order) p w)
 
 -- 4: a set route locks at once and its signal shows proceed
 unfoldable pub ownSet : State → ℕ → State
-ownSet s r = withRoutes s (put 48 (s .phase) r 1) (put 48 (s .step) r 0) (put 48 (s .second) r 0)
+ownSet s r = withRoutes s (put 48 (s .phase) r atProceed) (put 48 (s .step) r 0) (put 48 (s .second) r 0)
 
 -- 5: cancel drops the signal at once, and the seconds begin
 unfoldable pub ownCancel : State → ℕ → State
-ownCancel s r = withRoutes s (put 48 (s .phase) r 3) (s .step) (put 48 (s .second) r 0)
+ownCancel s r = withRoutes s (put 48 (s .phase) r cancelling) (s .step) (put 48 (s .second) r 0)
 
 -- 6: the line is secured
 unfoldable pub ownSecure : State → ℕ → ℕ → State
@@ -52,10 +53,10 @@ ownSecure s l w = withLines s (put 8 (s .direction) l w) (s .stage)
 
 -- 7: manual release makes every block of line l open and the line neutral; bars stay
 unfoldable pub openAt : List Line → ℕ → ℕ → ℕ → ℕ
-openAt ls l k was = if eqb (k / 8) l and ltb (k % 8) (line ls l .blocks) then 0 else was
+openAt ls l k was = if eqb (k / 8) l and ltb (k % 8) (line ls l .blocks) then openBlock else was
 
 unfoldable pub ownManual : List Line → ℕ → State → ℕ → State
-ownManual ls n s l = withLines s (put 8 (s .direction) l 0) (each (8 * n) (openAt ls l) (s .stage))
+ownManual ls n s l = withLines s (put 8 (s .direction) l neutral) (each (8 * n) (openAt ls l) (s .stage))
 
 -- 8, 9: a bar is set, 1, or cleared, 0
 unfoldable pub ownBar : State → ℕ → ℕ → ℕ → State

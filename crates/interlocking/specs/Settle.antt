@@ -8,9 +8,12 @@ use Rattle.laws.specs.Tests.{_and_, every, all, any}
 use Rattle.laws.specs.Tables.{each, read}
 use Rattle.track.specs.declared.Line.{Line}
 use Rattle.track.specs.declared.Route.{Route}
+use Rattle.track.specs.Codes.{neutral, aToB, stage0, stage2, idle}
 use Rattle.track.specs.Objects.{line, route, entrance}
-use Rattle.signals.specs.Readings.{reading}
-use Rattle.signals.specs.Signals.{place, fallen, isOpen, unbarred, mainProceeds, blockProceeds}
+use Rattle.tables.specs.Readings.{reading}
+use Rattle.tables.specs.Blocks.{place, isOpen, unbarred}
+use Rattle.tables.specs.Locks.{direction, phase, lockedExit}
+use Rattle.signals.specs.Signals.{fallen, mainProceeds, blockProceeds}
 use Rattle.passage.specs.Passage.{arrival, nextBlock, farSection, farStage}
 use Rattle.release.specs.declared.Gives.{Gives}
 use Rattle.release.specs.declared.Held.{Held}
@@ -55,7 +58,7 @@ farMoved L before s k w was = farStage (farReading L s (k / 8) (k % 8) w) (farDr
 
 unfoldable pub farAfter : Layout → State → State → ℕ → ℕ → ℕ
 farAfter L before s k was =
-    if eqb (read 8 0 (s .direction) (k / 8)) 0 then was else farMoved L before s k (read 8 0 (s .direction) (k / 8)) was
+    if eqb (direction (s .direction) (k / 8)) neutral then was else farMoved L before s k (direction (s .direction) (k / 8)) was
 
 -- all blocks
 unfoldable pub farSections : Layout → State → State → State
@@ -65,14 +68,14 @@ farSections L before s = withLines s (s .direction) (each (8 * L .lines) (farAft
 
 -- what the state holds of route r, and what becomes of it
 unfoldable pub heldOf : State → ℕ → Held
-heldOf s r = record { phase = read 48 0 (s .phase) r; step = read 48 0 (s .step) r; second = read 48 0 (s .second) r }
+heldOf s r = record { phase = phase (s .phase) r; step = read 48 0 (s .step) r; second = read 48 0 (s .second) r }
 
 unfoldable pub routeAfter : List Line → List Route → State → Gives → ℕ → Held
 routeAfter ls rs s e r = heldAfter ls (s .section) (route rs r) e (heldOf s r)
 
 -- a route that is not idle takes what becomes of it; an idle one stays as it is
 unfoldable pub unlessIdle : State → ℕ → ℕ → ℕ → ℕ
-unlessIdle s r was x = if eqb (read 48 0 (s .phase) r) 0 then was else x
+unlessIdle s r was x = if eqb (phase (s .phase) r) idle then was else x
 
 -- n routes: phase, step and seconds
 unfoldable pub routesBy : List Line → List Route → ℕ → State → Gives → State
@@ -90,34 +93,27 @@ routes L s e = routesBy (L .line) (L .route) (L .routes) s e
 
 -- the last block in travel
 unfoldable pub lastBlock : Line → ℕ → ℕ
-lastBlock b w = if eqb w 1 then b .blocks - 1 else 0
-
--- route r is a locked exit route of line l
-unfoldable pub exitLockedBy : List ℕ → Route → ℕ → ℕ → Bool
-exitLockedBy phases a l r = not (eqb (read 48 0 phases r) 0) and (eqb (a .kind) 2 and eqb (a .line) l)
-
-unfoldable pub exitLocked : List Route → List ℕ → ℕ → ℕ → Bool
-exitLocked rs phases l r = exitLockedBy phases (route rs r) l r
+lastBlock b w = if eqb w aToB then b .blocks - 1 else 0
 
 -- block i of line l is open and not barred
 unfoldable pub passable : State → ℕ → ℕ → Bool
 passable s l i = isOpen (s .stage) l i and unbarred (s .bar) l i
 
--- the last block in travel was in stage 2, of which the code is 3
+-- the last block in travel was in stage 2
 unfoldable pub wasPassed : State → Line → ℕ → ℕ → Bool
-wasPassed before b l w = eqb (read 64 1 (before .stage) (place l (lastBlock b w))) 3
+wasPassed before b l w = eqb (read 64 stage0 (before .stage) (place l (lastBlock b w))) stage2
 
 -- the last block in travel went from stage 2 to open, every block is open, no block is barred, no exit route of the line is locked
 unfoldable pub ends : Layout → State → State → ℕ → ℕ → Bool
 ends L before s l w = every (
     wasPassed before (line (L .line) l) l w
     ∷ all (line (L .line) l .blocks) (passable s l)
-    ∷ not (any (L .routes) (exitLocked (L .route) (s .phase) l))
+    ∷ not (any (L .routes) (lockedExit (L .route) (s .phase) l))
     ∷ [])
 
 -- the line becomes neutral
 unfoldable pub directionAfter : Layout → State → State → ℕ → ℕ → ℕ
-directionAfter L before s l was = if eqb was 0 then was else if ends L before s l was then 0 else was
+directionAfter L before s l was = if eqb was neutral then was else if ends L before s l was then neutral else was
 
 unfoldable pub lineRelease : Layout → State → State → State
 lineRelease L before s = withLines s (each (L .lines) (directionAfter L before s) (s .direction)) (s .stage)

@@ -6,12 +6,12 @@ use lib.Dec.{eqb, leb}
 use Rattle.laws.specs.Choice.{if_then_else_}
 use Rattle.laws.specs.Tests.{_and_}
 use Rattle.track.specs.declared.Line.{Line}
-use Rattle.signals.specs.Readings.{recorded}
+use Rattle.tables.specs.Readings.{recorded}
 use Rattle.release.specs.declared.Gives.{Gives}
 use Rattle.layout.specs.declared.Layout.{Layout}
 use Rattle.layout.specs.Sound.{sound}
 use Rattle.reasons.specs.declared.Refusal.{Refusal}
-use Rattle.reasons.specs.Refusal.{none, firstOf}
+use Rattle.reasons.specs.Refusal.{noRefusal, firstOf}
 use Rattle.refusals.specs.Orders.{throwRefusal, setRefusal, cancelRefusal, secureRefusal, manualRefusal}
 use Rattle.refusals.specs.Events.{eventRefusal}
 use Rattle.interlocking.specs.declared.State.{State}
@@ -30,7 +30,7 @@ orderRefusal L s k a =
     else if eqb k 5 then cancelRefusal (s .phase) a
     else if eqb k 6 then secureRefusal (L .line) (s .point) (s .direction) (s .stage) (s .bar) a
     else if eqb k 7 then manualRefusal L (s .section) (s .phase) a
-    else none
+    else noRefusal
 
 -- the order of refusals: 18, 1, 2, 3, then per kind
 unfoldable pub refusal : Bool → Layout → State → ℕ → ℕ → ℕ → Refusal

@@ -1,22 +1,27 @@
 // Lines become neutral, over the tables of a state that are lent.
-use super::settle::entry_of;
+use tables::is_locked_exit;
 use track::Line;
 use track::Route;
+use track::codes::A_TO_B;
+use track::codes::NEUTRAL;
+use track::codes::STAGE_2;
 ghost use mathlib.Core.Path.{_≡_};
 ghost use lib.Dec.{eqb};
 ghost use Prim.Native.Nat.{_≤_};
 ghost use Rattle.laws.specs.Tests.{all, any};
 ghost use Rattle.laws.specs.Tables.{each, read};
+ghost use Rattle.track.specs.Codes.{stage0, stage2};
 ghost use Rattle.track.specs.Objects.{line};
-ghost use Rattle.signals.specs.Signals.{place};
-ghost use Rattle.interlocking.specs.Settle.{lastBlock, exitLocked, exitLockedBy};
+ghost use Rattle.tables.specs.Blocks.{place};
+ghost use Rattle.tables.specs.Locks.{lockedExit};
+ghost use Rattle.interlocking.specs.Settle.{lastBlock};
 ghost use Rattle.interlocking.specs.Far.{passes, endsBy, directionBy};
 
 // The last block in travel.
 fn last_block(b: Line, w: u8) -> u8
     ensures { λ i. ⌜ i ≡ lastBlock b w ⌝ }
 {
-    if w != 1 {
+    if w != A_TO_B {
         return 0;
     }
     if b.blocks == 0 {
@@ -29,8 +34,8 @@ fn last_block(b: Line, w: u8) -> u8
 fn is_passable<'a>(stages: &'a [u8; 64], bars: &'a [u8; 64], k: u8, i: u8) -> bool
     ensures { λ x. ⌜ x ≡ passes (now (stages .entry)) (now (bars .entry)) k i ⌝ }
 {
-    let open = signals::is_open(stages, k, i);
-    let free = signals::is_unbarred(bars, k, i);
+    let open = tables::is_open(stages, k, i);
+    let free = tables::is_unbarred(bars, k, i);
     open & free
 }
 
@@ -48,23 +53,15 @@ fn all_passable<'a>(stages: &'a [u8; 64], bars: &'a [u8; 64], k: u8, n: u8) -> b
     true
 }
 
-// The route r, of which the record is a, is a locked exit route of line k.
-fn is_exit_locked(phases: &[u8; 48], a: Route, k: u8, r: u8) -> bool
-    ensures { λ x. ⌜ x ≡ exitLockedBy (now (phases .entry)) a k r ⌝ }
-{
-    let p = entry_of(phases, r);
-    !(p == 0) & ((a.kind == 2) & (a.line == k))
-}
-
 // One of the first n routes is a locked exit route of line k.
 fn some_exit_locked(rs: [Route; 48], n: u8, phases: &[u8; 48], k: u8) -> bool
     requires { ⌜ n ≤ 48 ⌝ }
-    ensures { λ x. ⌜ x ≡ any n (exitLocked rs (now (phases .entry)) k) ⌝ }
+    ensures { λ x. ⌜ x ≡ any n (lockedExit rs (now (phases .entry)) k) ⌝ }
 {
     let mut r: u8 = 0;
     while r < n {
         let a = rs[r as usize];
-        if is_exit_locked(phases, a, k, r) {
+        if is_locked_exit(phases, a, k, r) {
             return true;
         }
         r += 1;
@@ -74,10 +71,10 @@ fn some_exit_locked(rs: [Route; 48], n: u8, phases: &[u8; 48], k: u8) -> bool
 
 // The last block in travel was in stage 2 before the event.
 fn was_in_stage_2(before: &[u8; 64], b: Line, k: u8, w: u8) -> bool
-    ensures { λ x. ⌜ x ≡ eqb (read 64 1 (now (before .entry)) (place k (lastBlock b w))) 3 ⌝ }
+    ensures { λ x. ⌜ x ≡ eqb (read 64 stage0 (now (before .entry)) (place k (lastBlock b w))) stage2 ⌝ }
 {
     let i = last_block(b, w);
-    signals::held_at(before, k, i) == 3
+    tables::held_at(before, k, i) == STAGE_2
 }
 
 // Line k, secured in direction w, becomes neutral. The rest is asked only where the last block in travel was in stage 2.
@@ -119,11 +116,11 @@ fn direction_after<'a>(
     requires { ⌜ n ≤ 48 ⌝ }
     ensures { λ x. ⌜ x ≡ directionBy b n rs (now (before .entry)) (now (stages .entry)) (now (bars .entry)) (now (phases .entry)) k was ⌝ }
 {
-    if was == 0 {
+    if was == NEUTRAL {
         return was;
     }
     if is_ended(b, n, rs, before, stages, bars, phases, k, was) {
-        return 0;
+        return NEUTRAL;
     }
     was
 }

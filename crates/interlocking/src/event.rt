@@ -8,8 +8,9 @@ use layout::Layout;
 use reasons::Refusal;
 use release::Gives;
 use release::Held;
-use signals::reading_for;
+use tables::reading_for;
 use track::Line;
+use track::codes::IDLE;
 ghost use mathlib.Core.Path.{_≡_};
 ghost use mathlib.Core.Bool.{true};
 ghost use Prim.Native.Nat.{_≤_};
@@ -44,7 +45,7 @@ fn order_refusal(l: Layout, s: State, k: u8, a: u8) -> Refusal
     if k == 7 {
         return refusals::manual_refusal(l, &s.section, &s.phase, a);
     }
-    reasons::none()
+    reasons::no_refusal()
 }
 
 // What an accepted event gives.
@@ -164,7 +165,7 @@ pub fn event_answered(
     while r < n {
         let a = rs[r as usize];
         entry[r as usize] = a.entry;
-        if s.phase[r as usize] == 0 {
+        if s.phase[r as usize] == IDLE {
             r += 1;
             continue;
         }

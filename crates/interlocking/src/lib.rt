@@ -8,13 +8,16 @@ mod stores;
 
 use event::event_answered;
 use layout::Layout;
+use track::codes::IDLE;
+use track::codes::NEUTRAL;
+use track::codes::NONE;
+use track::codes::STAGE_0;
 ghost use mathlib.Core.Path.{_≡_};
 ghost use Rattle.interlocking.specs.State.{cold, inRange};
 ghost use Rattle.interlocking.specs.Step.{step, stepInRun};
 
-// A code for each section, point, route, line and block. section, point: 1 free or left, 2 occupied or right, 3 none. order: 0 none, 1, 2.
-// phase: 0 idle, 1 locked and its signal at proceed, 2 locked and fallen, 3 cancelling. direction: 0 neutral, 1 A to B, 2 B to A.
-// stage and bar stand at 8 * line + block; stage: 0 open, 1 2 3 held in stage 0 1 2.
+// A code for each section, point, route, line and block, as `track::codes` has them: what sections and points read, the order of a point (0 none,
+// 1, 2), the phase, the steps done and the seconds counted of a route, the direction of a line, the stage and the bar of a block, at 8 * line + block.
 #[repr(C)]
 pub struct State {
     pub section: [u8; 64],
@@ -41,14 +44,14 @@ impl State {
         ensures { λ s. ⌜ s ≡ cold ⌝ }
     {
         State {
-            section: [3; 64],
-            point: [3; 32],
+            section: [NONE; 64],
+            point: [NONE; 32],
             order: [0; 32],
-            phase: [0; 48],
+            phase: [IDLE; 48],
             step: [0; 48],
             second: [0; 48],
-            direction: [0; 8],
-            stage: [1; 64],
+            direction: [NEUTRAL; 8],
+            stage: [STAGE_0; 64],
             bar: [0; 64],
         }
     }

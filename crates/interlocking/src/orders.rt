@@ -1,10 +1,12 @@
 // What an accepted event itself does to the state.
 use super::State;
-use super::stores::put8;
-use super::stores::put32;
-use super::stores::put48;
-use super::stores::put64;
+use super::stores::store;
 use track::Line;
+use track::codes::AT_PROCEED;
+use track::codes::CANCELLING;
+use track::codes::NEUTRAL;
+use track::codes::NONE;
+use track::codes::OPEN;
 ghost use mathlib.Core.Path.{_≡_};
 ghost use Prim.Native.Nat.{_≤_};
 ghost use lib.Dec.{eqb, ltb};
@@ -49,8 +51,8 @@ pub fn read_section(s: State, n: u8, ls: [Line; 8], g: u8, v: u8) -> State
     requires { ⌜ n ≤ 8 ⌝ }
     ensures { λ t. ⌜ t ≡ ownSection ls n s g v ⌝ }
 {
-    let old = s.section;
-    let section = put64(old, g as usize, v);
+    let mut section = s.section;
+    store(&mut section, 64, g as usize, v);
     let stages = s.stage;
     let stage = stages_after(stages, 8 * n, ls, g, v);
     let mut t = s;
@@ -63,8 +65,8 @@ pub fn read_section(s: State, n: u8, ls: [Line; 8], g: u8, v: u8) -> State
 pub fn read_point(s: State, p: u8, v: u8) -> State
     ensures { λ t. ⌜ t ≡ ownPoint s p v ⌝ }
 {
-    let old = s.point;
-    let point = put32(old, p, v);
+    let mut point = s.point;
+    store(&mut point, 32, p as usize, v);
     let mut t = s;
     t.point = point;
     t
@@ -74,12 +76,12 @@ pub fn read_point(s: State, p: u8, v: u8) -> State
 pub fn lock(s: State, r: u8) -> State
     ensures { λ t. ⌜ t ≡ ownSet s r ⌝ }
 {
-    let phases = s.phase;
-    let steps = s.step;
-    let seconds = s.second;
-    let phase = put48(phases, r, 1);
-    let step = put48(steps, r, 0);
-    let second = put48(seconds, r, 0);
+    let mut phase = s.phase;
+    let mut step = s.step;
+    let mut second = s.second;
+    store(&mut phase, 48, r as usize, AT_PROCEED);
+    store(&mut step, 48, r as usize, 0);
+    store(&mut second, 48, r as usize, 0);
     let mut t = s;
     t.phase = phase;
     t.step = step;
@@ -91,10 +93,10 @@ pub fn lock(s: State, r: u8) -> State
 pub fn cancel(s: State, r: u8) -> State
     ensures { λ t. ⌜ t ≡ ownCancel s r ⌝ }
 {
-    let phases = s.phase;
-    let seconds = s.second;
-    let phase = put48(phases, r, 3);
-    let second = put48(seconds, r, 0);
+    let mut phase = s.phase;
+    let mut second = s.second;
+    store(&mut phase, 48, r as usize, CANCELLING);
+    store(&mut second, 48, r as usize, 0);
     let mut t = s;
     t.phase = phase;
     t.second = second;
@@ -105,8 +107,8 @@ pub fn cancel(s: State, r: u8) -> State
 pub fn secure(s: State, l: u8, w: u8) -> State
     ensures { λ t. ⌜ t ≡ ownSecure s l w ⌝ }
 {
-    let old = s.direction;
-    let direction = put8(old, l, w);
+    let mut direction = s.direction;
+    store(&mut direction, 8, l as usize, w);
     let mut t = s;
     t.direction = direction;
     t
@@ -118,7 +120,7 @@ fn opened_at(ls: [Line; 8], l: u8, k: u8, was: u8) -> u8
 {
     let b = track::line_at(ls, l);
     if (k / 8 == l) & (k % 8 < b.blocks) {
-        return 0;
+        return OPEN;
     }
     was
 }
@@ -143,8 +145,8 @@ pub fn release_by_hand(s: State, n: u8, ls: [Line; 8], l: u8) -> State
     requires { ⌜ n ≤ 8 ⌝ }
     ensures { λ t. ⌜ t ≡ ownManual ls n s l ⌝ }
 {
-    let old = s.direction;
-    let direction = put8(old, l, 0);
+    let mut direction = s.direction;
+    store(&mut direction, 8, l as usize, NEUTRAL);
     let stages = s.stage;
     let stage = opened_stages(stages, 8 * n, ls, l);
     let mut t = s;
@@ -158,8 +160,8 @@ pub fn set_bar(s: State, l: u8, i: u32, on: u8) -> State
     ensures { λ t. ⌜ t ≡ ownBar s l i on ⌝ }
 {
     let k = 8 * (l as usize) + (i as usize);
-    let old = s.bar;
-    let bar = put64(old, k, on);
+    let mut bar = s.bar;
+    store(&mut bar, 64, k, on);
     let mut t = s;
     t.bar = bar;
     t
@@ -169,10 +171,10 @@ pub fn set_bar(s: State, l: u8, i: u32, on: u8) -> State
 fn thrown_reading(points: &[u8; 32], p: u8, w: u8) -> u8
     ensures { λ x. ⌜ x ≡ throwReading (now (points .entry)) p w ⌝ }
 {
-    if signals::point_reads(points, p) == w {
+    if tables::point_reads(points, p) == w {
         return w;
     }
-    3
+    NONE
 }
 
 // 3: point p is thrown to w: the order is stored.
@@ -180,10 +182,10 @@ pub fn throw(s: State, p: u8, w: u8) -> State
     ensures { λ t. ⌜ t ≡ ownThrow s p w ⌝ }
 {
     let x = thrown_reading(&s.point, p, w);
-    let points = s.point;
-    let orders = s.order;
-    let point = put32(points, p, x);
-    let order = put32(orders, p, w);
+    let mut point = s.point;
+    let mut order = s.order;
+    store(&mut point, 32, p as usize, x);
+    store(&mut order, 32, p as usize, w);
     let mut t = s;
     t.point = point;
     t.order = order;

@@ -1,40 +1,36 @@
 // Far sections, over the tables of a state that are lent: those before the event (old_) and those of now.
+use tables::direction_of;
+use tables::phase_of;
 use track::Line;
+use track::codes::AT_PROCEED;
+use track::codes::NEUTRAL;
+use track::codes::OCCUPIED;
+use track::codes::STAGE_1;
 ghost use mathlib.Core.Path.{_≡_};
 ghost use Prim.Native.Nat.{_≤_};
 ghost use Rattle.laws.specs.Tables.{each, read};
 ghost use Rattle.track.specs.Objects.{entrance};
-ghost use Rattle.signals.specs.Readings.{reading};
+ghost use Rattle.tables.specs.Readings.{reading};
 ghost use Rattle.passage.specs.Passage.{arrival, farSection};
 ghost use Rattle.interlocking.specs.Far.{entryShows, mainShows, blockShows, farShows, farDrops, farStageAt};
 
-// The direction of line l, 0 where there is no such line.
-fn direction_of(directions: &[u8; 8], l: u8) -> u8
-    ensures { λ w. ⌜ w ≡ read 8 0 (now (directions .entry)) l ⌝ }
-{
-    if l < 8 {
-        return directions[l as usize];
-    }
-    0
-}
-
-// The entry of route r in a table of routes, 0 where there is no such route.
-pub fn entry_of(table: &[u8; 48], r: u8) -> u8
-    ensures { λ x. ⌜ x ≡ read 48 0 (now (table .entry)) r ⌝ }
+// The signal at which route r starts, 0 where there is no such route.
+fn entry_of(entries: &[u8; 48], r: u8) -> u8
+    ensures { λ x. ⌜ x ≡ read 48 0 (now (entries .entry)) r ⌝ }
 {
     if r < 48 {
-        return table[r as usize];
+        return entries[r as usize];
     }
     0
 }
 
-// Route r starts at signal x and is in phase 1.
+// Route r starts at signal x, which is at proceed for it.
 fn route_proceeds<'a>(entries: &'a [u8; 48], phases: &'a [u8; 48], r: u8, x: u8) -> bool
     ensures { λ b. ⌜ b ≡ entryShows (now (entries .entry)) (now (phases .entry)) x r ⌝ }
 {
-    let p = entry_of(phases, r);
+    let p = phase_of(phases, r);
     let e = entry_of(entries, r);
-    (p == 1) & (e == x)
+    (p == AT_PROCEED) & (e == x)
 }
 
 // A main signal shows proceed; entries has the signal at which each of the n routes starts.
@@ -160,7 +156,7 @@ fn far_reading(b: Line, sections: &[u8; 64], i: u8, w: u8) -> u8
     ensures { λ x. ⌜ x ≡ reading (now (sections .entry)) (farSection b w i) ⌝ }
 {
     let g = passage::far_section(b, w, i);
-    signals::section_reads(sections, g)
+    tables::section_reads(sections, g)
 }
 
 // The stages of the first m places. An open block, one held in stage 0, and one of a neutral line are left at once;
@@ -190,18 +186,18 @@ pub fn far_stages<'a>(
     let mut k: u8 = 0;
     while k < m {
         let was = stage[k as usize];
-        if was < 2 {
+        if was < STAGE_1 {
             k += 1;
             continue;
         }
         let w = direction_of(directions, k / 8);
-        if w == 0 {
+        if w == NEUTRAL {
             k += 1;
             continue;
         }
         let b = ls[(k / 8) as usize];
         let far = far_reading(b, sections, k % 8, w);
-        if (was == 2) & (far == 2) {
+        if (was == STAGE_1) & (far == OCCUPIED) {
             let dropped = far_dropped(
                 b,
                 n,

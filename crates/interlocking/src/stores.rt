@@ -1,51 +1,14 @@
-// One store into a table of a state; past the table's end nothing is stored.
+// One store into a table of a state.
 ghost use mathlib.Core.Path.{_≡_};
+ghost use lib.ListN.{length};
 ghost use Rattle.laws.specs.Tables.{put};
 
-// A table of 64 with v at place a.
-pub fn put64(xs: [u8; 64], a: usize, v: u8) -> [u8; 64]
-    ensures { λ ys. ⌜ ys ≡ put 64 xs a v ⌝ }
+// A table of n gets v at place a; past its end nothing is stored.
+pub fn store(xs: &mut [u8], n: usize, a: usize, v: u8)
+    requires { ⌜ length (now xs) ≡ n ⌝ }
+    ensures { λ _. ⌜ now (xs .exit) ≡ put n (now (xs .entry)) a v ⌝ }
 {
-    if 64 <= a {
-        return xs;
+    if a < n {
+        xs[a] = v;
     }
-    let mut ys = xs;
-    ys[a] = v;
-    ys
-}
-
-// A table of 48 with v at place a.
-pub fn put48(xs: [u8; 48], a: u8, v: u8) -> [u8; 48]
-    ensures { λ ys. ⌜ ys ≡ put 48 xs a v ⌝ }
-{
-    if 48 <= a {
-        return xs;
-    }
-    let mut ys = xs;
-    ys[a as usize] = v;
-    ys
-}
-
-// A table of 32 with v at place a.
-pub fn put32(xs: [u8; 32], a: u8, v: u8) -> [u8; 32]
-    ensures { λ ys. ⌜ ys ≡ put 32 xs a v ⌝ }
-{
-    if 32 <= a {
-        return xs;
-    }
-    let mut ys = xs;
-    ys[a as usize] = v;
-    ys
-}
-
-// A table of 8 with v at place a.
-pub fn put8(xs: [u8; 8], a: u8, v: u8) -> [u8; 8]
-    ensures { λ ys. ⌜ ys ≡ put 8 xs a v ⌝ }
-{
-    if 8 <= a {
-        return xs;
-    }
-    let mut ys = xs;
-    ys[a as usize] = v;
-    ys
 }

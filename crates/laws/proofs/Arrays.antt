@@ -1,6 +1,6 @@
 -- Reading and storing in an array.
 use Prim.Native.Nat.{ℕ, zero, suc, _<_, _≤_}
-use mathlib.Core.Path.{_≡_, refl, sym, subst, _∙_}
+use mathlib.Core.Path.{_≡_, refl, sym, ap, subst, _∙_}
 use mathlib.Core.List.{List, [], _∷_, map}
 use native.Mathlib.Nat.{not-suc-le-zero, le-of-suc-le-suc}
 use native.Mathlib.Omega.{arith}
@@ -55,6 +55,16 @@ lent-cases xs i n v (no h) e q = e ∙ sym (if-ge i n _ _ _ (omega arith) (List�
 
 pub lent-at : (xs : List ℕ) (i n v : ℕ) → v ≡ read n 0 xs i → length xs ≡ n → v ≡ getD xs i 0
 lent-at xs i n v e q = lent-cases xs i n v (decLt i n) e q
+
+-- an entry of a table of n, which the code reads at k: what stands there, and d past its end
+module _ (n d : ℕ) (xs : List ℕ) (i k r : ℕ) (e : k ≡ i) where
+  pub entry-inside : k < n → r ≡ getD xs k 0 → r ≡ read n d xs i
+  unfolding read
+  entry-inside h q = if-lt i n _ _ r (rw (← e) h) (q ∙ ap (λ j. getD xs j 0) e)
+
+  pub entry-past : n ≤ k → r ≡ d → r ≡ read n d xs i
+  unfolding read
+  entry-past h q = if-ge i n _ _ r (rw (← e) h) q
 
 -- the length of an array of structs, as the rule for the array has it
 pub length-mapped : (X Y : Type 0) (f : X → Y) (l : List X) (n : ℕ) → length (map f l) ≡ n → length l ≡ n

@@ -63,12 +63,6 @@ fails-from false f = refl
 pub fails-not : (b : Bool) → b ≡ false → not b ≡ true
 fails-not b e = ap not e
 
--- two tests of which each holds where the other does are one
-pub same-test : (a b : Bool) → (a ≡ true → b ≡ true) → (b ≡ true → a ≡ true) → a ≡ b
-same-test true b f g = sym (f refl)
-same-test false true f g = g refl
-same-test false false f g = refl
-
 -- ---- a list of tests
 
 pub every-at : (bs : List Bool) → every bs ≡ true → (k : ℕ) → getD bs k true ≡ true

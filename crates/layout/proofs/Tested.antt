@@ -72,7 +72,7 @@ module _ (m : List ℕ) (t : List Reach) (n r q : ℕ) (h : Held n (λ k. all k 
 
 -- ---- each rule, by the walk that tests it
 
-module _ (L : Layout) (v : Bool) where
+module _ (L : Layout) (v : Bool) (c : Counts) (same : c ≡ counts L) where
   once-is : all (L .lines) (lineKeeps 1 (counts L) (L .line)) ≡ all (L .lines) (once (L .line))
   unfolding lineKeeps if_then_else_
   once-is = all-same _ _ _ (λ l h. refl)
@@ -82,26 +82,28 @@ module _ (L : Layout) (v : Bool) where
   unfolding routeKeeps if_then_else_
   paths-is = all-same _ _ _ (λ r h. offBlocks-is (L .lines) (L .line) (routeIn L r))
 
-  pub rule1-by : v ≡ blocksApart (counts L) (L .line) (L .routes) (L .route) → v ≡ rule1 L
+  pub rule1-by : v ≡ blocksApart c (L .line) (L .routes) (L .route) → v ≡ rule1 L
   unfolding rule1 blocksApart counts routeIn
-  rule1-by e = e ∙ rw (once-is, paths-is, inner-is (L .lines) (L .line))
+  rule1-by e = (rw same at e) ∙ rw (once-is, paths-is, inner-is (L .lines) (L .line))
 
-  pub rule2-by : v ≡ all (L .lines) (lineKeeps 2 (counts L) (L .line)) → v ≡ rule2 L
-  unfolding rule2 lineKeeps if_then_else_
-  rule2-by e = e ∙ all-same _ _ _ (λ l h. refl)
+  pub rule2-by : v ≡ all (c .lines) (lineKeeps 2 c (L .line)) → v ≡ rule2 L
+  unfolding rule2 lineKeeps counts if_then_else_
+  rule2-by e = (rw same at e) ∙ all-same _ _ _ (λ l h. refl)
 
-  pub rule3-by : v ≡ listsDiffer (counts L) (L .line) (L .routes) (L .route) → v ≡ rule3 L
+  pub rule3-by : v ≡ listsDiffer c (L .line) (L .routes) (L .route) → v ≡ rule3 L
   unfolding rule3 listsDiffer routeIn counts lineKeeps routeKeeps if_then_else_
-  rule3-by e = e ∙ ap₂ _and_ (all-same (L .routes) _ _ (λ r h. refl)) (all-same (L .lines) _ _ (λ l h. refl))
+  rule3-by e = (rw same at e) ∙ ap₂ _and_ (all-same (L .routes) _ _ (λ r h. refl)) (all-same (L .lines) _ _ (λ l h. refl))
 
-  pub rule4-by : v ≡ all (L .routes) (λ r. routeKeeps 4 (counts L) (L .line) 0 (route (L .route) r)) → v ≡ rule4 L
+  pub rule4-by : v ≡ all (L .routes) (λ r. routeKeeps 4 c (L .line) 0 (route (L .route) r)) → v ≡ rule4 L
   unfolding rule4 routeIn routeKeeps if_then_else_
   rule4-by e = e ∙ all-same _ _ _ (λ r h. refl)
 
-  pub rule5-by : v ≡ all (L .routes) (λ r. routeKeeps 5 (counts L) (L .line) 0 (route (L .route) r)) → v ≡ rule5 L
+  pub rule5-by : v ≡ all (L .routes) (λ r. routeKeeps 5 c (L .line) 0 (route (L .route) r)) → v ≡ rule5 L
   unfolding rule5 routeIn counts routeKeeps if_then_else_
-  rule5-by e = e ∙ all-same _ _ _ (λ r h. refl)
+  rule5-by e = (rw same at e) ∙ all-same _ _ _ (λ r h. refl)
 
+-- and rule 6, by the table of what it asks
+module _ (L : Layout) (v : Bool) where
   pub rule6-by : L .routes ≤ 48 → v ≡ all (L .routes) (λ r. all r (rowKeeps (L .conflict) (reaches (L .route)) r)) → v ≡ rule6 L
   unfolding rule6 rowKeeps pairKeeps reaches routeIn conflict
   rule6-by few e =
@@ -120,8 +122,8 @@ module _ (L : Layout) where
   unfolding routeIn routeKeeps if_then_else_
   routes-fit-is = all-same _ _ _ (λ r h. refl)
 
-  pub fits-made : (a b d e : Bool) → a ≡ between 1 64 (L .sections) → b ≡ sectionsFit (L .points) (L .sections) (L .pointsection)
-      → d ≡ all (L .lines) (lineKeeps 0 (counts L) (L .line)) → e ≡ all (L .routes) (λ r. routeKeeps 0 (counts L) (L .line) 0 (route (L .route) r))
+  pub fits-made : (c : Counts) (a b d e : Bool) → c ≡ counts L → a ≡ between 1 64 (L .sections) → b ≡ sectionsFit (L .points) (L .sections) (L .pointsection)
+      → d ≡ all (c .lines) (lineKeeps 0 c (L .line)) → e ≡ all (L .routes) (λ r. routeKeeps 0 c (L .line) 0 (route (L .route) r))
       → a && (leb (L .points) 32 && (b && (leb (L .signals) 32 && (leb (L .lines) 8 && (d && (leb (L .routes) 48 && e)))))) ≡ fits L
-  unfolding fits every
-  fits-made a b d e p q x y = rw (p, q, x ∙ lines-fit-is, y ∙ routes-fit-is)
+  unfolding fits every counts
+  fits-made c a b d e same p q x y = rw (p, q, (rw same at x) ∙ lines-fit-is, (rw same at y) ∙ routes-fit-is)

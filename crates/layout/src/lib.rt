@@ -9,7 +9,7 @@ use track::Route;
 ghost use mathlib.Core.Path.{_≡_};
 ghost use mathlib.Core.List.{[], _∷_};
 ghost use Prim.Native.Nat.{_≤_};
-ghost use Rattle.layout.specs.Layout.{noLayout};
+ghost use Rattle.layout.specs.Layout.{noLayout, counts};
 ghost use Rattle.layout.specs.Rules.{rule1, rule2, rule3, rule4, rule5, rule6, firstFailed, broken};
 ghost use Rattle.layout.specs.Sound.{fits, sound};
 ghost use Rattle.layout.specs.Load.{refused, finished, load};
@@ -57,17 +57,24 @@ pub fn no_layout() -> Layout
     }
 }
 
+// How many objects of each kind there are to refer to.
+fn counts_of(l: Layout) -> Counts
+    ensures { λ r. ⌜ r ≡ counts l ⌝ }
+{
+    Counts {
+        sections: l.sections,
+        points: l.points,
+        signals: l.signals,
+        lines: l.lines,
+    }
+}
+
 // The first broken one of the rules 1 to 3, or 0.
 fn broken_early(l: Layout) -> u8
     requires { ⌜ l .routes ≤ 48 ⌝ }
     ensures { λ r. ⌜ r ≡ firstFailed 1 (rule1 l ∷ rule2 l ∷ rule3 l ∷ []) ⌝ }
 {
-    let c = Counts {
-        sections: l.sections,
-        points: l.points,
-        signals: l.signals,
-        lines: l.lines,
-    };
+    let c = counts_of(l);
     let ls = l.line;
     let rs = l.route;
     let n = l.routes;
@@ -88,12 +95,7 @@ fn broken_late(l: Layout) -> u8
     requires { ⌜ l .routes ≤ 48 ⌝ }
     ensures { λ r. ⌜ r ≡ firstFailed 4 (rule4 l ∷ rule5 l ∷ rule6 l ∷ []) ⌝ }
 {
-    let c = Counts {
-        sections: l.sections,
-        points: l.points,
-        signals: l.signals,
-        lines: l.lines,
-    };
+    let c = counts_of(l);
     let ls = l.line;
     let rs = l.route;
     let n = l.routes;
@@ -125,28 +127,23 @@ fn first_broken(l: Layout) -> u8
 fn in_range(l: Layout) -> bool
     ensures { λ r. ⌜ r ≡ fits l ⌝ }
 {
-    let c = Counts {
-        sections: l.sections,
-        points: l.points,
-        signals: l.signals,
-        lines: l.lines,
-    };
+    let c = counts_of(l);
     let own = l.pointsection;
     let ls = l.line;
     let rs = l.route;
     let n = l.routes;
-    if 32 < c.points {
+    if 32 < l.points {
         return false;
     }
     if 48 < n {
         return false;
     }
-    let sections = track::is_between(1, 64, c.sections);
-    let points = walks::sections_fit(own, c.points, c.sections);
+    let sections = track::is_between(1, 64, l.sections);
+    let points = walks::sections_fit(own, l.points, l.sections);
     let lines = walks::lines_keep(0, c, ls);
     let routes = walks::routes_keep(0, c, ls, 0, n, rs);
-    let rest = (c.lines <= 8) & (lines & ((n <= 48) & routes));
-    sections & ((c.points <= 32) & (points & ((c.signals <= 32) & rest)))
+    let rest = (l.lines <= 8) & (lines & ((n <= 48) & routes));
+    sections & ((l.points <= 32) & (points & ((l.signals <= 32) & rest)))
 }
 
 impl Layout {

@@ -4,7 +4,7 @@ use mathlib.Core.Path.{_≡_, refl, sym, _∙_}
 use mathlib.Core.Bool.{true}
 use mathlib.Core.Logic.{_↔_, Iff·rfl, Iff·trans, _≢_, _⊎_, inl, inr, ⊎-elim}
 use native.Mathlib.Omega.{arith}
-use Rattle.rules.specs.Rules.{stands, clashes}
+use Rattle.rules.specs.Rules.{hasPoint, clashes}
 use Rattle.layout.specs.declared.Layout.{Layout}
 use Rattle.layout.specs.Layout.{routeIn}
 use Rattle.layout.specs.Rules.{rule6}
@@ -15,17 +15,17 @@ use Rattle.layout_facts.proofs.Lists.{share-means}
 use Rattle.layout_facts.proofs.Rules.{inPath-means}
 
 -- point p is one of route r, in position w
-abbrev Stands : Layout → ℕ → ℕ → ℕ → Type 0
-Stands L w r p = (i : ℕ) × (i < routeIn L r .points) × ((routePosition L r i ≡ w) × (routePoint L r i ≡ p))
+abbrev HasPoint : Layout → ℕ → ℕ → ℕ → Type 0
+HasPoint L w r p = (i : ℕ) × (i < routeIn L r .points) × ((routePosition L r i ≡ w) × (routePoint L r i ≡ p))
 
 -- the test for such a point
-stands-means : (L : Layout) (w r p : ℕ) → stands w (routeIn L r) p ≡ true ↔ Stands L w r p
-unfolding stands routePosition routePoint
-stands-means L w r p = any-means (λ i l. and-means (eqb-means _ _) (eqb-means _ _))
+point-means : (L : Layout) (w r p : ℕ) → hasPoint w (routeIn L r) p ≡ true ↔ HasPoint L w r p
+unfolding hasPoint routePosition routePoint
+point-means L w r p = any-means (λ i l. and-means (eqb-means _ _) (eqb-means _ _))
 
 -- some point is one of route r in position v and of route q in position w
 abbrev Crossed : Layout → ℕ → ℕ → ℕ → ℕ → Type 0
-Crossed L v w r q = (p : ℕ) × Stands L v r p × Stands L w q p
+Crossed L v w r q = (p : ℕ) × HasPoint L v r p × HasPoint L w q p
 
 -- where these positions differ, the routes clash
 crossed : (L : Layout) (v w r q : ℕ) → v ≢ w → Crossed L v w r q → Clash L r q
@@ -50,7 +50,7 @@ module _ (L : Layout) (R : Ranges L) where
       go (inr a) (inr b) = absurd (d (a ∙ sym b))
 
   -- a route's point is below 64
-  point-few : (w r : ℕ) → r < L .routes → (p : ℕ) → Stands L w r p → p < 64
+  point-few : (w r : ℕ) → r < L .routes → (p : ℕ) → HasPoint L w r p → p < 64
   point-few w r hr p (i, hi, (a, e)) = let b = R .routes r hr .points i hi in omega arith
 
   -- the same entry signal, a common path section, or a common point in different positions
@@ -59,8 +59,8 @@ module _ (L : Layout) (R : Ranges L) where
   clashes-means r q hr hq =
       Iff·trans (or-means (eqb-means _ _)
       (or-means (share-means (inPath-means L r) (inPath-means L q) (λ g (j, hj, e). let b = R .routes r hr .paths j hj in omega arith))
-      (or-means (share-means (stands-means L 1 r) (stands-means L 2 q) (point-few 1 r hr))
-      (share-means (stands-means L 2 r) (stands-means L 1 q) (point-few 2 r hr))))) (
+      (or-means (share-means (point-means L 1 r) (point-means L 2 q) (point-few 1 r hr))
+      (share-means (point-means L 2 r) (point-means L 1 q) (point-few 2 r hr))))) (
         ⊎-elim sameEntry (⊎-elim (λ (g, (i, hi, e), (j, hj, f)). commonPath i j hi hj (e ∙ sym f))
             (⊎-elim (crossed L 1 2 r q (omega arith)) (crossed L 2 1 r q (omega arith)))),
         elim [

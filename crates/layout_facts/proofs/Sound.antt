@@ -55,7 +55,3 @@ sound-means L =
 -- what the test passes is sound
 pub sound-says : (L : Layout) → sound L ≡ true → Sound L
 sound-says L = sound-means L .0
-
--- and it passes all that is sound
-pub sound-tests : (L : Layout) → Sound L → sound L ≡ true
-sound-tests L = sound-means L .1

@@ -6,6 +6,7 @@ use mathlib.Core.Logic.{_≢_, inl, inr}
 use native.Mathlib.Omega.{arith}
 use native.Mathlib.Decide.{ℕ-discrete}
 use Rattle.laws.proofs.Choice.{if-both}
+use Rattle.track.specs.Objects.{nearest}
 use Rattle.layout.specs.declared.Layout.{Layout}
 use Rattle.layout.specs.Layout.{lineIn, routeIn, conflict}
 use Rattle.layout_facts.specs.Plain.{block, innerSection, entranceSignal, path, nearestBlock, Sound, commonPath}
@@ -18,7 +19,7 @@ module _ (L : Layout) (S : Sound L) where
 
   -- the block nearest an end is there
   pub nearest-there : (l e : ℕ) → l < L .lines → nearestBlock L l e < lineIn L l .blocks
-  unfolding nearestBlock
+  unfolding nearestBlock nearest
   nearest-there l e hl = let few = S .ranges .lines l hl .blockCount in if-both (λ i. i < lineIn L l .blocks) _ (λ a. omega arith) (λ b. omega arith)
 
   -- and so is the block that an exit route enters

@@ -3,10 +3,9 @@ use Prim.Native.Nat.{ℕ, _-_, _<_, _≤_}
 use mathlib.Core.Path.{_≡_}
 use mathlib.Core.Bool.{true}
 use mathlib.Core.Logic.{_≢_, _⊎_}
-use lib.Dec.{eqb}
 use lib.ListN.{getD}
-use Rattle.laws.specs.Choice.{if_then_else_}
-use Rattle.track.specs.Objects.{inner, entrance}
+use Rattle.track.specs.Codes.{innerRoute, entranceRoute, exitRoute, left, right}
+use Rattle.track.specs.Objects.{inner, entrance, nearest}
 use Rattle.layout.specs.declared.Layout.{Layout}
 use Rattle.layout.specs.Layout.{lineIn, routeIn, entryOf, conflict}
 
@@ -20,7 +19,7 @@ ownSection L p = getD (L .pointsection) p 0
 unfoldable pub block : Layout → ℕ → ℕ → ℕ
 block L l i = getD (lineIn L l .block) i 0
 
--- the inner section of line l at end e: 0 is A, 1 is B
+-- the inner section of line l at end e
 unfoldable pub innerSection : Layout → ℕ → ℕ → ℕ
 innerSection L l e = inner (lineIn L l) e
 
@@ -30,13 +29,13 @@ entranceSignal L l e = entrance (lineIn L l) e
 
 -- the block of line l nearest end e, counted from end A: an exit route by that end enters it
 unfoldable pub nearestBlock : Layout → ℕ → ℕ → ℕ
-nearestBlock L l e = if eqb e 0 then 0 else lineIn L l .blocks - 1
+nearestBlock L l e = nearest (lineIn L l) e
 
 -- point i of line l
 unfoldable pub linePoint : Layout → ℕ → ℕ → ℕ
 linePoint L l i = getD (lineIn L l .point) i 0
 
--- the position of point i of line l: 1 left or 2 right
+-- the position of point i of line l
 unfoldable pub linePosition : Layout → ℕ → ℕ → ℕ
 linePosition L l i = getD (lineIn L l .position) i 0
 
@@ -52,7 +51,7 @@ overlap L r j = getD (routeIn L r .overlap) j 0
 unfoldable pub routePoint : Layout → ℕ → ℕ → ℕ
 routePoint L r i = getD (routeIn L r .point) i 0
 
--- the position of point i of route r: 1 left or 2 right
+-- the position of point i of route r
 unfoldable pub routePosition : Layout → ℕ → ℕ → ℕ
 routePosition L r i = getD (routeIn L r .position) i 0
 
@@ -66,13 +65,13 @@ pub record LineRanges (L : Layout) (l : ℕ) : Type 0 where
   pub entrances : (e : ℕ) → e ≤ 1 → entranceSignal L l e < L .signals
   pub pointCount : lineIn L l .points ≤ 8
   pub points : (i : ℕ) → i < lineIn L l .points → linePoint L l i < L .points
-  pub positions : (i : ℕ) → i < lineIn L l .points → linePosition L l i ≡ 1 ⊎ linePosition L l i ≡ 2
+  pub positions : (i : ℕ) → i < lineIn L l .points → linePosition L l i ≡ left ⊎ linePosition L l i ≡ right
 
 -- a route: entry signal, kind, for kinds 1 and 2 the line and the end, diverging 0 or 1, path 1..8 sections, overlap 0..4 sections, points 0..8
 pub record RouteRanges (L : Layout) (r : ℕ) : Type 0 where
   pub entry : routeIn L r .entry < L .signals
-  pub kind : routeIn L r .kind ≤ 2
-  pub line : routeIn L r .kind ≡ 1 ⊎ routeIn L r .kind ≡ 2 → (routeIn L r .line < L .lines) × (routeIn L r .end ≤ 1)
+  pub kind : routeIn L r .kind ≤ exitRoute
+  pub line : routeIn L r .kind ≡ entranceRoute ⊎ routeIn L r .kind ≡ exitRoute → (routeIn L r .line < L .lines) × (routeIn L r .end ≤ 1)
   pub diverging : routeIn L r .diverging ≤ 1
   pub pathCount : (1 ≤ routeIn L r .paths) × (routeIn L r .paths ≤ 8)
   pub paths : (j : ℕ) → j < routeIn L r .paths → path L r j < L .sections
@@ -80,7 +79,7 @@ pub record RouteRanges (L : Layout) (r : ℕ) : Type 0 where
   pub overlaps : (j : ℕ) → j < routeIn L r .overlaps → overlap L r j < L .sections
   pub pointCount : routeIn L r .points ≤ 8
   pub points : (i : ℕ) → i < routeIn L r .points → routePoint L r i < L .points
-  pub positions : (i : ℕ) → i < routeIn L r .points → routePosition L r i ≡ 1 ⊎ routePosition L r i ≡ 2
+  pub positions : (i : ℕ) → i < routeIn L r .points → routePosition L r i ≡ left ⊎ routePosition L r i ≡ right
 
 -- sections 1..64, points 0..32 each with its own section, signals 0..32, lines 0..8, routes 0..48
 pub record Ranges (L : Layout) : Type 0 where
@@ -123,16 +122,16 @@ pub record Rule3 (L : Layout) : Type 0 where
 
 -- rule 4: kinds 0 and 1 have at least two path sections
 pub record Rule4 (L : Layout) : Type 0 where
-  pub two : (r : ℕ) → r < L .routes → routeIn L r .kind ≡ 0 ⊎ routeIn L r .kind ≡ 1 → 2 ≤ routeIn L r .paths
+  pub two : (r : ℕ) → r < L .routes → routeIn L r .kind ≡ innerRoute ⊎ routeIn L r .kind ≡ entranceRoute → 2 ≤ routeIn L r .paths
 
 -- rule 5: an entrance route starts at its end's entrance signal and its first path section is that inner section;
 -- an exit route's last path section is its end's inner section; kinds 0 and 2 start at no entrance signal
 pub record Rule5 (L : Layout) : Type 0 where
-  pub start : (r : ℕ) → r < L .routes → routeIn L r .kind ≡ 1 → routeIn L r .entry ≡ entranceSignal L (routeIn L r .line) (routeIn L r .end)
-  pub first : (r : ℕ) → r < L .routes → routeIn L r .kind ≡ 1 → path L r 0 ≡ innerSection L (routeIn L r .line) (routeIn L r .end)
-  pub last : (r : ℕ) → r < L .routes → routeIn L r .kind ≡ 2
+  pub start : (r : ℕ) → r < L .routes → routeIn L r .kind ≡ entranceRoute → routeIn L r .entry ≡ entranceSignal L (routeIn L r .line) (routeIn L r .end)
+  pub first : (r : ℕ) → r < L .routes → routeIn L r .kind ≡ entranceRoute → path L r 0 ≡ innerSection L (routeIn L r .line) (routeIn L r .end)
+  pub last : (r : ℕ) → r < L .routes → routeIn L r .kind ≡ exitRoute
       → path L r (routeIn L r .paths - 1) ≡ innerSection L (routeIn L r .line) (routeIn L r .end)
-  pub noEntrance : (r l e : ℕ) → r < L .routes → routeIn L r .kind ≡ 0 ⊎ routeIn L r .kind ≡ 2 → l < L .lines → e ≤ 1
+  pub noEntrance : (r l e : ℕ) → r < L .routes → routeIn L r .kind ≡ innerRoute ⊎ routeIn L r .kind ≡ exitRoute → l < L .lines → e ≤ 1
       → routeIn L r .entry ≢ entranceSignal L l e
 
 -- what two routes of rule 6 have: the same entry signal, a common path section, or a common point in different positions

@@ -15,8 +15,10 @@ use Rattle.laws.specs.Tables.{read}
 use Rattle.laws.proofs.Arrays.{read-in}
 use Rattle.track.specs.declared.Line.{Line}
 use Rattle.track.specs.Objects.{line, noLine}
-use Rattle.signals.specs.Signals.{linePlaced, place, isOpen, unbarred, enterable}
-use Rattle.panel.specs.Panel.{join, blocks, stands, lamp, blockSignal, blockBytes, lineBytes}
+use Rattle.tables.specs.Readings.{linePlaced}
+use Rattle.tables.specs.Blocks.{place, isOpen, unbarred}
+use Rattle.signals.specs.Signals.{enterableBy, enterable}
+use Rattle.panel.specs.Panel.{join, blocks, hasSignal, lamp, blockSignal, blockBytes, lineBytes}
 use Rattle.panel.specs.Writes.{Wrote, blockBy, lineBy}
 use Rattle.panel.proofs.Writes.{wrote-one, wrote-then}
 
@@ -37,7 +39,7 @@ module _ (stages bars : List ℕ) (n way : ℕ) (placed : Bool) (l : ℕ) where
   pub block-made : (i at stage ab ba : ℕ) (free : Bool) (b : List ℕ) → stage ≡ read 64 1 stages (place l i) → free ≡ unbarred bars l i
       → ab ≡ lamp (eqb way 1 && ltb 0 i) (eqb stage 0 && (free && placed)) → ba ≡ lamp (eqb way 2 && ltb (i + 1) n) (eqb stage 0 && (free && placed))
       → Wrote b at (blockBy stages bars n way placed l i) (set (set (set b at stage) (at + 1) ab) (at + 2) ba) (at + 3)
-  unfolding blockBy stands isOpen every _and_ if_then_else_
+  unfolding blockBy hasSignal isOpen every _and_ if_then_else_
   block-made i at stage ab ba free b e f p q =
       let two : at + 1 + 1 ≡ at + 2 = omega arith in
       let three : at + 2 + 1 ≡ at + 3 = omega arith in
@@ -100,7 +102,7 @@ module _ (directions points stages bars : List ℕ) (l : ℕ) where
 
   -- what is known of a line says the same as its number
   same-line : (ls : List Line) → lineBy (line ls l) directions points stages bars l ≡ lineBytes ls directions points stages bars l
-  unfolding lineBy lineBytes blockBy blockBytes blockSignal enterable
+  unfolding lineBy lineBytes blockBy blockBytes blockSignal enterable enterableBy
   same-line ls = refl
 
   -- line l, as the code takes it out of the table

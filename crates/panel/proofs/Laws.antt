@@ -9,7 +9,7 @@ use lib.Seq.{sets, ext-getD}
 use Rattle.laws.specs.Choice.{if_then_else_}
 use Rattle.laws.specs.Tables.{table, read}
 use Rattle.laws.proofs.Tables.{length-table, table-at}
-use Rattle.signals.specs.Readings.{reading, lies}
+use Rattle.tables.specs.Readings.{reading, lies}
 use Rattle.layout.specs.declared.Layout.{Layout}
 use Rattle.interlocking.specs.declared.State.{State}
 use Rattle.panel.specs.Panel.{join, signalByte, routeByte, lineBytes, image, panelLength}

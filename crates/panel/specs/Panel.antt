@@ -9,9 +9,12 @@ use Rattle.laws.specs.Tests.{_and_, lowest}
 use Rattle.laws.specs.Tables.{table, read}
 use Rattle.track.specs.declared.Line.{Line}
 use Rattle.track.specs.declared.Route.{Route}
+use Rattle.track.specs.Codes.{aToB, bToA, stage0, idle, cancelling}
 use Rattle.track.specs.Objects.{line, route}
-use Rattle.signals.specs.Readings.{reading, lies}
-use Rattle.signals.specs.Signals.{place, enterable, routeProceeds}
+use Rattle.tables.specs.Readings.{reading, lies}
+use Rattle.tables.specs.Blocks.{place}
+use Rattle.tables.specs.Locks.{direction, phase}
+use Rattle.signals.specs.Signals.{enterable, routeProceeds}
 use Rattle.layout.specs.declared.Layout.{Layout}
 use Rattle.layout.specs.Sound.{sound}
 use Rattle.interlocking.specs.declared.State.{State}
@@ -34,7 +37,7 @@ blocks (suc n) ls = blocks n ls + line ls n .blocks
 unfoldable pub proceedByte : Route → ℕ
 proceedByte a = if eqb (a .diverging) 1 then 21 else 22
 
--- the route that puts main signal x to proceed: the lowest in phase 1 that starts at it; n, their number, where there is none.
+-- the route for which main signal x shows proceed: the lowest of n; n where there is none.
 -- Routes with one entry signal conflict, so in a run there is at most one; in a state assembled by hand the lowest decides
 unfoldable pub shownBy : ℕ → List Route → List ℕ → ℕ → ℕ
 shownBy n rs phases x = lowest n (λ r. routeProceeds phases r (route rs r) x)
@@ -51,13 +54,13 @@ signalByte n rs phases x = byteOf n rs (shownBy n rs phases x)
 
 -- a route by its phase: 0 idle, 1 locked, 2 cancelling
 unfoldable pub routeByte : ℕ → ℕ
-routeByte phase = if eqb phase 0 then 0 else if eqb phase 3 then 2 else 1
+routeByte p = if eqb p idle then 0 else if eqb p cancelling then 2 else 1
 
 -- ---- blocks
 
--- block signals stand between blocks: of n blocks each but the first has one for A to B (1), each but the last one for B to A (2)
-unfoldable pub stands : ℕ → ℕ → ℕ → Bool
-stands n i w = if eqb w 1 then ltb 0 i else ltb (i + 1) n
+-- block signals stand between blocks: of n blocks each but the first has one for A to B, each but the last one for B to A
+unfoldable pub hasSignal : ℕ → ℕ → ℕ → Bool
+hasSignal n i w = if eqb w aToB then ltb 0 i else ltb (i + 1) n
 
 -- a block signal: 0 dark or absent, else 22 where the block may be entered and 20 where not
 unfoldable pub lamp : Bool → Bool → ℕ
@@ -66,12 +69,15 @@ lamp lit mayEnter = if lit then (if mayEnter then 22 else 20) else 0
 -- the signal into block i of line l for direction w: on a secured line those of the secured direction are lit
 unfoldable pub blockSignal : List Line → List ℕ → List ℕ → List ℕ → List ℕ → ℕ → ℕ → ℕ → ℕ
 blockSignal ls directions points stages bars l i w =
-    lamp (eqb (read 8 0 directions l) w and stands (line ls l .blocks) i w) (enterable ls points stages bars l i)
+    lamp (eqb (direction directions l) w and hasSignal (line ls l .blocks) i w) (enterable ls points stages bars l i)
 
 -- block i of line l: 0 open or 1, 2, 3 for stages 0, 1, 2, its signal A to B, its signal B to A
 unfoldable pub blockBytes : List Line → List ℕ → List ℕ → List ℕ → List ℕ → ℕ → ℕ → List ℕ
 blockBytes ls directions points stages bars l i =
-    read 64 1 stages (place l i) ∷ blockSignal ls directions points stages bars l i 1 ∷ blockSignal ls directions points stages bars l i 2 ∷ []
+    read 64 stage0 stages (place l i)
+    ∷ blockSignal ls directions points stages bars l i aToB
+    ∷ blockSignal ls directions points stages bars l i bToA
+    ∷ []
 
 -- the blocks of line l, from A
 unfoldable pub lineBytes : List Line → List ℕ → List ℕ → List ℕ → List ℕ → ℕ → List ℕ
@@ -85,8 +91,8 @@ image L s =
     table (L .sections) (reading (s .section))
     ++ table (L .points) (lies (s .point))
     ++ table (L .signals) (signalByte (L .routes) (L .route) (s .phase))
-    ++ table (L .routes) (λ r. routeByte (read 48 0 (s .phase) r))
-    ++ table (L .lines) (read 8 0 (s .direction))
+    ++ table (L .routes) (λ r. routeByte (phase (s .phase) r))
+    ++ table (L .lines) (direction (s .direction))
     ++ join (L .lines) (lineBytes (L .line) (s .direction) (s .point) (s .stage) (s .bar))
 
 -- how many bytes that is, by the layout alone

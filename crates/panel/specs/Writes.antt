@@ -9,11 +9,13 @@ use lib.Seq.{sets}
 use Rattle.laws.specs.Tests.{_and_, every}
 use Rattle.laws.specs.Tables.{table, read}
 use Rattle.track.specs.declared.Line.{Line}
-use Rattle.signals.specs.Readings.{reading, lies}
-use Rattle.signals.specs.Signals.{linePlaced, place, isOpen, unbarred}
+use Rattle.track.specs.Codes.{aToB, bToA, stage0}
+use Rattle.tables.specs.Readings.{reading, lies, linePlaced}
+use Rattle.tables.specs.Blocks.{place, isOpen, unbarred}
+use Rattle.tables.specs.Locks.{direction, phase}
 use Rattle.layout.specs.declared.Layout.{Layout}
 use Rattle.interlocking.specs.declared.State.{State}
-use Rattle.panel.specs.Panel.{join, signalByte, routeByte, stands, lamp}
+use Rattle.panel.specs.Panel.{join, signalByte, routeByte, hasSignal, lamp}
 
 -- the bytes xs were written into a buffer from a place on: what the buffer is then, and the next place
 pub record Wrote (before : List ℕ) (at : ℕ) (xs after : List ℕ) (next : ℕ) : Type 0 where
@@ -23,14 +25,14 @@ pub record Wrote (before : List ℕ) (at : ℕ) (xs after : List ℕ) (next : �
 -- a block's three bytes from what is known of its line: n blocks, direction way, points in position or not
 unfoldable pub blockBy : List ℕ → List ℕ → ℕ → ℕ → Bool → ℕ → ℕ → List ℕ
 blockBy stages bars n way placed l i =
-    read 64 1 stages (place l i)
-    ∷ lamp (eqb way 1 and stands n i 1) (every (isOpen stages l i ∷ unbarred bars l i ∷ placed ∷ []))
-    ∷ lamp (eqb way 2 and stands n i 2) (every (isOpen stages l i ∷ unbarred bars l i ∷ placed ∷ []))
+    read 64 stage0 stages (place l i)
+    ∷ lamp (eqb way aToB and hasSignal n i aToB) (every (isOpen stages l i ∷ unbarred bars l i ∷ placed ∷ []))
+    ∷ lamp (eqb way bToA and hasSignal n i bToA) (every (isOpen stages l i ∷ unbarred bars l i ∷ placed ∷ []))
     ∷ []
 
 -- the bytes of line l, which is b
 unfoldable pub lineBy : Line → List ℕ → List ℕ → List ℕ → List ℕ → ℕ → List ℕ
-lineBy b directions points stages bars l = join (b .blocks) (blockBy stages bars (b .blocks) (read 8 0 directions l) (linePlaced points b) l)
+lineBy b directions points stages bars l = join (b .blocks) (blockBy stages bars (b .blocks) (direction directions l) (linePlaced points b) l)
 
 -- section and point readings
 unfoldable pub readingBytes : Layout → State → List ℕ
@@ -40,8 +42,8 @@ readingBytes L s = table (L .sections) (reading (s .section)) ++ table (L .point
 unfoldable pub objectBytes : Layout → State → List ℕ
 objectBytes L s =
     table (L .signals) (signalByte (L .routes) (L .route) (s .phase))
-    ++ table (L .routes) (λ r. routeByte (read 48 0 (s .phase) r))
-    ++ table (L .lines) (read 8 0 (s .direction))
+    ++ table (L .routes) (λ r. routeByte (phase (s .phase) r))
+    ++ table (L .lines) (direction (s .direction))
 
 -- a layout's objects are no more than the tables of a state hold
 pub record Within (L : Layout) : Type 0 where

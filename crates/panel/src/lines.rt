@@ -1,6 +1,6 @@
 // The bytes of blocks, line by line.
-use signals::held_at;
-use signals::is_unbarred;
+use tables::held_at;
+use tables::is_unbarred;
 use track::Line;
 ghost use mathlib.Core.Path.{_≡_};
 ghost use Prim.Native.Nat.{_+_, _*_, _≤_, _<_};
@@ -85,7 +85,7 @@ fn put_line<'a>(
     ensures { λ r. ⌜ Wrote (now (buffer .entry)) at (lineBy b (now (directions .entry)) (now (points .entry)) (now (stages .entry)) (now (bars .entry)) l) (now (buffer .exit)) r ⌝ }
 {
     let way = directions[l as usize];
-    let placed = signals::line_placed(points, b);
+    let placed = tables::line_placed(points, b);
     put_blocks(stages, bars, b.blocks, way, placed, l, buffer, at)
 }
 

@@ -11,15 +11,16 @@ use Rattle.laws.specs.Tests.{_and_, every, all, lowestFrom, lowest}
 use Rattle.laws.specs.Tables.{tableFrom, table, read}
 use Rattle.track.specs.Objects.{line, route}
 use Rattle.track.specs.Lists.{between}
-use Rattle.signals.specs.Readings.{reading, lies, inPosition}
-use Rattle.signals.specs.Signals.{linePlaced, place, isOpen, unbarred, enterable, routeProceeds}
+use Rattle.tables.specs.Readings.{reading, lies, inPosition, linePlaced}
+use Rattle.tables.specs.Blocks.{place, isOpen, unbarred}
+use Rattle.signals.specs.Signals.{enterableBy, enterable, routeProceeds}
 use Rattle.layout.specs.declared.Layout.{Layout}
 use Rattle.layout.specs.Sound.{sound}
 use Rattle.layout.specs.Load.{load}
 use Rattle.layout_facts.specs.BranchT.{branchT}
 use Rattle.layout_facts.proofs.BranchT.{computed}
 use Rattle.interlocking.specs.State.{cold, codes, routesInRange, inRange}
-use Rattle.panel.specs.Panel.{join, blocks, proceedByte, shownBy, byteOf, signalByte, routeByte, stands, lamp, blockSignal, blockBytes, lineBytes, image, panelLength, refused, answer, drawn}
+use Rattle.panel.specs.Panel.{join, blocks, proceedByte, shownBy, byteOf, signalByte, routeByte, hasSignal, lamp, blockSignal, blockBytes, lineBytes, image, panelLength, refused, answer, drawn}
 use Rattle.panel.proofs.Answers.{too-short, done}
 use Rattle.panel_facts.specs.Cases.{coldPanel, cases}
 
@@ -27,8 +28,8 @@ use Rattle.panel_facts.specs.Cases.{coldPanel, cases}
 unfoldable pub panelComputed : ℕ
 unfolding computed
     if_then_else_ _and_ every all lowestFrom lowest tableFrom table read line route between reading lies inPosition
-    linePlaced place isOpen unbarred enterable routeProceeds cold codes routesInRange inRange join blocks
-    proceedByte shownBy byteOf signalByte routeByte stands lamp blockSignal blockBytes lineBytes image panelLength refused answer drawn
+    linePlaced place isOpen unbarred enterable enterableBy routeProceeds cold codes routesInRange inRange join blocks
+    proceedByte shownBy byteOf signalByte routeByte hasSignal lamp blockSignal blockBytes lineBytes image panelLength refused answer drawn
 panelComputed = 0
 
 -- P2, P7

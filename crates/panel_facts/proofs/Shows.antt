@@ -12,7 +12,7 @@ use Rattle.track.specs.declared.Line.{Line}
 use Rattle.track.specs.declared.Route.{Route}
 use Rattle.track.specs.Objects.{line, route}
 use Rattle.signals.specs.Signals.{routeProceeds, mainProceeds, blockProceeds}
-use Rattle.panel.specs.Panel.{proceedByte, shownBy, byteOf, signalByte, stands, lamp, blockSignal}
+use Rattle.panel.specs.Panel.{proceedByte, shownBy, byteOf, signalByte, hasSignal, lamp, blockSignal}
 
 -- ---- main signals
 
@@ -46,6 +46,6 @@ lit-free false false c = refl
 -- a block signal shows 22 just where there is one and it is at proceed
 pub block-shows : (ls : List Line) (directions points stages bars : List ℕ) (l i w : ℕ)
     → eqb (blockSignal ls directions points stages bars l i w) 22
-    ≡ stands (line ls l .blocks) i w and blockProceeds ls directions points stages bars l i w
+    ≡ hasSignal (line ls l .blocks) i w and blockProceeds ls directions points stages bars l i w
 unfolding blockSignal blockProceeds
 block-shows ls directions points stages bars l i w = lit-free _ _ _

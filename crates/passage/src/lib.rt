@@ -1,46 +1,56 @@
 // The stages of a block: its own reading, and its far section with the signal between (section 5).
 use laws::at8;
 use track::Line;
+use track::codes::A_TO_B;
+use track::codes::END_A;
+use track::codes::END_B;
+use track::codes::FREE;
+use track::codes::NONE;
+use track::codes::OCCUPIED;
+use track::codes::OPEN;
+use track::codes::STAGE_0;
+use track::codes::STAGE_1;
+use track::codes::STAGE_2;
 ghost use mathlib.Core.Path.{_≡_};
 ghost use Rattle.passage.specs.Passage.{ownStage, arrival, nextBlock, farSection, farStage};
 
-// The stage after the block's own reading: 1 free, 2 occupied, 3 none; any other number says nothing.
+// The stage after the block's own reading; a number that is no reading says nothing.
 pub fn own_stage(given: u8, stage: u8) -> u8
     ensures { λ r. ⌜ r ≡ ownStage given stage ⌝ }
 {
-    if given == 1 {
-        if (stage == 0) | (stage == 3) {
-            return 0;
-        }
-        return 1;
-    }
-    if given == 2 {
-        if stage < 2 {
-            return 2;
+    if given == OCCUPIED {
+        if (stage == OPEN) | (stage == STAGE_0) {
+            return STAGE_1;
         }
         return stage;
     }
-    if given == 3 {
-        return 1;
+    if given == NONE {
+        return STAGE_0;
+    }
+    if given == FREE {
+        if (stage == OPEN) | (stage == STAGE_2) {
+            return OPEN;
+        }
+        return STAGE_0;
     }
     stage
 }
 
-// The arrival end of a direction: 0 is A, 1 is B.
+// The arrival end of a direction.
 pub fn arrival_end(w: u8) -> u8
     ensures { λ r. ⌜ r ≡ arrival w ⌝ }
 {
-    if w == 1 {
-        return 1;
+    if w == A_TO_B {
+        return END_B;
     }
-    0
+    END_A
 }
 
 // The block after block i in a direction, or 8 for the station.
 pub fn next_block(b: Line, w: u8, i: u8) -> u8
     ensures { λ r. ⌜ r ≡ nextBlock b w i ⌝ }
 {
-    if w == 1 {
+    if w == A_TO_B {
         if b.blocks <= i {
             return 8;
         }
@@ -71,17 +81,17 @@ pub fn far_section(b: Line, w: u8, i: u8) -> u8
 pub fn far_stage(far: u8, dropped: bool, stage: u8) -> u8
     ensures { λ r. ⌜ r ≡ farStage far dropped stage ⌝ }
 {
-    if stage == 2 {
-        if (far == 2) & dropped {
-            return 3;
+    if stage == STAGE_1 {
+        if (far == OCCUPIED) & dropped {
+            return STAGE_2;
         }
-        return 2;
+        return STAGE_1;
     }
-    if stage == 3 {
-        if far == 3 {
-            return 2;
+    if stage == STAGE_2 {
+        if far == NONE {
+            return STAGE_1;
         }
-        return 3;
+        return STAGE_2;
     }
     stage
 }

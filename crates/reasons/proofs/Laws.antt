@@ -12,18 +12,20 @@ use lib.ListN.{length, getD}
 use Rattle.laws.specs.Choice.{if_then_else_}
 use Rattle.laws.specs.Tests.{_and_, any, lowest}
 use Rattle.laws.specs.Tables.{read}
-use Rattle.laws.proofs.Arrays.{read-past}
+use Rattle.laws.proofs.Arrays.{read-past, entry-inside, entry-past}
 use Rattle.laws.proofs.Choice.{if-true, if-false, if-eq, if-ne, if-lt, if-ge, choices}
 use Rattle.track.specs.declared.Line.{Line}
 use Rattle.track.specs.Objects.{noLine, line}
 use Rattle.pairs.specs.Pairs.{placeOf}
-use Rattle.signals.specs.Readings.{reading}
-use Rattle.signals.specs.Signals.{isOpen, unbarred}
+use Rattle.tables.specs.Readings.{reading}
+use Rattle.tables.specs.Blocks.{isOpen, unbarred}
 use Rattle.layout.specs.declared.Layout.{Layout}
 use Rattle.layout.specs.Layout.{lineIn, entryOf, conflict}
 use Rattle.reasons.specs.declared.Refusal.{Refusal}
-use Rattle.reasons.specs.Refusal.{refused, none, when, found, firstOf}
-use Rattle.reasons.specs.Leaves.{lacking, notFree, locked, conflicting, blockBarred, blockHeld}
+use Rattle.reasons.specs.Refusal.{refused, noRefusal, when, found, firstOf}
+use Rattle.searches.specs.Searches.{lacking, conflictsWith, failing}
+use Rattle.tables.specs.Locks.{locked}
+use Rattle.reasons.specs.Leaves.{notFree, conflicting, blockBarred, blockHeld}
 
 -- ---- the first refusal of a list: v is what the code found of the first
 
@@ -45,48 +47,11 @@ first-last x r q = q
 
 pub ruleset firsts = (needs, first-here, first-next, first-last)
 
--- ---- two tests, of which the code leaves at the first that fails
-
-module _ (a b : Bool) where
-  -- the first fails
-  pub both-left : a ≡ false → false ≡ a and b
-  unfolding _and_
-  both-left h = rw h
-
-  -- the first holds: the second is asked
-  pub both-asked : (r : Bool) → a ≡ true → r ≡ b → r ≡ a and b
-  unfolding _and_
-  both-asked r h q = rw h q
-
--- what the code learnt by testing v: that the first holds, that it fails
-module _ (v a : Bool) (e : v ≡ a) where
-  pub test-passes : not v ≡ false → a ≡ true
-  test-passes h = sym e ∙ not-false v h
-
-  pub test-fails : not v ≡ true → a ≡ false
-  test-fails h = sym e ∙ not-true v h
-
--- what it learnt by holding v against n: that it is n, that it is another
-module _ (v x n : ℕ) (e : v ≡ x) where
-  pub number-same : v ≡ n → eqb x n ≡ true
-  number-same h = eq-eqb x n (sym e ∙ h)
-
-  pub number-other : (v ≡ n → ⊥) → eqb x n ≡ false
-  number-other h = ne-eqb x n (λ z. h (e ∙ z))
-
-  pub number-not-same : (v ≡ n → ⊥) → not (eqb x n) ≡ true
-  number-not-same h = ap not (number-other h)
-
-  pub number-not-other : v ≡ n → not (eqb x n) ≡ false
-  number-not-other h = ap not (number-same h)
-
-pub ruleset boths = (needs, both-left, test-passes, test-fails, number-same, number-other, number-not-same, number-not-other)
-
 -- ---- 7 and 8, by the lowest section that does not read free
 
 module _ (sections : List ℕ) (set g : ℕ) (r : Refusal) (e : g ≡ lowest 64 (lacking sections set)) where
   -- there is none
-  pub free-all : 64 ≤ g → r ≡ none → r ≡ notFree sections set
+  pub free-all : 64 ≤ g → r ≡ noRefusal → r ≡ notFree sections set
   unfolding notFree
   free-all h q = if-ge (lowest 64 (lacking sections set)) 64 _ _ r (rw (← e) h) q
 
@@ -106,27 +71,16 @@ module _ (sections : List ℕ) (set g : ℕ) (r : Refusal) (e : g ≡ lowest 64 
 
 -- ---- 5, by the table of conflicts
 
--- an entry of the table, and what is read past its end
-module _ (m : List ℕ) (r q k x : ℕ) (e : k ≡ placeOf r q) where
-  pub entry-inside : k < 2304 → x ≡ getD m k 0 → x ≡ read 2304 0 m (placeOf r q)
-  unfolding read
-  entry-inside h z = if-lt (placeOf r q) 2304 _ _ x (rw (← e) h) (z ∙ ap (λ n. getD m n 0) e)
-
-  pub entry-outside : 2304 ≤ k → x ≡ 0 → x ≡ read 2304 0 m (placeOf r q)
-  unfolding read
-  entry-outside h z = if-ge (placeOf r q) 2304 _ _ x (rw (← e) h) z
-
--- the same of a table that ends there
+-- what is read of the whole table
 read-whole : (m : List ℕ) (k : ℕ) → length m ≡ 2304 → Dec (k < 2304) → read 2304 0 m k ≡ getD m k 0
-unfolding read
-read-whole m k e (yes h) = sym (if-lt k 2304 _ _ _ h refl)
-read-whole m k e (no h) = sym (if-ge k 2304 _ _ _ (omega arith) (sym (read-past m k 2304 0 0 e (omega arith) refl)))
+read-whole m k e (yes h) = sym (entry-inside 2304 0 m k k _ refl h refl)
+read-whole m k e (no h) = sym (entry-past 2304 0 m k k _ refl (omega arith) (sym (read-past m k 2304 0 0 e (omega arith) refl)))
 
 -- what is refused by the lowest route that the search finds
 pub conflict-found : (L : Layout) (phases : List ℕ) (r q : ℕ) (x : Refusal) → length (L .conflict) ≡ 2304
-    → q ≡ lowest (L .routes) (λ k. locked phases k and eqb (read 2304 0 (L .conflict) (placeOf r k)) 1)
+    → q ≡ lowest (L .routes) (conflictsWith (L .conflict) phases r)
     → x ≡ when (ltb q (L .routes)) 5 q → x ≡ conflicting L phases r
-unfolding conflicting found conflict entryOf
+unfolding conflicting found conflict entryOf conflictsWith
 conflict-found L phases r q x e d z =
     z ∙ ap (λ m. when (ltb m (L .routes)) 5 m)
     (d ∙ ap (lowest (L .routes)) (fun-ext (λ k. ap (λ n. locked phases k and eqb n 1) (read-whole (L .conflict) (placeOf r k) e (decLt (placeOf r k) 2304)))))
@@ -135,15 +89,15 @@ conflict-found L phases r q x e d z =
 
 -- what is refused by the lowest block of a line that the table has held or barred
 taken-found : (table : List ℕ) (l number g : ℕ) (r : Refusal) (b c : Line) → b ≡ c
-    → g ≡ lowest 64 (λ x. any (b .blocks) (λ i. eqb (getD (b .block) i 0) x and not (isOpen table l i)))
+    → g ≡ lowest 64 (failing (isOpen table l) (b .blocks) (b .block))
     → r ≡ when (ltb g 64) number g
-    → r ≡ found number 64 (λ x. any (c .blocks) (λ i. eqb (getD (c .block) i 0) x and not (isOpen table l i)))
+    → r ≡ found number 64 (failing (isOpen table l) (c .blocks) (c .block))
 unfolding found
 taken-found table l number g r b c e d q =
-    q ∙ ap (λ m. when (ltb m 64) number m) (d ∙ ap (λ (a : Line). lowest 64 (λ x. any (a .blocks) (λ i. eqb (getD (a .block) i 0) x and not (isOpen table l i)))) e)
+    q ∙ ap (λ m. when (ltb m 64) number m) (d ∙ ap (λ (a : Line). lowest 64 (failing (isOpen table l) (a .blocks) (a .block))) e)
 
 module _ (ls : List Line) (table : List ℕ) (l g : ℕ) (r : Refusal) (b : Line) (e : b ≡ line ls l)
-    (d : g ≡ lowest 64 (λ x. any (b .blocks) (λ i. eqb (getD (b .block) i 0) x and not (isOpen table l i)))) where
+    (d : g ≡ lowest 64 (failing (isOpen table l) (b .blocks) (b .block))) where
   -- by the table of bars
   pub barred-found : r ≡ when (ltb g 64) 11 g → r ≡ blockBarred ls table l
   unfolding blockBarred unbarred isOpen

@@ -1,6 +1,6 @@
 -- No second result meets the contract of a public function. Each `Post` is the contract itself, as the function is proved to meet it.
 use Rattle.laws.proofs.Only.{Determines, only}
-use Rattle.reasons.proofs.none.Reads as none
+use Rattle.reasons.proofs.no_refusal.Reads as no-refusal
 use Rattle.reasons.proofs.refuse.Reads as refuse
 use Rattle.reasons.proofs.when_refused.Reads as when-refused
 use Rattle.reasons.proofs.conflicting.Reads as conflicting
@@ -26,8 +26,8 @@ use Rattle.reasons.proofs.events.no_such_object.Reads as no-such-object
 use Rattle.reasons.proofs.events.wrong_second.Reads as wrong-second
 
 -- no refusal
-pub none-determined : Determines none.Post
-none-determined κs a r q s = only
+pub no-refusal-determined : Determines no-refusal.Post
+no-refusal-determined κs a r q s = only
 
 -- a refusal by its number and detail
 pub refuse-determined : Determines refuse.Post

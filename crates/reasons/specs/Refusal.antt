@@ -7,16 +7,16 @@ use Rattle.laws.specs.Choice.{if_then_else_}
 use Rattle.laws.specs.Tests.{lowest}
 use Rattle.reasons.specs.declared.Refusal.{Refusal}
 
--- a refusal by its number and detail; none
+-- a refusal by its number and detail; no refusal
 unfoldable pub refused : ℕ → ℕ → Refusal
 refused number detail = record { number = number; detail = detail }
 
-unfoldable pub none : Refusal
-none = refused 0 0
+unfoldable pub noRefusal : Refusal
+noRefusal = refused 0 0
 
 -- refused where the test holds
 unfoldable pub when : Bool → ℕ → ℕ → Refusal
-when t number detail = if t then refused number detail else none
+when t number detail = if t then refused number detail else noRefusal
 
 -- refused where the test holds for one of 0 .. n - 1: the detail is the lowest that applies
 unfoldable pub found : ℕ → ℕ → (ℕ → Bool) → Refusal
@@ -24,6 +24,6 @@ found number n p = when (ltb (lowest n p) n) number (lowest n p)
 
 -- the first refusal of a list, in the paper's order; the last is taken as it stands
 unfoldable pub firstOf : List Refusal → Refusal
-firstOf [] = none
+firstOf [] = noRefusal
 firstOf (x ∷ []) = x
 firstOf (x ∷ y ∷ ys) = if eqb (x .number) 0 then firstOf (y ∷ ys) else x

@@ -1,32 +1,35 @@
 // What is refused, one reason at a time, over a layout and the tables of a state that are lent (section 3). The lowest number to which a
 // reason applies is the detail.
 pub mod events;
-mod searches;
 
-use laws::at8;
 use layout::Layout;
-use searches::direction_at;
-use searches::is_locked;
-use searches::phase_at;
 use searches::section_of;
-use signals::is_open;
-use signals::is_unbarred;
-use signals::nearest_block;
-use signals::section_reads;
+use tables::direction_of;
+use tables::is_locked;
+use tables::is_open;
+use tables::is_unbarred;
+use tables::phase_of;
+use tables::section_reads;
 use track::Line;
 use track::Route;
+use track::codes::CANCELLING;
+use track::codes::NEUTRAL;
+use track::codes::OCCUPIED;
 use track::line_at;
+use track::nearest_block;
+use track::nearest_section;
 ghost use mathlib.Core.Path.{_≡_};
 ghost use mathlib.Core.Bool.{not};
 ghost use Prim.Native.Nat.{_+_};
 ghost use lib.Dec.{eqb, ltb};
-ghost use lib.ListN.{getD};
 ghost use Rattle.laws.specs.Tables.{read};
-ghost use Rattle.track.specs.Objects.{line};
+ghost use Rattle.track.specs.Codes.{cancelling, neutral};
+ghost use Rattle.track.specs.Objects.{line, nearest, nearestSection};
 ghost use Rattle.sets.specs.Sets.{joined, union, setOf};
-ghost use Rattle.signals.specs.Signals.{nearest, isOpen, unbarred};
-ghost use Rattle.reasons.specs.Refusal.{refused, none, when};
-ghost use Rattle.reasons.specs.Leaves.{locked, notFree, notPlaced, conflicting, byRoute, byLine, exitLocked, blockBarred, blockHeld};
+ghost use Rattle.tables.specs.Blocks.{isOpen, unbarred};
+ghost use Rattle.tables.specs.Locks.{direction, phase, locked};
+ghost use Rattle.reasons.specs.Refusal.{refused, noRefusal, when};
+ghost use Rattle.reasons.specs.Leaves.{notFree, notPlaced, conflicting, byRoute, byLine, exitLocked, blockBarred, blockHeld};
 
 // A refusal: its number and its detail; number 0 where there is none.
 pub struct Refusal {
@@ -35,8 +38,8 @@ pub struct Refusal {
 }
 
 // No refusal.
-pub fn none() -> Refusal
-    ensures { λ r. ⌜ r ≡ none ⌝ }
+pub fn no_refusal() -> Refusal
+    ensures { λ r. ⌜ r ≡ noRefusal ⌝ }
 {
     Refusal {
         number: 0,
@@ -58,7 +61,7 @@ pub fn when_refused(test: bool, number: u8, detail: u32) -> Refusal
     if test {
         return refuse(number, detail);
     }
-    none()
+    no_refusal()
 }
 
 // Refused where a search of n found one.
@@ -74,9 +77,9 @@ fn not_free(sections: &[u8; 64], set: u64) -> Refusal
 {
     let g = searches::lowest_lacking(sections, set);
     if 64 <= g {
-        return none();
+        return no_refusal();
     }
-    if section_reads(sections, g) == 2 {
+    if section_reads(sections, g) == OCCUPIED {
         return refuse(7, g as u32);
     }
     refuse(8, g as u32)
@@ -217,49 +220,47 @@ pub fn not_locked(phases: &[u8; 48], r: u8) -> Refusal
 
 // 14: the route is cancelling already.
 pub fn already_cancelling(phases: &[u8; 48], r: u8) -> Refusal
-    ensures { λ x. ⌜ x ≡ when (eqb (read 48 0 (now (phases .entry)) r) 3) 14 r ⌝ }
+    ensures { λ x. ⌜ x ≡ when (eqb (phase (now (phases .entry)) r) cancelling) 14 r ⌝ }
 {
-    let phase = phase_at(phases, r);
-    when_refused(phase == 3, 14, r as u32)
+    let phase = phase_of(phases, r);
+    when_refused(phase == CANCELLING, 14, r as u32)
 }
 
 // 9: the line is not secured that way.
 pub fn not_secured(directions: &[u8; 8], l: u8, end: u8) -> Refusal
-    ensures { λ r. ⌜ r ≡ when (not (eqb (read 8 0 (now (directions .entry)) l) (end + 1))) 9 l ⌝ }
+    ensures { λ r. ⌜ r ≡ when (not (eqb (direction (now (directions .entry)) l) (end + 1))) 9 l ⌝ }
 {
-    let direction = direction_at(directions, l) as u32;
+    let direction = direction_of(directions, l) as u32;
     let asked = (end as u32) + 1;
     when_refused(direction != asked, 9, l as u32)
 }
 
 // 12: the line is already secured; the detail is its direction.
 pub fn already_secured(directions: &[u8; 8], l: u8) -> Refusal
-    ensures { λ r. ⌜ r ≡ when (not (eqb (read 8 0 (now (directions .entry)) l) 0)) 12 (read 8 0 (now (directions .entry)) l) ⌝ }
+    ensures { λ r. ⌜ r ≡ when (not (eqb (direction (now (directions .entry)) l) neutral)) 12 (direction (now (directions .entry)) l) ⌝ }
 {
-    let direction = direction_at(directions, l);
-    when_refused(direction != 0, 12, direction as u32)
+    let direction = direction_of(directions, l);
+    when_refused(direction != NEUTRAL, 12, direction as u32)
 }
 
 // 11: the block that an exit route enters is barred.
 pub fn entered_barred(ls: [Line; 8], bars: &[u8; 64], a: Route) -> Refusal
-    ensures { λ r. ⌜ r ≡ when (not (unbarred (now (bars .entry)) (a .line) (nearest (line ls (a .line)) (a .end)))) 11 (getD (line ls (a .line) .block) (nearest (line ls (a .line)) (a .end)) 0) ⌝ }
+    ensures { λ r. ⌜ r ≡ when (not (unbarred (now (bars .entry)) (a .line) (nearest (line ls (a .line)) (a .end)))) 11 (nearestSection (line ls (a .line)) (a .end)) ⌝ }
 {
     let b = line_at(ls, a.line);
-    let block = b.block;
     let i = nearest_block(b, a.end);
-    let section = at8(block, i);
+    let section = nearest_section(b, a.end);
     let free = is_unbarred(bars, a.line, i);
     when_refused(!free, 11, section as u32)
 }
 
 // 10: the block that an exit route enters is held.
 pub fn entered_held(ls: [Line; 8], stages: &[u8; 64], a: Route) -> Refusal
-    ensures { λ r. ⌜ r ≡ when (not (isOpen (now (stages .entry)) (a .line) (nearest (line ls (a .line)) (a .end)))) 10 (getD (line ls (a .line) .block) (nearest (line ls (a .line)) (a .end)) 0) ⌝ }
+    ensures { λ r. ⌜ r ≡ when (not (isOpen (now (stages .entry)) (a .line) (nearest (line ls (a .line)) (a .end)))) 10 (nearestSection (line ls (a .line)) (a .end)) ⌝ }
 {
     let b = line_at(ls, a.line);
-    let block = b.block;
     let i = nearest_block(b, a.end);
-    let section = at8(block, i);
+    let section = nearest_section(b, a.end);
     let open = is_open(stages, a.line, i);
     when_refused(!open, 10, section as u32)
 }

@@ -15,7 +15,7 @@ use Rattle.laws.proofs.Tests.{and-left, and-right, and-both, fails-from, fails-
 use Rattle.track.specs.Lists.{between}
 use Rattle.layout.specs.declared.Layout.{Layout}
 use Rattle.reasons.specs.declared.Refusal.{Refusal}
-use Rattle.reasons.specs.Refusal.{refused, none, when, firstOf}
+use Rattle.reasons.specs.Refusal.{refused, noRefusal, when, firstOf}
 use Rattle.refusals.specs.Events.{objects, secondWrong, eventRefusal}
 
 -- ---- a list of reasons of which none is given
@@ -28,8 +28,8 @@ first-then x y xs (yes h) e = (h, ap (λ (r : Refusal). r .number) (if-eq (x .nu
 first-then x y xs (no h) e = absurd (h (ap (λ (r : Refusal). r .number) (if-ne (x .number) 0 (firstOf (y ∷ xs)) x _ h refl) ∙ e))
 
 -- the k-th is not given
-pub granted-at : (xs : List Refusal) → firstOf xs .number ≡ 0 → (k : ℕ) → getD xs k none .number ≡ 0
-unfolding firstOf none refused
+pub granted-at : (xs : List Refusal) → firstOf xs .number ≡ 0 → (k : ℕ) → getD xs k noRefusal .number ≡ 0
+unfolding firstOf noRefusal refused
 granted-at [] e k = refl
 granted-at (x ∷ []) e zero = e
 granted-at (x ∷ []) e (suc k) = refl
@@ -54,10 +54,6 @@ module _ (isSound : Bool) (L : Layout) (k a b : ℕ) (e : eventRefusal isSound L
   pub granted-kind : between 1 10 k ≡ true
   unfolding eventRefusal
   granted-kind = not-false (between 1 10 k) (when-granted _ 1 0 (omega arith) (granted-at _ e 1))
-
-  pub granted-least : 1 ≤ k
-  unfolding between
-  granted-least = leb-true 1 k (and-left _ _ granted-kind)
 
   pub granted-most : k ≤ 10
   unfolding between

@@ -3,32 +3,33 @@ use Prim.Native.Nat.{ℕ, _+_}
 use mathlib.Core.Bool.{not}
 use mathlib.Core.List.{List, [], _∷_}
 use lib.Dec.{eqb}
-use lib.ListN.{getD}
 use Rattle.laws.specs.Choice.{if_then_else_}
 use Rattle.laws.specs.Tables.{read}
 use Rattle.sets.specs.Sets.{union, setOf, joined}
 use Rattle.track.specs.declared.Line.{Line}
 use Rattle.track.specs.declared.Route.{Route}
-use Rattle.track.specs.Objects.{line, route}
-use Rattle.signals.specs.Signals.{nearest, isOpen, unbarred}
+use Rattle.track.specs.Codes.{exitRoute, neutral, cancelling}
+use Rattle.track.specs.Objects.{line, route, nearest, nearestSection}
+use Rattle.tables.specs.Blocks.{isOpen, unbarred}
+use Rattle.tables.specs.Locks.{direction, phase, locked}
 use Rattle.layout.specs.declared.Layout.{Layout}
 use Rattle.reasons.specs.declared.Refusal.{Refusal}
-use Rattle.reasons.specs.Refusal.{none, when, firstOf}
-use Rattle.reasons.specs.Leaves.{notFree, notPlaced, locked, conflicting, byRoute, byLine, exitLocked, blockBarred, blockHeld}
+use Rattle.reasons.specs.Refusal.{noRefusal, when, firstOf}
+use Rattle.reasons.specs.Leaves.{notFree, notPlaced, conflicting, byRoute, byLine, exitLocked, blockBarred, blockHeld}
 
 -- throw: 15, 16, then 7/8 for the point's own section
 unfoldable pub throwRefusal : Layout → List ℕ → List ℕ → List ℕ → ℕ → Refusal
 throwRefusal L sections phases directions p =
     firstOf (byRoute L phases p ∷ byLine L directions p ∷ notFree sections (joined 0 (read 32 0 (L .pointsection) p)) ∷ [])
 
--- an exit route besides: 9, 6 for the line's points, 11, 10 for the block it enters; a train leaves end 0 in direction 1 and end 1 in direction 2
+-- an exit route besides: 9, 6 for the line's points, 11, 10 for the block it enters; a train leaves end A, 0, in direction A to B, 1, and end B, 1, in direction B to A, 2
 unfoldable pub exitRefusal : List Line → List ℕ → List ℕ → List ℕ → List ℕ → Route → Refusal
 exitRefusal ls points directions stages bars a =
     firstOf (
-    when (not (eqb (read 8 0 directions (a .line)) (a .end + 1))) 9 (a .line)
+    when (not (eqb (direction directions (a .line)) (a .end + 1))) 9 (a .line)
     ∷ notPlaced points (line ls (a .line) .points) (line ls (a .line) .point) (line ls (a .line) .position)
-    ∷ when (not (unbarred bars (a .line) (nearest (line ls (a .line)) (a .end)))) 11 (getD (line ls (a .line) .block) (nearest (line ls (a .line)) (a .end)) 0)
-    ∷ when (not (isOpen stages (a .line) (nearest (line ls (a .line)) (a .end)))) 10 (getD (line ls (a .line) .block) (nearest (line ls (a .line)) (a .end)) 0)
+    ∷ when (not (unbarred bars (a .line) (nearest (line ls (a .line)) (a .end)))) 11 (nearestSection (line ls (a .line)) (a .end))
+    ∷ when (not (isOpen stages (a .line) (nearest (line ls (a .line)) (a .end)))) 10 (nearestSection (line ls (a .line)) (a .end))
     ∷ [])
 
 -- what a route's own lists ask: 6, 7/8 over path and overlap; an exit route then 9, 6, 11, 10
@@ -37,7 +38,7 @@ routeRefusal ls sections points directions stages bars a =
     firstOf (
     notPlaced points (a .points) (a .point) (a .position)
     ∷ notFree sections (union (setOf (a .paths) (a .path)) (setOf (a .overlaps) (a .overlap)))
-    ∷ (if eqb (a .kind) 2 then exitRefusal ls points directions stages bars a else none)
+    ∷ (if eqb (a .kind) exitRoute then exitRefusal ls points directions stages bars a else noRefusal)
     ∷ [])
 
 -- set route: 4, 5, then what its lists ask
@@ -51,13 +52,13 @@ setRefusal L sections points phases directions stages bars r =
 
 -- cancel: 13, 14
 unfoldable pub cancelRefusal : List ℕ → ℕ → Refusal
-cancelRefusal phases r = firstOf (when (not (locked phases r)) 13 r ∷ when (eqb (read 48 0 phases r) 3) 14 r ∷ [])
+cancelRefusal phases r = firstOf (when (not (locked phases r)) 13 r ∷ when (eqb (phase phases r) cancelling) 14 r ∷ [])
 
 -- secure: 12, 11, 6 for the line's points, 10
 unfoldable pub secureRefusal : List Line → List ℕ → List ℕ → List ℕ → List ℕ → ℕ → Refusal
 secureRefusal ls points directions stages bars l =
     firstOf (
-    when (not (eqb (read 8 0 directions l) 0)) 12 (read 8 0 directions l)
+    when (not (eqb (direction directions l) neutral)) 12 (direction directions l)
     ∷ blockBarred ls bars l
     ∷ notPlaced points (line ls l .points) (line ls l .point) (line ls l .position)
     ∷ blockHeld ls stages l

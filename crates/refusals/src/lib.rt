@@ -2,15 +2,17 @@
 use layout::Layout;
 use reasons::Refusal;
 use reasons::events;
-use reasons::none;
+use reasons::no_refusal;
 use reasons::when_refused;
 use track::Line;
 use track::Route;
+use track::codes::EXIT_ROUTE;
 use track::route_at;
 ghost use mathlib.Core.Path.{_≡_};
 ghost use lib.Dec.{eqb};
 ghost use Rattle.laws.specs.Choice.{if_then_else_};
-ghost use Rattle.reasons.specs.Refusal.{none};
+ghost use Rattle.track.specs.Codes.{exitRoute};
+ghost use Rattle.reasons.specs.Refusal.{noRefusal};
 ghost use Rattle.refusals.specs.Events.{eventRefusal};
 ghost use Rattle.refusals.specs.Orders.{throwRefusal, exitRefusal, routeRefusal, setRefusal, cancelRefusal, secureRefusal, manualRefusal};
 
@@ -64,10 +66,10 @@ fn exit_refusal<'a>(
     bars: &'a [u8; 64],
     a: Route,
 ) -> Refusal
-    ensures { λ r. ⌜ r ≡ if eqb (a .kind) 2 then exitRefusal ls (now (points .entry)) (now (directions .entry)) (now (stages .entry)) (now (bars .entry)) a else none ⌝ }
+    ensures { λ r. ⌜ r ≡ if eqb (a .kind) exitRoute then exitRefusal ls (now (points .entry)) (now (directions .entry)) (now (stages .entry)) (now (bars .entry)) a else noRefusal ⌝ }
 {
-    if a.kind != 2 {
-        return none();
+    if a.kind != EXIT_ROUTE {
+        return no_refusal();
     }
     let way = reasons::not_secured(directions, a.line, a.end);
     if way.number != 0 {

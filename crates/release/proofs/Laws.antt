@@ -14,16 +14,16 @@ use Rattle.track.specs.declared.Route.{Route}
 use Rattle.release.specs.declared.Gives.{Gives}
 use Rattle.release.specs.declared.Held.{Held}
 use Rattle.signals.specs.Signals.{fallen}
-use Rattle.release.specs.Release.{stepAfter, leftSections, left, secondsAfter, goes, heldAfter, settledFrom, settled}
+use Rattle.release.specs.Release.{stepAfter, toVacate, vacated, secondsAfter, goes, heldAfter, settledFrom, settled}
 
 -- of a path with fewer sections the first entry
 pub from-short : (a : Route) (k r : ℕ) → a .paths < k → r ≡ getD (a .path) 0 0 → r ≡ getD (a .path) (a .paths - k) 0
 from-short a k r h q = q ∙ ap (λ n. getD (a .path) n 0) (omega arith)
 
 -- a path of no section leaves none to be free
-pub left-none : (a : Route) → (a .kind ≡ 2 → ⊥) → a .paths ≡ 0 → 0 ≡ leftSections a
-unfolding leftSections
-left-none a h n = if-ne _ _ _ _ 0 h (omega arith)
+pub vacates-none : (a : Route) → (a .kind ≡ 2 → ⊥) → a .paths ≡ 0 → 0 ≡ toVacate a
+unfolding toVacate
+vacates-none a h n = if-ne _ _ _ _ 0 h (omega arith)
 
 -- ---- released, by cases
 
@@ -34,10 +34,10 @@ module _ (ls : List Line) (sections : List ℕ) (a : Route) (e : Gives) (h : Hel
   goes-by-time t = rw t
 
   -- the third step done, where it is left behind
-  pub goes-left : (r : Bool) → eqb (h .phase) 3 and (eqb (e .tick) 1 and leb 89 (h .second)) ≡ false → step ≡ 3 → r ≡ left ls sections a
+  pub goes-vacated : (r : Bool) → eqb (h .phase) 3 and (eqb (e .tick) 1 and leb 89 (h .second)) ≡ false → step ≡ 3 → r ≡ vacated ls sections a
       → r ≡ goes ls sections a e h step
   unfolding goes _or_ _and_
-  goes-left r t s q = rw (t, eq-eqb step 3 s) q
+  goes-vacated r t s q = rw (t, eq-eqb step 3 s) q
 
   -- else not
   pub goes-not : eqb (h .phase) 3 and (eqb (e .tick) 1 and leb 89 (h .second)) ≡ false → (step ≡ 3 → ⊥) → false ≡ goes ls sections a e h step

@@ -8,27 +8,28 @@ use Rattle.laws.specs.Choice.{if_then_else_}
 use Rattle.laws.specs.Tests.{_and_, _or_, implies}
 use Rattle.track.specs.declared.Line.{Line}
 use Rattle.track.specs.declared.Route.{Route}
-use Rattle.track.specs.Objects.{line}
-use Rattle.signals.specs.Readings.{reading, allFree}
-use Rattle.signals.specs.Signals.{nearest, fallen}
+use Rattle.track.specs.Codes.{free, occupied, none, entranceRoute, exitRoute, idle, cancelling}
+use Rattle.track.specs.Objects.{line, nearestSection}
+use Rattle.tables.specs.Readings.{reading, allFree}
+use Rattle.signals.specs.Signals.{fallen}
 use Rattle.release.specs.declared.Gives.{Gives}
 use Rattle.release.specs.declared.Held.{Held}
 use Rattle.release.specs.declared.Settled.{Settled}
 
--- what an event gives section g: 1 free, 2 occupied, 3 none, 0 nothing
+-- what an event gives section g: free, occupied, none, or 0 for nothing
 unfoldable pub given : Gives → ℕ → ℕ
 given e g = if eqb (e .section) g then e .reading else 0
 
 -- the section of the block nearest a route's own end
 unfoldable pub endBlock : List Line → Route → ℕ
-endBlock ls a = getD (line ls (a .line) .block) (nearest (line ls (a .line)) (a .end)) 0
+endBlock ls a = nearestSection (line ls (a .line)) (a .end)
 
 -- the watched pair: for an exit route the last path section, then the block entered; otherwise the last but one and the last path section
 unfoldable pub firstWatched : Route → ℕ
-firstWatched a = if eqb (a .kind) 2 then getD (a .path) (a .paths - 1) 0 else getD (a .path) (a .paths - 2) 0
+firstWatched a = if eqb (a .kind) exitRoute then getD (a .path) (a .paths - 1) 0 else getD (a .path) (a .paths - 2) 0
 
 unfoldable pub secondWatched : List Line → Route → ℕ
-secondWatched ls a = if eqb (a .kind) 2 then endBlock ls a else getD (a .path) (a .paths - 1) 0
+secondWatched ls a = if eqb (a .kind) exitRoute then endBlock ls a else getD (a .path) (a .paths - 1) 0
 
 -- the steps, from what was given to the first and the second section of the pair, and what they read after the event: 1, the first is given occupied;
 -- 2, the second is given occupied while the first reads occupied; 3, the first is given free. If the first reads free before the second step, or
@@ -37,14 +38,16 @@ secondWatched ls a = if eqb (a .kind) 2 then endBlock ls a else getD (a .path) (
 -- the step done, where it was 0 or 1 and neither reads none
 unfoldable pub earlyStep : ℕ → ℕ → ℕ → ℕ → ℕ
 earlyStep step gave1 gave2 reads1 =
-    if eqb step 1 then (if eqb reads1 1 then 0 else if eqb gave2 2 and eqb reads1 2 then 2 else 1) else if eqb gave1 2 then 1 else 0
+    if eqb step 1 then (if eqb reads1 free then 0 else if eqb gave2 occupied and eqb reads1 occupied then 2 else 1)
+    else if eqb gave1 occupied then 1
+    else 0
 
 -- the step done, where it was any
 unfoldable pub stepFrom : ℕ → ℕ → ℕ → ℕ → ℕ → ℕ
 stepFrom step gave1 gave2 reads1 reads2 =
     if eqb step 3 then 3
-    else if eqb reads1 3 or eqb reads2 3 then 0
-    else if eqb step 2 then (if eqb gave1 1 then 3 else 2)
+    else if eqb reads1 none or eqb reads2 none then 0
+    else if eqb step 2 then (if eqb gave1 free then 3 else 2)
     else earlyStep step gave1 gave2 reads1
 
 -- the step done of a route
@@ -52,27 +55,28 @@ unfoldable pub stepAfter : List Line → List ℕ → Route → Gives → ℕ �
 stepAfter ls sections a e step =
     stepFrom step (given e (firstWatched a)) (given e (secondWatched ls a)) (reading sections (firstWatched a)) (reading sections (secondWatched ls a))
 
--- how many path sections a train leaves behind: all, the last one excepted for kinds 0 and 1
-unfoldable pub leftSections : Route → ℕ
-leftSections a = if eqb (a .kind) 2 then a .paths else a .paths - 1
+-- how many path sections a train vacates: all, the last one excepted for kinds 0 and 1
+unfoldable pub toVacate : Route → ℕ
+toVacate a = if eqb (a .kind) exitRoute then a .paths else a .paths - 1
 
--- the train has left the route behind: those read free and, for kind 1, the block nearest its end reads free
-unfoldable pub left : List Line → List ℕ → Route → Bool
-left ls sections a = allFree sections (leftSections a) (a .path) and implies (eqb (a .kind) 1) (eqb (reading sections (endBlock ls a)) 1)
+-- the route is vacated: those read free and, for kind 1, the block nearest its end reads free
+unfoldable pub vacated : List Line → List ℕ → Route → Bool
+vacated ls sections a =
+    allFree sections (toVacate a) (a .path) and implies (eqb (a .kind) entranceRoute) (eqb (reading sections (endBlock ls a)) free)
 
--- the seconds counted of a cancelling route, phase 3, after the event
+-- the seconds counted of a cancelling route after the event
 unfoldable pub secondsAfter : Gives → ℕ → ℕ → ℕ
-secondsAfter e phase second = if eqb phase 3 and eqb (e .tick) 1 then (if ltb second 89 then second + 1 else second) else second
+secondsAfter e phase second = if eqb phase cancelling and eqb (e .tick) 1 then (if ltb second 89 then second + 1 else second) else second
 
 -- the route is released by the 90th second of its cancelling, before which 89 were counted, or, the third step done, at the end of the first event
--- (that one included) at which it is left behind
+-- (that one included) at which it is vacated
 unfoldable pub goes : List Line → List ℕ → Route → Gives → Held → ℕ → Bool
-goes ls sections a e h step = (eqb (h .phase) 3 and (eqb (e .tick) 1 and leb 89 (h .second))) or (eqb step 3 and left ls sections a)
+goes ls sections a e h step = (eqb (h .phase) cancelling and (eqb (e .tick) 1 and leb 89 (h .second))) or (eqb step 3 and vacated ls sections a)
 
 -- what becomes of a locked route
 unfoldable pub heldAfter : List Line → List ℕ → Route → Gives → Held → Held
 heldAfter ls sections a e h =
-    if goes ls sections a e h (stepAfter ls sections a e (h .step)) then record { phase = 0; step = 0; second = 0 }
+    if goes ls sections a e h (stepAfter ls sections a e (h .step)) then record { phase = idle; step = 0; second = 0 }
     else record { phase = h .phase; step = stepAfter ls sections a e (h .step); second = secondsAfter e (h .phase) (h .second) }
 
 -- a locked route whose signal has fallen, or not, and then what becomes of it

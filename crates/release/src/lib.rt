@@ -1,17 +1,24 @@
 // Letting a route go: the watched pair, the three steps, the ninety seconds (section 6).
 use laws::at8;
-use signals::all_free;
-use signals::nearest_block;
-use signals::section_reads;
+use tables::all_free;
+use tables::section_reads;
 use track::Line;
 use track::Route;
+use track::codes::CANCELLING;
+use track::codes::ENTRANCE_ROUTE;
+use track::codes::EXIT_ROUTE;
+use track::codes::FREE;
+use track::codes::IDLE;
+use track::codes::NONE;
+use track::codes::OCCUPIED;
 use track::line_at;
+use track::nearest_section;
 ghost use mathlib.Core.Path.{_≡_};
 ghost use Prim.Native.Nat.{_-_};
 ghost use lib.ListN.{getD};
-ghost use Rattle.release.specs.Release.{given, endBlock, firstWatched, secondWatched, earlyStep, stepFrom, stepAfter, leftSections, left, secondsAfter, goes, heldAfter, settled};
+ghost use Rattle.release.specs.Release.{given, endBlock, firstWatched, secondWatched, earlyStep, stepFrom, stepAfter, toVacate, vacated, secondsAfter, goes, heldAfter, settled};
 
-// What an event gives: a section its reading (1 free, 2 occupied, 3 none; no section where the number is 64 or more), and 1 where a second has passed.
+// What an event gives: a section its reading (no section where the number is 64 or more), and 1 where a second has passed.
 pub struct Gives {
     pub section: u8,
     pub reading: u8,
@@ -48,9 +55,7 @@ pub fn end_block(ls: [Line; 8], a: Route) -> u8
     ensures { λ r. ⌜ r ≡ endBlock ls a ⌝ }
 {
     let b = line_at(ls, a.line);
-    let block = b.block;
-    let i = nearest_block(b, a.end);
-    at8(block, i)
+    nearest_section(b, a.end)
 }
 
 // The k-th path section from the end, 1 the last; the first entry of a path that has fewer.
@@ -68,7 +73,7 @@ fn from_end(a: Route, k: u8) -> u8
 fn first_watched(a: Route) -> u8
     ensures { λ r. ⌜ r ≡ firstWatched a ⌝ }
 {
-    if a.kind == 2 {
+    if a.kind == EXIT_ROUTE {
         return from_end(a, 1);
     }
     from_end(a, 2)
@@ -78,7 +83,7 @@ fn first_watched(a: Route) -> u8
 fn second_watched(ls: [Line; 8], a: Route) -> u8
     ensures { λ r. ⌜ r ≡ secondWatched ls a ⌝ }
 {
-    if a.kind == 2 {
+    if a.kind == EXIT_ROUTE {
         return end_block(ls, a);
     }
     from_end(a, 1)
@@ -89,15 +94,15 @@ fn early_step(step: u8, gave1: u8, gave2: u8, reads1: u8) -> u8
     ensures { λ r. ⌜ r ≡ earlyStep step gave1 gave2 reads1 ⌝ }
 {
     if step == 1 {
-        if reads1 == 1 {
+        if reads1 == FREE {
             return 0;
         }
-        if (gave2 == 2) & (reads1 == 2) {
+        if (gave2 == OCCUPIED) & (reads1 == OCCUPIED) {
             return 2;
         }
         return 1;
     }
-    if gave1 == 2 {
+    if gave1 == OCCUPIED {
         return 1;
     }
     0
@@ -110,11 +115,11 @@ fn step_from(step: u8, gave1: u8, gave2: u8, reads1: u8, reads2: u8) -> u8
     if step == 3 {
         return 3;
     }
-    if (reads1 == 3) | (reads2 == 3) {
+    if (reads1 == NONE) | (reads2 == NONE) {
         return 0;
     }
     if step == 2 {
-        if gave1 == 1 {
+        if gave1 == FREE {
             return 3;
         }
         return 2;
@@ -135,11 +140,11 @@ fn step_after(ls: [Line; 8], sections: &[u8; 64], a: Route, e: Gives, step: u8) 
     step_from(step, gave1, gave2, reads1, reads2)
 }
 
-// How many path sections must read free.
-fn left_sections(a: Route) -> u8
-    ensures { λ r. ⌜ r ≡ leftSections a ⌝ }
+// How many path sections a train vacates.
+fn sections_to_vacate(a: Route) -> u8
+    ensures { λ r. ⌜ r ≡ toVacate a ⌝ }
 {
-    if a.kind == 2 {
+    if a.kind == EXIT_ROUTE {
         return a.paths;
     }
     if a.paths == 0 {
@@ -148,23 +153,23 @@ fn left_sections(a: Route) -> u8
     a.paths - 1
 }
 
-// The train has left the route behind.
-fn is_left(ls: [Line; 8], sections: &[u8; 64], a: Route) -> bool
-    ensures { λ r. ⌜ r ≡ left ls (now (sections .entry)) a ⌝ }
+// The route is vacated.
+fn is_vacated(ls: [Line; 8], sections: &[u8; 64], a: Route) -> bool
+    ensures { λ r. ⌜ r ≡ vacated ls (now (sections .entry)) a ⌝ }
 {
-    let entrance = a.kind == 1;
-    let n = left_sections(a);
+    let entrance = a.kind == ENTRANCE_ROUTE;
+    let n = sections_to_vacate(a);
     let free = all_free(sections, n, &a.path);
     let g = end_block(ls, a);
     let end = section_reads(sections, g);
-    free & (!entrance | (end == 1))
+    free & (!entrance | (end == FREE))
 }
 
 // The seconds counted after an event.
 fn seconds_after(e: Gives, phase: u8, second: u8) -> u8
     ensures { λ r. ⌜ r ≡ secondsAfter e phase second ⌝ }
 {
-    if (phase == 3) & (e.tick == 1) {
+    if (phase == CANCELLING) & (e.tick == 1) {
         if second < 89 {
             return second + 1;
         }
@@ -177,11 +182,11 @@ fn seconds_after(e: Gives, phase: u8, second: u8) -> u8
 fn is_released(ls: [Line; 8], sections: &[u8; 64], a: Route, e: Gives, h: Held, step: u8) -> bool
     ensures { λ r. ⌜ r ≡ goes ls (now (sections .entry)) a e h step ⌝ }
 {
-    if (h.phase == 3) & ((e.tick == 1) & (89 <= h.second)) {
+    if (h.phase == CANCELLING) & ((e.tick == 1) & (89 <= h.second)) {
         return true;
     }
     if step == 3 {
-        return is_left(ls, sections, a);
+        return is_vacated(ls, sections, a);
     }
     false
 }
@@ -194,7 +199,7 @@ pub fn held_after(ls: [Line; 8], sections: &[u8; 64], a: Route, e: Gives, h: Hel
     let second = seconds_after(e, h.phase, h.second);
     if is_released(ls, sections, a, e, h, step) {
         return Held {
-            phase: 0,
+            phase: IDLE,
             step: 0,
             second: 0,
         };

@@ -15,7 +15,7 @@ use Rattle.track.specs.declared.Line.{Line}
 use Rattle.track.specs.declared.Route.{Route}
 use Rattle.track.specs.Objects.{line}
 use Rattle.track.specs.Lists.{among}
-use Rattle.rules.specs.Rules.{share, hasBlock, isBlock, hasInner, isInner, inPath, stands, clashes}
+use Rattle.rules.specs.Rules.{share, hasBlock, isBlock, hasInner, isInner, inPath, hasPoint, clashes}
 use Rattle.rules.specs.Sets.{lineBlocks, blockSet, innerTurn, innerSet, offBlocks, sideWith, sideSet, reachOf, clashing}
 
 -- two sets have an element in common just where some number passes both of the tests that they stand for
@@ -77,8 +77,8 @@ sides w a (suc n) g l =
     ∙ ap (λ t. t or (eqb (getD (a .position) n 0) w and eqb (getD (a .point) n 0) g)) (sides w a n g l)
 
 -- the points of a route that lie that way
-pub holds-side : (w : ℕ) (a : Route) (g : ℕ) → g < 64 → holds (sideSet w a) g ≡ stands w a g
-unfolding sideSet stands
+pub holds-side : (w : ℕ) (a : Route) (g : ℕ) → g < 64 → holds (sideSet w a) g ≡ hasPoint w a g
+unfolding sideSet hasPoint
 holds-side w a g l = sides w a (a .points) g l
 
 -- ---- the rules, by the sets

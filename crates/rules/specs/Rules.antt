@@ -7,6 +7,7 @@ use lib.ListN.{getD}
 use Rattle.laws.specs.Tests.{_and_, _or_, implies, every, any}
 use Rattle.track.specs.declared.Line.{Line}
 use Rattle.track.specs.declared.Route.{Route}
+use Rattle.track.specs.Codes.{left, right, entranceRoute, exitRoute}
 use Rattle.track.specs.Objects.{line, inner, entrance}
 use Rattle.track.specs.Lists.{among, differ}
 
@@ -62,7 +63,7 @@ routeLists a = differ (a .paths) (a .path) and differ (a .points) (a .point)
 
 -- rule 4, kinds 0 and 1 have at least two path sections
 unfoldable pub routeLength : Route → Bool
-routeLength a = eqb (a .kind) 2 or leb 2 (a .paths)
+routeLength a = eqb (a .kind) exitRoute or leb 2 (a .paths)
 
 -- the last path section
 unfoldable pub endSection : Route → ℕ
@@ -72,17 +73,17 @@ endSection a = getD (a .path) (a .paths - 1) 0
 -- an exit route's last path section is its end's inner section; kinds 0 and 2 start at no entrance signal
 unfoldable pub routeEnds : ℕ → List Line → Route → Bool
 routeEnds n ls a = every (
-    implies (eqb (a .kind) 1)
+    implies (eqb (a .kind) entranceRoute)
     (eqb (a .entry) (entrance (line ls (a .line)) (a .end)) and eqb (getD (a .path) 0 0) (inner (line ls (a .line)) (a .end)))
-    ∷ implies (eqb (a .kind) 2) (eqb (endSection a) (inner (line ls (a .line)) (a .end)))
-    ∷ (eqb (a .kind) 1 or not (isEntrance n ls (a .entry)))
+    ∷ implies (eqb (a .kind) exitRoute) (eqb (endSection a) (inner (line ls (a .line)) (a .end)))
+    ∷ (eqb (a .kind) entranceRoute or not (isEntrance n ls (a .entry)))
     ∷ [])
 
 -- point p is one of the route's, in position w
-unfoldable pub stands : ℕ → Route → ℕ → Bool
-stands w a p = any (a .points) (λ i. eqb (getD (a .position) i 0) w and eqb (getD (a .point) i 0) p)
+unfoldable pub hasPoint : ℕ → Route → ℕ → Bool
+hasPoint w a p = any (a .points) (λ i. eqb (getD (a .position) i 0) w and eqb (getD (a .point) i 0) p)
 
 -- rule 6, two routes with the same entry signal, a common path section, or a common point in different positions
 unfoldable pub clashes : Route → Route → Bool
 clashes a b =
-    eqb (a .entry) (b .entry) or (share (inPath a) (inPath b) or (share (stands 1 a) (stands 2 b) or share (stands 2 a) (stands 1 b)))
+    eqb (a .entry) (b .entry) or (share (inPath a) (inPath b) or (share (hasPoint left a) (hasPoint right b) or share (hasPoint right a) (hasPoint left b)))

@@ -10,6 +10,7 @@ use Rattle.laws.specs.Tables.{iter}
 use Rattle.sets.specs.Sets.{joined, union, setOf, common}
 use Rattle.track.specs.declared.Line.{Line}
 use Rattle.track.specs.declared.Route.{Route}
+use Rattle.track.specs.Codes.{left, right}
 use Rattle.track.specs.Objects.{line}
 use Rattle.rules.specs.declared.Reach.{Reach}
 
@@ -40,7 +41,7 @@ sideSet w a = iter (sideWith w (a .point) (a .position)) (a .points) 0
 
 -- what rule 6 asks of a route
 unfoldable pub reachOf : Route → Reach
-reachOf a = record { entry = a .entry; path = setOf (a .paths) (a .path); left = sideSet 1 a; right = sideSet 2 a }
+reachOf a = record { entry = a .entry; path = setOf (a .paths) (a .path); left = sideSet left a; right = sideSet right a }
 
 -- and of two
 unfoldable pub clashing : Reach → Reach → Bool

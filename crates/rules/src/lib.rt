@@ -3,6 +3,10 @@ use laws::at8;
 use laws::lent8;
 use track::Line;
 use track::Route;
+use track::codes::ENTRANCE_ROUTE;
+use track::codes::EXIT_ROUTE;
+use track::codes::LEFT;
+use track::codes::RIGHT;
 use track::entrance_at;
 use track::inner_at;
 use track::line_at;
@@ -175,7 +179,7 @@ pub fn route_lists(a: Route) -> bool
 pub fn route_length(a: Route) -> bool
     ensures { λ r. ⌜ r ≡ routeLength a ⌝ }
 {
-    (a.kind == 2) | (2 <= a.paths)
+    (a.kind == EXIT_ROUTE) | (2 <= a.paths)
 }
 
 // The last section of a route's path.
@@ -200,9 +204,9 @@ pub fn route_ends(ls: [Line; 8], n: u8, a: Route) -> bool
     let first = at8(path, 0);
     let last = last_section(a);
     let elsewhere = is_entrance(ls, n, a.entry);
-    let enters = !(a.kind == 1) | ((a.entry == signal) & (first == section));
-    let leaves = !(a.kind == 2) | (last == section);
-    enters & (leaves & ((a.kind == 1) | !elsewhere))
+    let enters = !(a.kind == ENTRANCE_ROUTE) | ((a.entry == signal) & (first == section));
+    let leaves = !(a.kind == EXIT_ROUTE) | (last == section);
+    enters & (leaves & ((a.kind == ENTRANCE_ROUTE) | !elsewhere))
 }
 
 // A set of points with the i-th point of a route in it too, if it lies that way.
@@ -238,8 +242,8 @@ pub fn route_reach(a: Route) -> Reach
 {
     let own = a.path;
     let path = sets::of_list(own, a.paths);
-    let left = side_set(a, 1);
-    let right = side_set(a, 2);
+    let left = side_set(a, LEFT);
+    let right = side_set(a, RIGHT);
     Reach {
         entry: a.entry,
         path,

@@ -8,13 +8,15 @@ use native.Mathlib.Omega.{arith}
 use borrow.Author.Tests.{eqb-true, eq-eqb, ne-eqb, ltb-true}
 use lib.Dec.{ltb}
 use Rattle.laws.proofs.Tests.{and-left, and-right, implied, every-at, any-some}
-use Rattle.signals.specs.Signals.{nearest, isOpen, enterable, letsOut, clear, routeProceeds, mainProceeds}
+use Rattle.track.specs.Objects.{nearest}
+use Rattle.tables.specs.Blocks.{isOpen}
+use Rattle.signals.specs.Signals.{enterableBy, enterable, letsOut, clear, routeProceeds, mainProceeds}
 use Rattle.layout.specs.declared.Layout.{Layout}
 use Rattle.layout.specs.Layout.{lineIn, routeIn}
 use Rattle.layout_facts.specs.Plain.{block, nearestBlock, Sound, sameEntry}
 use Rattle.layout_facts.proofs.Uses.{same-exit}
 use Rattle.interlocking.specs.declared.State.{State}
-use Rattle.panel.specs.Panel.{stands, routeByte}
+use Rattle.panel.specs.Panel.{hasSignal, routeByte}
 use Rattle.safety.specs.Shown.{Signal, main, into, Panel, routeShows, panel}
 use Rattle.safety.specs.History.{History, shown}
 use Rattle.safety.specs.Demand3.{Proceeds, Enters}
@@ -23,8 +25,8 @@ use Rattle.safety.proofs.Signals.{main-shown, into-shown}
 use Rattle.safety.proofs.Invariant.{Inv}
 
 -- no exit signal and block signal lead into one block the same way: a block signal stands behind another block
-not-both-kinds : (L : Layout) (l w i e : ℕ) → 1 ≤ lineIn L l .blocks → nearestBlock L l e ≡ i → e + 1 ≡ w → stands (lineIn L l .blocks) i w ≡ true → ⊥
-unfolding stands nearestBlock
+not-both-kinds : (L : Layout) (l w i e : ℕ) → 1 ≤ lineIn L l .blocks → nearestBlock L l e ≡ i → e + 1 ≡ w → hasSignal (lineIn L l .blocks) i w ≡ true → ⊥
+unfolding hasSignal nearestBlock nearest
 not-both-kinds L l w i e some at way t = go (ℕ-discrete e 0)
   where
     go : Dec (e ≡ 0) → ⊥
@@ -71,7 +73,7 @@ module _ (L : Layout) (S : Sound L) (s : State) (h : History) (I : Inv L s h) wh
 
   -- a signal that shows proceed into a block: the line is secured its way, and the block is open
   pub enters-open : (x : Signal) (l i w : ℕ) → Enters L (shown L h) x l i w → (direction s l ≡ w) × (stage s l i ≡ 0)
-  unfolding panel clear letsOut enterable isOpen nearest nearestBlock lineIn
+  unfolding panel clear letsOut enterable enterableBy isOpen nearest nearestBlock lineIn
   enters-open (main x) l i w E =
       let (r, out) = E .leads in
       let (q, there, one, starts) = main-for x (E .proceeds) in

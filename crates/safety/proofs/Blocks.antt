@@ -4,13 +4,13 @@ use mathlib.Core.Path.{_≡_, refl, sym, _∙_}
 use mathlib.Core.Logic.{_≢_, _⊎_, inl, inr, ⊎-elim}
 use mathlib.Core.Bool.{true}
 use native.Mathlib.Omega.{arith}
-use borrow.Author.Tests.{eqb-true, eqb-false, eq-eqb, ltb-false, lt-ltb}
+use borrow.Author.Tests.{eqb-true, eqb-false, eq-eqb, lt-ltb}
 use lib.Dec.{eqb, ltb}
 use Rattle.laws.specs.Tests.{_and_}
 use Rattle.laws.proofs.Choice.{if-both}
-use Rattle.laws.proofs.Tests.{and-left, and-right, and-both, or-cases, not-both}
+use Rattle.laws.proofs.Tests.{and-left, and-right, and-both, or-left, or-right, or-cases, not-both}
 use Rattle.track.specs.Objects.{line}
-use Rattle.signals.specs.Signals.{place}
+use Rattle.tables.specs.Blocks.{place}
 use Rattle.passage.specs.Passage.{ownStage, farStage}
 use Rattle.layout.specs.declared.Layout.{Layout}
 use Rattle.layout.specs.Layout.{lineIn}
@@ -39,13 +39,17 @@ pub data OwnCase (L : Layout) (e : Event) (l i was x : ℕ) : Type 0 where
 of-reading : (L : Layout) (e : Event) (l i was v : ℕ) → e .kind ≡ 1 → says e (block L l i) ≡ v → (1 ≤ v) × (v ≤ 3) → OwnCase L e l i was (ownStage v was)
 unfolding ownStage
 of-reading L e l i was v k q d =
-    if-both C (eqb v 1)
+    if-both C (eqb v 2)
+    (λ t. if-both C _ (λ o. takes k (q ∙ eqb-true v 2 t) (inl refl) (omega arith))
+    (λ o. takes k (q ∙ eqb-true v 2 t) (inr refl) (
+    let held : was ≢ 0 = λ z. not-both (or-left _ _ (eq-eqb was 0 z)) o in
+    let stood : was ≢ 1 = λ z. not-both (or-right _ _ (eq-eqb was 1 z)) o in
+    omega arith)))
+    (λ f. if-both C (eqb v 3) (λ t. shuts k refl)
+    (λ g. if-both C (eqb v 1)
     (λ t. if-both C _
     (λ o. frees k (q ∙ eqb-true v 1 t) (⊎-elim (λ z. inl (eqb-true was 0 z)) (λ z. inr (eqb-true was 3 z)) (or-cases _ _ o)) refl) (λ o. shuts k refl))
-    (λ f. if-both C (eqb v 2)
-    (λ t. if-both C (ltb was 2) (λ z. takes k (q ∙ eqb-true v 2 t) (inl refl) (omega arith))
-    (λ z. let y = ltb-false was 2 z in takes k (q ∙ eqb-true v 2 t) (inr refl) (omega arith)))
-    (λ g. if-both C (eqb v 3) (λ t. shuts k refl) (λ t. absurd (omega (arith, eqb-false v 1 f, eqb-false v 2 g, eqb-false v 3 t)))))
+    (λ t. absurd (omega (arith, eqb-false v 2 f, eqb-false v 3 g, eqb-false v 1 t)))))
   where
     C : ℕ → Type 0
     C = OwnCase L e l i was

@@ -13,8 +13,8 @@ use Rattle.laws.proofs.Choice.{if-both}
 use Rattle.laws.proofs.Tests.{and-both, or-left, not-both}
 use Rattle.track.specs.declared.Line.{Line}
 use Rattle.track.specs.declared.Route.{Route}
-use Rattle.signals.specs.Readings.{recorded}
-use Rattle.signals.specs.Readings as readings
+use Rattle.tables.specs.Readings.{recorded}
+use Rattle.tables.specs.Readings as readings
 use Rattle.release.specs.declared.Gives.{Gives}
 use Rattle.release.specs.declared.Held.{Held}
 use Rattle.release.specs.Release.{stepAfter, secondsAfter, goes, heldAfter}

@@ -4,20 +4,23 @@ use Rattle.laws.specs.Choice.{if_then_else_}
 use Rattle.laws.specs.Tests.{_and_, _or_, implies, every, all, any, lowestFrom, lowest}
 use Rattle.laws.specs.Tables.{iter, read, eachFrom, each, put}
 use Rattle.sets.specs.Sets.{holds, joined, union, addEntry, setOf}
-use Rattle.signals.specs.Readings.{recorded, reading, lies, allFree, inPosition}
-use Rattle.signals.specs.Signals.{linePlaced, routePlaced, place, nearest, isOpen, unbarred, enterable, letsOut, clear, fallen, routeProceeds, mainProceeds, blockProceeds}
+use Rattle.tables.specs.Readings.{recorded, reading, lies, allFree, inPosition, linePlaced, routePlaced}
+use Rattle.track.specs.Objects.{nearest, nearestSection}
+use Rattle.tables.specs.Blocks.{place, isOpen, unbarred}
+use Rattle.signals.specs.Signals.{enterableBy, enterable, letsOut, clear, fallen, routeProceeds, mainProceeds, blockProceeds}
 use Rattle.passage.specs.Passage.{ownStage, arrival, nextBlock, farSection, farStage}
-use Rattle.release.specs.Release.{given, endBlock, firstWatched, secondWatched, earlyStep, stepFrom, stepAfter, leftSections, left, secondsAfter, goes, heldAfter}
+use Rattle.release.specs.Release.{given, endBlock, firstWatched, secondWatched, earlyStep, stepFrom, stepAfter, toVacate, vacated, secondsAfter, goes, heldAfter}
 use Rattle.layout_facts.specs.Plain.{block, innerSection, entranceSignal, nearestBlock}
 use Rattle.layout_facts.proofs.BranchT.{computed}
-use Rattle.reasons.specs.Refusal.{refused, none, when, found, firstOf}
-use Rattle.reasons.specs.Leaves.{lacking, notFree, misplaced, notPlaced, locked, conflicting, byRoute, byLine, exitLocked, blockBarred, blockHeld}
+use Rattle.reasons.specs.Refusal.{refused, noRefusal, when, found, firstOf}
+use Rattle.searches.specs.Searches.{lacking, misplaced, routeLocks, lineLocks, failing}
+use Rattle.tables.specs.Locks.{locked, lockedExitBy, lockedExit}
+use Rattle.reasons.specs.Leaves.{notFree, notPlaced, conflicting, byRoute, byLine, exitLocked, blockBarred, blockHeld}
 use Rattle.refusals.specs.Orders.{throwRefusal, exitRefusal, routeRefusal, setRefusal, cancelRefusal, secureRefusal, manualRefusal}
 use Rattle.refusals.specs.Events.{objects, secondWrong, eventRefusal}
 use Rattle.interlocking.specs.State.{cold, codes, routesInRange, inRange, withSections, withPoints, withRoutes, withLines, withBars}
 use Rattle.interlocking.specs.Own.{blockAt, ownStageAt, ownSection, ownPoint, throwReading, ownThrow, ownSet, ownCancel, ownSecure, openAt, ownManual, ownBar}
-use Rattle.interlocking.specs.Settle.{fallenAt, signals, stationProceeds, farProceeds, farDropped, farReading, farMoved, farAfter, farSections, heldOf, routeAfter, unlessIdle, routesBy, routes, lastBlock, exitLockedBy, passable, wasPassed, ends, directionAfter, lineRelease, settle}
-use Rattle.interlocking.specs.Settle as settling
+use Rattle.interlocking.specs.Settle.{fallenAt, signals, stationProceeds, farProceeds, farDropped, farReading, farMoved, farAfter, farSections, heldOf, routeAfter, unlessIdle, routesBy, routes, lastBlock, passable, wasPassed, ends, directionAfter, lineRelease, settle}
 use Rattle.interlocking.specs.Step.{orderRefusal, refusal, meant, gives, ownOf, own, after, refusedBy, answer, stepWhere, step, stepInRun}
 use Rattle.panel_facts.proofs.Cases.{panelComputed}
 use Rattle.step_facts.specs.Run.{box, boxInRun, stateAfter, answers, fromCold}
@@ -30,16 +33,17 @@ use Rattle.safety.specs.Demand3.{beyond}
 unfoldable pub runComputed : ℕ
 unfolding computed panelComputed
     if_then_else_ _and_ _or_ implies every all any lowestFrom lowest iter read eachFrom each put holds joined union addEntry setOf
-    recorded reading lies allFree inPosition linePlaced routePlaced place nearest isOpen unbarred enterable letsOut clear fallen routeProceeds mainProceeds blockProceeds
+    recorded reading lies allFree inPosition linePlaced routePlaced place nearest nearestSection isOpen unbarred enterable enterableBy letsOut clear fallen routeProceeds mainProceeds blockProceeds
     ownStage arrival nextBlock farSection farStage
-    given endBlock firstWatched secondWatched earlyStep stepFrom stepAfter leftSections left secondsAfter goes heldAfter
+    given endBlock firstWatched secondWatched earlyStep stepFrom stepAfter toVacate vacated secondsAfter goes heldAfter
     block innerSection entranceSignal nearestBlock
-    refused none when found firstOf lacking notFree misplaced notPlaced locked conflicting byRoute byLine exitLocked blockBarred blockHeld
+    refused noRefusal when found firstOf lacking notFree misplaced notPlaced locked conflicting byRoute byLine exitLocked blockBarred blockHeld
+    routeLocks lineLocks failing lockedExitBy lockedExit
     throwRefusal exitRefusal routeRefusal setRefusal cancelRefusal secureRefusal manualRefusal
     cold codes routesInRange inRange withSections withPoints withRoutes withLines withBars
     blockAt ownStageAt ownSection ownPoint throwReading ownThrow ownSet ownCancel ownSecure openAt ownManual ownBar
     fallenAt signals stationProceeds farProceeds farDropped farReading farMoved farAfter farSections heldOf routeAfter unlessIdle routesBy routes
-    lastBlock exitLockedBy passable wasPassed ends directionAfter lineRelease settle settling.exitLocked
+    lastBlock passable wasPassed ends directionAfter lineRelease settle
     objects secondWrong eventRefusal orderRefusal refusal meant gives own ownOf after refusedBy answer stepWhere step stepInRun
     box boxInRun stateAfter answers fromCold signalShows routeShows lineShows panel says told.reading shown sinceSpell untilSpell moment goesOn history beyond
 runComputed = 0

@@ -12,7 +12,7 @@ use Rattle.laws.specs.Choice.{if_then_else_}
 use Rattle.laws.specs.Tables.{read, each, put}
 use Rattle.laws.proofs.Choice.{if-lt}
 use Rattle.laws.proofs.Each.{each-at}
-use Rattle.signals.specs.Signals.{place}
+use Rattle.tables.specs.Blocks.{place}
 use Rattle.interlocking.specs.declared.State.{State}
 
 -- ---- a test, with what it said

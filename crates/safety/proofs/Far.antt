@@ -12,9 +12,10 @@ use Rattle.laws.specs.Choice.{if_then_else_}
 use Rattle.laws.specs.Tests.{_and_}
 use Rattle.laws.specs.Tables.{read}
 use Rattle.laws.proofs.Tests.{and-left, and-right, and-both, not-both, fails-from, every-at, all-at, any-at, any-some}
-use Rattle.signals.specs.Readings.{allFree}
-use Rattle.signals.specs.Readings as readings
-use Rattle.signals.specs.Signals.{isOpen, enterable, clear, routeProceeds, mainProceeds, blockProceeds}
+use Rattle.tables.specs.Readings.{allFree}
+use Rattle.tables.specs.Readings as readings
+use Rattle.tables.specs.Blocks.{isOpen}
+use Rattle.signals.specs.Signals.{enterableBy, enterable, clear, routeProceeds, mainProceeds, blockProceeds}
 use Rattle.layout.specs.declared.Layout.{Layout}
 use Rattle.layout.specs.Layout.{lineIn, routeIn}
 use Rattle.layout.specs.Sound.{sound}
@@ -25,7 +26,7 @@ use Rattle.interlocking.specs.State.{inRange, withRoutes, withLines}
 use Rattle.interlocking.specs.Settle.{signals, farProceeds, farDropped, farReading, farSections, routesBy, routes, lineRelease, settle}
 use Rattle.interlocking.specs.Step.{refusal, after}
 use Rattle.step_facts.specs.Run.{Event}
-use Rattle.panel.specs.Panel.{stands}
+use Rattle.panel.specs.Panel.{hasSignal}
 use Rattle.safety.specs.Shown.{lineShows, panel}
 use Rattle.safety.specs.History.{History, says, gave, reading, Since}
 use Rattle.safety.specs.Demand3.{Beyond, beyond, sectionAt, signalAt, farSection, Proceeds, Stops, Passage}
@@ -57,7 +58,7 @@ module _ (L : Layout) (S : Sound L) (l i w : ℕ) (b : l < L .lines) (c : i < li
   -- in its path
   far-free : (s : State) (h : History) → Inv L s h → (x : Beyond) → BeyondCase L l i w x → farUp L s l w x ≡ true
       → readings.reading (s .section) (sectionAt L l x) ≡ 1
-  unfolding blockProceeds enterable isOpen mainProceeds routeProceeds clear path routeIn
+  unfolding blockProceeds enterable enterableBy isOpen mainProceeds routeProceeds clear path routeIn
   far-free s h I x (aBlock j k d n up down) p =
       I .reads _ (S .ranges .lines l b .blocks j k) ∙ I .opened l j b k (eqb-true _ 0 (every-at _ (and-right _ _ p) 0)) .isFree
   far-free s h I x (aStation e k a n) p =
@@ -70,11 +71,11 @@ module _ (L : Layout) (S : Sound L) (l i w : ℕ) (b : l < L .lines) (c : i < li
 -- ---- the far signal
 
 -- the block signal into block j of n, which lies beyond another
-far-stands : (n w j : ℕ) → (w ≡ 1 → 0 < j) → (w ≢ 1 → j + 1 < n) → stands n j w ≡ true
-unfolding stands
-far-stands n w j up down = go (ℕ-discrete w 1)
+far-signal : (n w j : ℕ) → (w ≡ 1 → 0 < j) → (w ≢ 1 → j + 1 < n) → hasSignal n j w ≡ true
+unfolding hasSignal
+far-signal n w j up down = go (ℕ-discrete w 1)
   where
-    go : Dec (w ≡ 1) → stands n j w ≡ true
+    go : Dec (w ≡ 1) → hasSignal n j w ≡ true
     go (yes q) = chosen _ _ _ (eq-eqb w 1 q) ∙ lt-ltb 0 j (up q)
     go (no q) = passed-over _ _ _ (ne-eqb w 1 q) ∙ lt-ltb (j + 1) n (down q)
 
@@ -84,7 +85,7 @@ module _ (L : Layout) (S : Sound L) (s : State) (e : Event) (l i w : ℕ) (b : l
   unfolding panel blockProceeds
   far-showed x (aBlock j h d n up down) z few p =
       let way = eqb-true (direction s l) w (and-left _ _ p) in
-      into-lit L s l j w z (omega arith) (far-stands _ w j up down) way (and-right _ _ p)
+      into-lit L s l j w z (omega arith) (far-signal _ w j up down) way (and-right _ _ p)
   far-showed x (aStation k h a n) z few p = main-lit L s _ p
 
   -- one that fell within the event still shows stop at its end: phases never return to 1, and the far sections open no block
@@ -93,7 +94,7 @@ module _ (L : Layout) (S : Sound L) (s : State) (e : Event) (l i w : ℕ) (b : l
   unfolding panel blockProceeds mainProceeds routeProceeds signals withRoutes
   far-stops x (aBlock j h d n up down) z few own now p f =
       let way = eqb-true (direction s l) w (and-left _ _ p) in
-      into-stops L (end L s e) l j w z (omega arith) (far-stands _ w j up down) now
+      into-stops L (end L s e) l j w z (omega arith) (far-signal _ w j up down) now
       (fails-from _ (λ t. not-both (and-both _ _ (eq-eqb _ w own) (was-enterable L S s e l j b h t)) f))
   far-stops x (aStation k h a n) z few own now p f =
       main-stops L (end L s e) _
@@ -125,7 +126,7 @@ module _ (L : Layout) (S : Sound L) (s : State) (h : History) (I : Inv L s h) (e
   -- "to stop" follows from "from proceed" on a sound layout: within the event a far section that reads occupied holds its signal at stop. The next block
   -- would be open and read free; a route in from the line would have the inner section free in its path
   pub stop-follows : (w : ℕ) → farReading L (lit L s e) l i w ≡ 2 → farProceeds L (lit L s e) l i w ≡ false
-  unfolding blockProceeds enterable isOpen mainProceeds routeProceeds clear path routeIn after settle lineRelease withLines routes routesBy
+  unfolding blockProceeds enterable enterableBy isOpen mainProceeds routeProceeds clear path routeIn after settle lineRelease withLines routes routesBy
       withRoutes farSections signals
   stop-follows w taken = far-proceeds (lit L s e) few (there w) ∙ fails-from _ (λ t. let z = go _ (there w) t in omega (arith, far-reads w))
     where

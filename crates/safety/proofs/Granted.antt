@@ -13,14 +13,16 @@ use Rattle.laws.proofs.Tests.{and-left, and-right, and-both, not-both, fails-fr
 use Rattle.sets.specs.Sets as sets
 use Rattle.sets.proofs.Sets.{holds-setOf}
 use Rattle.track.specs.Lists.{between}
-use Rattle.signals.specs.Readings.{reading}
+use Rattle.tables.specs.Readings.{reading}
 use Rattle.layout.specs.declared.Layout.{Layout}
 use Rattle.layout.specs.Layout.{lineIn}
 use Rattle.layout.specs.Sound.{sound}
 use Rattle.layout_facts.specs.Plain.{block}
 use Rattle.reasons.specs.declared.Refusal.{Refusal}
-use Rattle.reasons.specs.Refusal.{refused, none, when, found, firstOf}
-use Rattle.reasons.specs.Leaves.{lacking, notFree, locked, exitLocked}
+use Rattle.reasons.specs.Refusal.{refused, noRefusal, when, found, firstOf}
+use Rattle.searches.specs.Searches.{lacking}
+use Rattle.tables.specs.Locks.{locked, lockedExitBy, lockedExit}
+use Rattle.reasons.specs.Leaves.{notFree, exitLocked}
 use Rattle.refusals.specs.Orders.{cancelRefusal, manualRefusal}
 use Rattle.refusals.specs.Events.{objects, secondWrong, eventRefusal}
 use Rattle.interlocking.specs.declared.State.{State}
@@ -44,7 +46,7 @@ last-none x p = p
 
 -- a test that does not hold refuses nothing
 when-none : (t : Bool) (number detail : ℕ) → t ≡ false → when t number detail .number ≡ 0
-unfolding when none refused
+unfolding when noRefusal refused
 when-none t number detail f = rw (passed-over _ _ _ f)
 
 -- nor does a search that finds nothing
@@ -54,7 +56,7 @@ found-none number n p h = when-none _ number _ (lowest-past n p h)
 
 -- nor do sections that read free
 all-free : (sections : List ℕ) (set : ℕ) → ((g : ℕ) → g < 64 → sets.holds set g ≡ true → reading sections g ≡ 1) → notFree sections set .number ≡ 0
-unfolding notFree lacking none refused
+unfolding notFree lacking noRefusal refused
 all-free sections set h = rw (passed-over _ _ _ (lowest-past 64 (lacking sections set) free))
   where
     free : (g : ℕ) → g < 64 → lacking sections set g ≡ false
@@ -81,18 +83,18 @@ module _ (L : Layout) (s : State) (ok : sound L ≡ true) (ranged : inRange s �
 
   -- one second
   pub second-granted : refusal (sound L and inRange s) L s 10 0 0 .number ≡ 0
-  unfolding between objects secondWrong orderRefusal if_then_else_ _and_ _or_ none refused
+  unfolding between objects secondWrong orderRefusal if_then_else_ _and_ _or_ noRefusal refused
   second-granted = granted 10 0 0 refl refl refl refl
 
   -- a section reads, whatever the code
   pub reading-granted : (g code : ℕ) → g < L .sections → refusal (sound L and inRange s) L s 1 g code .number ≡ 0
-  unfolding between objects secondWrong orderRefusal if_then_else_ _and_ _or_ none refused
+  unfolding between objects secondWrong orderRefusal if_then_else_ _and_ _or_ noRefusal refused
   reading-granted g code b = granted 1 g code refl (lt-leb _ g b) refl refl
 
   -- a manual release, where no route is locked and the line's blocks read free
   pub release-granted : (l : ℕ) → l < L .lines → ((r : ℕ) → r < L .routes → phase s r ≡ 0)
       → ((i : ℕ) → i < lineIn L l .blocks → reading (s .section) (block L l i) ≡ 1) → refusal (sound L and inRange s) L s 7 l 1 .number ≡ 0
-  unfolding between objects secondWrong orderRefusal if_then_else_ _and_ _or_ manualRefusal exitLocked locked block lineIn
+  unfolding between objects secondWrong orderRefusal if_then_else_ _and_ _or_ manualRefusal exitLocked lockedExit lockedExitBy locked block lineIn
   release-granted l b idle free =
       granted 7 l 1 refl (lt-leb _ l b) refl
       (first-none _ _ _ (found-none 17 _ _ (λ r c. fails-from _ (λ t. not-both (eq-eqb _ 0 (idle r c)) (not-true _ (and-left _ _ t)))))

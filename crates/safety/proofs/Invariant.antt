@@ -5,8 +5,9 @@ use mathlib.Core.Logic.{_≢_, inr}
 use mathlib.Core.Bool.{true}
 use mathlib.Core.List.{[], _∷_}
 use native.Mathlib.Omega.{arith}
-use Rattle.signals.specs.Readings as readings
-use Rattle.signals.specs.Signals.{place, clear}
+use Rattle.tables.specs.Readings as readings
+use Rattle.tables.specs.Blocks.{place}
+use Rattle.signals.specs.Signals.{clear}
 use Rattle.layout.specs.declared.Layout.{Layout}
 use Rattle.layout.specs.Layout.{lineIn, routeIn, conflict}
 use Rattle.layout_facts.specs.Plain.{block, Sound}

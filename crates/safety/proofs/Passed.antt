@@ -16,16 +16,19 @@ use Rattle.sets.specs.Sets as sets
 use Rattle.sets.proofs.Sets.{holds-setOf}
 use Rattle.track.specs.Lists.{between}
 use Rattle.track.specs.Objects.{line}
-use Rattle.signals.specs.Readings.{reading}
+use Rattle.tables.specs.Readings.{reading}
 use Rattle.layout.specs.declared.Layout.{Layout}
 use Rattle.layout.specs.Layout.{lineIn, routeIn, conflict}
 use Rattle.layout.specs.Sound.{sound}
 use Rattle.layout_facts.specs.Plain.{block}
 use Rattle.reasons.specs.declared.Refusal.{Refusal}
-use Rattle.reasons.specs.Refusal.{refused, when, found, firstOf}
-use Rattle.reasons.specs.Leaves.{lacking, notFree, locked, conflicting, exitLocked}
+use Rattle.reasons.specs.Refusal.{refused, found}
+use Rattle.searches.specs.Searches.{lacking}
+use Rattle.tables.specs.Locks.{locked, lockedExitBy, lockedExit}
+use Rattle.reasons.specs.Leaves.{notFree, conflicting, exitLocked}
 use Rattle.refusals.specs.Orders.{exitRefusal, routeRefusal, setRefusal, cancelRefusal, secureRefusal, manualRefusal}
 use Rattle.refusals.specs.Events.{eventRefusal}
+use Rattle.refusals.proofs.Granted.{granted-at, when-granted}
 use Rattle.interlocking.specs.declared.State.{State}
 use Rattle.interlocking.specs.State.{codes, routesInRange, inRange}
 use Rattle.interlocking.specs.Step.{orderRefusal, refusal}
@@ -34,27 +37,10 @@ use Rattle.safety.proofs.Entries.{phase, direction, holds, read-at}
 
 -- ---- reasons that there were not
 
--- of a list whose first refusal is none, none is
-first-none : (x y : Refusal) (ys : List Refusal) → firstOf (x ∷ y ∷ ys) .number ≡ 0 → (x .number ≡ 0) × (firstOf (y ∷ ys) .number ≡ 0)
-unfolding firstOf
-first-none x y ys =
-    if-both (λ (r : Refusal). r .number ≡ 0 → (x .number ≡ 0) × (firstOf (y ∷ ys) .number ≡ 0)) (eqb (x .number) 0)
-    (λ t e. (eqb-true _ _ t, e)) (λ f e. absurd (eqb-false _ _ f e))
-
--- the last of a list
-last-none : (x : Refusal) → firstOf (x ∷ []) .number ≡ 0 → x .number ≡ 0
-unfolding firstOf
-last-none x e = e
-
--- a test that refuses did not hold
-when-none : (t : Bool) (number detail : ℕ) → number ≢ 0 → when t number detail .number ≡ 0 → t ≡ false
-unfolding when refused
-when-none t number detail d = if-both (λ (r : Refusal). r .number ≡ 0 → t ≡ false) t (λ p e. absurd (d e)) (λ f e. f)
-
--- nor did one of those that are searched
-found-none : (number n : ℕ) (p : ℕ → Bool) → number ≢ 0 → found number n p .number ≡ 0 → (k : ℕ) → k < n → p k ≡ false
+-- a test that is searched with held for none of those that were searched
+found-granted : (number n : ℕ) (p : ℕ → Bool) → 0 < number → found number n p .number ≡ 0 → (k : ℕ) → k < n → p k ≡ false
 unfolding found
-found-none number n p d e = lowest-none n p (when-none _ number _ d e)
+found-granted number n p d e = lowest-none n p (when-granted _ number _ d e)
 
 -- a test that does not hold together with one that does
 not-second : (a b : Bool) → a ≡ true → a and b ≡ false → b ≡ false
@@ -79,7 +65,7 @@ module _ (L : Layout) (s : State) (e : Event) (pass : refusal (sound L and inRan
   -- 18: the state's codes are in range
   in-range : inRange s ≡ true
   unfolding refusal eventRefusal
-  in-range = and-right _ _ (not-false _ (when-none _ 18 0 (omega arith) (first-none _ _ _ (first-none _ _ _ pass .0) .0)))
+  in-range = and-right _ _ (not-false _ (when-granted _ 18 0 (omega arith) (granted-at _ (granted-at _ pass 0) 0)))
 
   -- a line is neutral or secured one of the two ways
   pub two-ways : (l : ℕ) → l < 8 → direction s l ≤ 2
@@ -89,47 +75,46 @@ module _ (L : Layout) (s : State) (e : Event) (pass : refusal (sound L and inRan
       (leb-true _ 2 (and-right _ _ (all-at _ _ (every-at _ (every-at _ in-range 3) 3) l b)))
 
   -- none of the reasons of its kind
-  order-none : (k : ℕ) → e .kind ≡ k → orderRefusal L s k (e .first) .number ≡ 0
+  order-granted : (k : ℕ) → e .kind ≡ k → orderRefusal L s k (e .first) .number ≡ 0
   unfolding refusal
-  order-none k q = rw q at (last-none _ (first-none _ _ _ pass .1))
+  order-granted k q = rw q at (granted-at _ pass 1)
 
   -- 5: no route that conflicts with the one set is locked
   pub set-alone : e .kind ≡ 4 → (q : ℕ) → q < L .routes → conflict L (e .first) q ≡ true → phase s q ≡ 0
   unfolding orderRefusal if_then_else_ setRefusal conflicting locked
   set-alone k q b c =
-      let five = first-none _ _ _ (first-none _ _ _ (order-none 4 k) .1) .0 in
-      eqb-true _ _ (not-false _ (fails-from _ (λ t. not-both (and-both _ _ t c) (found-none 5 _ _ (omega arith) five q b))))
+      let five = granted-at _ (order-granted 4 k) 1 in
+      eqb-true _ _ (not-false _ (fails-from _ (λ t. not-both (and-both _ _ t c) (found-granted 5 _ _ (omega arith) five q b))))
 
   -- 9: an exit route's line is secured its way
   pub set-secured : e .kind ≡ 4 → routeIn L (e .first) .kind ≡ 2
       → direction s (routeIn L (e .first) .line) ≡ routeIn L (e .first) .end + 1
   unfolding orderRefusal if_then_else_ setRefusal routeRefusal exitRefusal routeIn
   set-secured k x =
-      let lists = last-none _ (first-none _ _ _ (first-none _ _ _ (order-none 4 k) .1) .1) in
-      let own = last-none _ (first-none _ _ _ (first-none _ _ _ lists .1) .1) in
-      let exit = rw (eq-eqb _ _ x) at own in
-      eqb-true _ _ (not-false _ (when-none _ 9 _ (omega arith) (first-none _ _ _ exit .0)))
+      let lists = granted-at _ (order-granted 4 k) 2 in
+      let exit = rw (eq-eqb _ _ x) at (granted-at _ lists 2) in
+      eqb-true _ _ (not-false _ (when-granted _ 9 _ (omega arith) (granted-at _ exit 0)))
 
   -- 13: the route that is cancelled is locked
   pub cancel-locked : e .kind ≡ 5 → phase s (e .first) ≢ 0
   unfolding orderRefusal if_then_else_ cancelRefusal locked
-  cancel-locked k = eqb-false _ _ (not-true _ (not-false _ (when-none _ 13 _ (omega arith) (first-none _ _ _ (order-none 5 k) .0))))
+  cancel-locked k = eqb-false _ _ (not-true _ (not-false _ (when-granted _ 13 _ (omega arith) (granted-at _ (order-granted 5 k) 0))))
 
   -- 12: the line that is secured is neutral
   pub secure-neutral : e .kind ≡ 6 → direction s (e .first) ≡ 0
   unfolding orderRefusal if_then_else_ secureRefusal
-  secure-neutral k = eqb-true _ _ (not-false _ (when-none _ 12 _ (omega arith) (first-none _ _ _ (order-none 6 k) .0)))
+  secure-neutral k = eqb-true _ _ (not-false _ (when-granted _ 12 _ (omega arith) (granted-at _ (order-granted 6 k) 0)))
 
   -- 17: no exit route of the line that is released is locked
   pub release-unlocked : e .kind ≡ 7 → (r : ℕ) → r < L .routes → routeIn L r .kind ≡ 2 → routeIn L r .line ≡ e .first → phase s r ≡ 0
-  unfolding orderRefusal if_then_else_ manualRefusal exitLocked locked routeIn
+  unfolding orderRefusal if_then_else_ manualRefusal exitLocked lockedExit lockedExitBy locked routeIn
   release-unlocked k r b x l =
-      let t = found-none 17 _ _ (omega arith) (first-none _ _ _ (order-none 7 k) .0) r b in
+      let t = found-granted 17 _ _ (omega arith) (granted-at _ (order-granted 7 k) 0) r b in
       eqb-true _ _ (not-false _ (fails-from _ (λ p. not-both (and-both _ _ p (and-both _ _ (eq-eqb _ _ x) (eq-eqb _ _ l))) t)))
 
   -- 7, 8: its blocks read free
   pub release-free : e .kind ≡ 7 → (i : ℕ) → i < lineIn L (e .first) .blocks → block L (e .first) i < 64 → reading (s .section) (block L (e .first) i) ≡ 1
   unfolding orderRefusal if_then_else_ manualRefusal lineIn block
   release-free k i b c =
-      all-free (s .section) _ (last-none _ (first-none _ _ _ (order-none 7 k) .1)) _ c
+      all-free (s .section) _ (granted-at _ (order-granted 7 k) 1) _ c
       (holds-setOf _ _ _ c ∙ any-at _ _ i b (eq-eqb (block L (e .first) i) _ refl))

@@ -10,8 +10,10 @@ use lib.Dec.{eqb}
 use Rattle.laws.specs.Choice.{if_then_else_}
 use Rattle.laws.specs.Tests.{_and_}
 use Rattle.laws.proofs.Tests.{implied, implies-from, every-at, every-one, every-more}
-use Rattle.signals.specs.Readings as readings
-use Rattle.signals.specs.Signals.{nearest, isOpen, enterable, letsOut, clear}
+use Rattle.tables.specs.Readings as readings
+use Rattle.track.specs.Objects.{nearest}
+use Rattle.tables.specs.Blocks.{isOpen}
+use Rattle.signals.specs.Signals.{enterableBy, enterable, letsOut, clear}
 use Rattle.layout.specs.declared.Layout.{Layout}
 use Rattle.layout.specs.Layout.{lineIn, routeIn, conflict}
 use Rattle.layout.specs.Sound.{sound}
@@ -60,13 +62,13 @@ module _ (L : Layout) (S : Sound L) (s : State) (e : Event) where
     -- so a train may be let into it at the end just where it may after the event's own reading
     pub still-enterable : enterable (L .line) (done L s e .point) (done L s e .stage) (done L s e .bar) l i ≡ true
         → enterable (L .line) (end L s e .point) (end L s e .stage) (end L s e .bar) l i ≡ true
-    unfolding enterable isOpen after settle lineRelease withLines routes routesBy withRoutes farSections signals
+    unfolding enterable enterableBy isOpen after settle lineRelease withLines routes routesBy withRoutes farSections signals
     still-enterable t =
         every-more _ _ _ (eq-eqb _ 0 (still-open (eqb-true _ 0 (every-at _ t 0)))) (every-more _ _ _ (every-at _ t 1) (every-one _ (every-at _ t 2)))
 
     pub was-enterable : enterable (L .line) (end L s e .point) (end L s e .stage) (end L s e .bar) l i ≡ true
         → enterable (L .line) (done L s e .point) (done L s e .stage) (done L s e .bar) l i ≡ true
-    unfolding enterable isOpen after settle lineRelease withLines routes routesBy withRoutes farSections signals
+    unfolding enterable enterableBy isOpen after settle lineRelease withLines routes routesBy withRoutes farSections signals
     was-enterable t =
         every-more _ _ _ (eq-eqb _ 0 (was-open (eqb-true _ 0 (every-at _ t 0)))) (every-more _ _ _ (every-at _ t 1) (every-one _ (every-at _ t 2)))
 

@@ -4,8 +4,8 @@ use mathlib.Core.List.{[], _∷_, _++_}
 use Rattle.laws.specs.Choice.{if_then_else_}
 use Rattle.laws.specs.Tests.{_or_}
 use Rattle.laws.specs.Tables.{table, read}
-use Rattle.signals.specs.Readings.{reading, lies}
-use Rattle.signals.specs.Signals.{place}
+use Rattle.tables.specs.Readings.{reading, lies}
+use Rattle.tables.specs.Blocks.{place}
 use Rattle.layout.specs.declared.Layout.{Layout}
 use Rattle.layout.specs.Layout.{lineIn}
 use Rattle.interlocking.specs.declared.State.{State}

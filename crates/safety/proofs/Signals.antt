@@ -15,7 +15,7 @@ use Rattle.signals.specs.Signals.{enterable, mainProceeds}
 use Rattle.layout.specs.declared.Layout.{Layout}
 use Rattle.layout.specs.Layout.{lineIn}
 use Rattle.interlocking.specs.declared.State.{State}
-use Rattle.panel.specs.Panel.{proceedByte, shownBy, byteOf, signalByte, stands, lamp, blockSignal}
+use Rattle.panel.specs.Panel.{proceedByte, shownBy, byteOf, signalByte, hasSignal, lamp, blockSignal}
 use Rattle.safety.specs.Shown.{main, into, signalShows}
 use Rattle.safety.proofs.Entries.{direction, chosen, passed-over}
 
@@ -55,14 +55,14 @@ one-each-way w z few = go (ℕ-discrete w 1)
 
 module _ (L : Layout) (s : State) (l i w : ℕ) where
   -- one that stands in the secured direction shows proceed where a train may be let into its block
-  pub into-lit : w ≢ 0 → w ≤ 2 → stands (lineIn L l .blocks) i w ≡ true → direction s l ≡ w
+  pub into-lit : w ≢ 0 → w ≤ 2 → hasSignal (lineIn L l .blocks) i w ≡ true → direction s l ≡ w
       → enterable (L .line) (s .point) (s .stage) (s .bar) l i ≡ true → 20 < signalShows L s (into l i w)
   unfolding signalShows blockSignal lamp lineIn
   into-lit z few u d t =
       rw (chosen _ _ _ (one-each-way w z few), chosen _ _ _ (and-both _ _ (eq-eqb _ w d) u), chosen _ _ _ t) (omega arith)
 
   -- else stop
-  pub into-stops : w ≢ 0 → w ≤ 2 → stands (lineIn L l .blocks) i w ≡ true → direction s l ≡ w
+  pub into-stops : w ≢ 0 → w ≤ 2 → hasSignal (lineIn L l .blocks) i w ≡ true → direction s l ≡ w
       → enterable (L .line) (s .point) (s .stage) (s .bar) l i ≡ false → signalShows L s (into l i w) ≡ 20
   unfolding signalShows blockSignal lamp lineIn
   into-stops z few u d f =
@@ -70,7 +70,7 @@ module _ (L : Layout) (s : State) (l i w : ℕ) where
 
   -- it shows proceed only then
   pub into-shown : 20 < signalShows L s (into l i w)
-      → (stands (lineIn L l .blocks) i w ≡ true) × (direction s l ≡ w) × (enterable (L .line) (s .point) (s .stage) (s .bar) l i ≡ true)
+      → (hasSignal (lineIn L l .blocks) i w ≡ true) × (direction s l ≡ w) × (enterable (L .line) (s .point) (s .stage) (s .bar) l i ≡ true)
   unfolding signalShows blockSignal lamp lineIn
   into-shown =
       if-both R _
@@ -78,4 +78,4 @@ module _ (L : Layout) (s : State) (l i w : ℕ) where
       (λ f p. absurd (omega arith))) (λ v p. absurd (omega arith))
     where
       R : ℕ → Type 0
-      R n = 20 < n → (stands (lineIn L l .blocks) i w ≡ true) × (direction s l ≡ w) × (enterable (L .line) (s .point) (s .stage) (s .bar) l i ≡ true)
+      R n = 20 < n → (hasSignal (lineIn L l .blocks) i w ≡ true) × (direction s l ≡ w) × (enterable (L .line) (s .point) (s .stage) (s .bar) l i ≡ true)

@@ -10,7 +10,8 @@ use Rattle.laws.proofs.Choice.{if-both}
 use Rattle.layout.specs.declared.Layout.{Layout}
 use Rattle.layout_facts.specs.Plain.{block}
 use Rattle.step_facts.specs.Run.{Event}
-use Rattle.safety.specs.History.{Moment, History, nothing, free, occupied, none, says, gave, reading, Releases, Sometime, Since, sinceSpell, untilSpell}
+use Rattle.track.specs.Codes.{free, occupied, none}
+use Rattle.safety.specs.History.{Moment, History, nothing, says, gave, reading, Releases, Sometime, Since, sinceSpell, untilSpell}
 use Rattle.safety.specs.Demand3.{Entered, Passage, Cleared, byPassage, byHand}
 use Rattle.safety.proofs.Entries.{chosen, passed-over}
 

@@ -13,7 +13,7 @@ use Rattle.laws.specs.Tests.{_and_}
 use Rattle.laws.proofs.Choice.{if-both}
 use Rattle.laws.proofs.Tests.{and-left, and-right, and-both, not-both, every-at, all-at}
 use Rattle.track.specs.Lists.{between}
-use Rattle.signals.specs.Readings as readings
+use Rattle.tables.specs.Readings as readings
 use Rattle.layout.specs.declared.Layout.{Layout}
 use Rattle.layout.specs.Layout.{lineIn}
 use Rattle.layout.specs.Sound.{sound}

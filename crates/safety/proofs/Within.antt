@@ -12,9 +12,10 @@ use Rattle.laws.specs.Tests.{_and_, any}
 use Rattle.laws.specs.Tables.{read, put}
 use Rattle.laws.proofs.Choice.{if-both}
 use Rattle.laws.proofs.Tests.{and-left, and-right, and-both, not-both, fails-from, fails-not, every-at, all-at, any-at}
-use Rattle.signals.specs.Readings.{recorded}
-use Rattle.signals.specs.Readings as readings
-use Rattle.signals.specs.Signals.{isOpen, clear, fallen}
+use Rattle.tables.specs.Readings.{recorded}
+use Rattle.tables.specs.Readings as readings
+use Rattle.tables.specs.Blocks.{isOpen}
+use Rattle.signals.specs.Signals.{clear, fallen}
 use Rattle.release.specs.declared.Gives.{Gives}
 use Rattle.release.specs.declared.Held.{Held}
 use Rattle.release.specs.Release.{heldAfter}
@@ -23,7 +24,8 @@ use Rattle.layout.specs.Layout.{lineIn, routeIn}
 use Rattle.interlocking.specs.declared.State.{State}
 use Rattle.interlocking.specs.State.{withSections, withPoints, withRoutes, withLines, withBars}
 use Rattle.interlocking.specs.Own.{ownSection, ownPoint, ownThrow, ownSet, ownCancel, ownSecure, ownManual, ownBar}
-use Rattle.interlocking.specs.Settle.{fallenAt, signals, farSections, heldOf, routeAfter, unlessIdle, routesBy, routes, exitLockedBy, exitLocked, passable, ends, directionAfter, lineRelease, settle}
+use Rattle.tables.specs.Locks.{locked, lockedExitBy, lockedExit}
+use Rattle.interlocking.specs.Settle.{fallenAt, signals, farSections, heldOf, routeAfter, unlessIdle, routesBy, routes, passable, ends, directionAfter, lineRelease, settle}
 use Rattle.interlocking.specs.Step.{meant, gives, ownOf, own, after}
 use Rattle.step_facts.specs.Run.{Event}
 use Rattle.safety.specs.History.{says}
@@ -252,8 +254,8 @@ module _ (L : Layout) (few : L .lines ≤ 8) (s : State) (e : Event) (l : ℕ) (
   -- nor does one with an exit route locked
   pub direction-locked : (r : ℕ) → r < L .routes → routeIn L r .kind ≡ 2 → routeIn L r .line ≡ l → phase (end L s e) r ≢ 0
       → direction (end L s e) l ≡ direction (done L s e) l
-  unfolding after settle lineRelease withLines ends exitLocked exitLockedBy routeIn
-  direction-locked r h k q d = ⊎-elim (λ z. z) (λ t. not-both locked (not-true _ (every-at _ (t .1) 2))) released
+  unfolding after settle lineRelease withLines ends lockedExit lockedExitBy locked routeIn
+  direction-locked r h k q d = ⊎-elim (λ z. z) (λ t. not-both some (not-true _ (every-at _ (t .1) 2))) released
     where
-      locked : any (L .routes) (exitLocked (L .route) (end L s e .phase) l) ≡ true
-      locked = any-at _ _ r h (and-both _ _ (fails-not _ (ne-eqb _ 0 d)) (and-both _ _ (eq-eqb _ 2 k) (eq-eqb _ l q)))
+      some : any (L .routes) (lockedExit (L .route) (end L s e .phase) l) ≡ true
+      some = any-at _ _ r h (and-both _ _ (fails-not _ (ne-eqb _ 0 d)) (and-both _ _ (eq-eqb _ 2 k) (eq-eqb _ l q)))

@@ -7,7 +7,8 @@ use native.Mathlib.Decide.{ℕ-discrete}
 use native.Mathlib.Omega.{arith}
 use borrow.Author.Tests.{eqb-false, eq-eqb, ne-eqb}
 use Rattle.laws.proofs.Choice.{if-both}
-use Rattle.safety.specs.History.{Moment, History, free, gave, reading, sinceSpell, untilSpell}
+use Rattle.track.specs.Codes.{free}
+use Rattle.safety.specs.History.{Moment, History, gave, reading, sinceSpell, untilSpell}
 use Rattle.safety.proofs.Entries.{chosen, passed-over}
 use Rattle.safety.proofs.Told.{reading-kept, reading-given, none-since}
 

@@ -18,11 +18,12 @@ use Rattle.layout.specs.Load.{load}
 use Rattle.layout_facts.specs.Plain.{block, innerSection, entranceSignal, nearestBlock}
 use Rattle.step_facts.specs.Run.{Event}
 use Rattle.safety.specs.Shown.{Signal, main, into, Panel}
-use Rattle.safety.specs.History.{Moment, History, free, occupied, none, gave, reading, shown, Releases, Sometime, Since, sinceSpell, untilSpell, history}
+use Rattle.track.specs.Codes.{free, occupied, none, endA, endB, exitRoute, neutral, aToB}
+use Rattle.safety.specs.History.{Moment, History, gave, reading, shown, Releases, Sometime, Since, sinceSpell, untilSpell, history}
 
 -- ---- far section and far signal (section 5)
 
--- what lies beyond a block: the next block, or the station at the arrival end (0 is A, 1 is B)
+-- what lies beyond a block: the next block, or the station at the arrival end
 pub data Beyond : Type 0 where
   next : ℕ → Beyond
   arrival : ℕ → Beyond
@@ -30,7 +31,7 @@ pub data Beyond : Type 0 where
 -- beyond block i of line l in direction w
 unfoldable pub beyond : Layout → ℕ → ℕ → ℕ → Beyond
 beyond L l i w =
-    if eqb w 1 then (if ltb (i + 1) (lineIn L l .blocks) then next (i + 1) else arrival 1) else if eqb i 0 then arrival 0 else next (i - 1)
+    if eqb w aToB then (if ltb (i + 1) (lineIn L l .blocks) then next (i + 1) else arrival endB) else if eqb i 0 then arrival endA else next (i - 1)
 
 -- the section there, and the signal between
 abbrev pub sectionAt : Layout → ℕ → Beyond → ℕ
@@ -68,7 +69,7 @@ pub record Drops (L : Layout) (l i w : ℕ) (m : Moment) (older : History) : Typ
   -- nor did this one
   pub stays : (gave m (block L l i) ≢ none) × (gave m (block L l i) ≢ free)
   -- the line is secured in direction w
-  pub secured : (m .shows .line l ≡ w) × (w ≢ 0)
+  pub secured : (m .shows .line l ≡ w) × (w ≢ neutral)
   -- it left the far section occupied
   pub taken : reading (farSection L l i w) (m ∷ older) ≡ occupied
   -- the far signal showed proceed before it, and shows stop after it
@@ -92,7 +93,7 @@ pub data Cleared (L : Layout) (l i : ℕ) (h : History) : Type 0 where
 pub record LeadsOut (L : Layout) (p : Panel) (x l i w r : ℕ) : Type 0 where
   -- it is a route of the layout, an exit route, starts at x and is locked
   pub there : r < L .routes
-  pub isExit : routeIn L r .kind ≡ 2
+  pub isExit : routeIn L r .kind ≡ exitRoute
   pub starts : routeIn L r .entry ≡ x
   pub locked : p .route r ≢ 0
   -- it enters the block of its line that is nearest its end: by end A, 0, in direction A to B, 1; by end B, 1, in direction B to A, 2

@@ -7,6 +7,7 @@ use mathlib.Core.List.{List, [], _∷_}
 use lib.Dec.{eqb}
 use Rattle.laws.specs.Choice.{if_then_else_}
 use Rattle.laws.specs.Tests.{_and_}
+use Rattle.track.specs.Codes.{free, occupied, none}
 use Rattle.layout.specs.declared.Layout.{Layout}
 use Rattle.interlocking.specs.declared.State.{State}
 use Rattle.interlocking.specs.declared.Answer.{Answer}
@@ -28,18 +29,9 @@ History = List Moment
 
 -- ---- readings (section 1)
 
--- what an event gives a section: nothing, or a reading
+-- what an event gives a section: nothing, or a reading (free, occupied or none)
 abbrev pub nothing : ℕ
 nothing = 0
-
-abbrev pub free : ℕ
-free = 1
-
-abbrev pub occupied : ℕ
-occupied = 2
-
-abbrev pub none : ℕ
-none = 3
 
 -- what an event says of section g: kind 1 is a reading of the section that it names first; code 1 is free, 2 is occupied, every other code is none
 unfoldable pub says : Event → ℕ → ℕ

@@ -3,12 +3,13 @@ use Prim.Native.Nat.{ℕ}
 use lib.Dec.{eqb}
 use Rattle.laws.specs.Choice.{if_then_else_}
 use Rattle.laws.specs.Tests.{_or_}
-use Rattle.laws.specs.Tables.{read}
+use Rattle.track.specs.Codes.{aToB, bToA}
+use Rattle.tables.specs.Locks.{direction, phase}
 use Rattle.layout.specs.declared.Layout.{Layout}
 use Rattle.interlocking.specs.declared.State.{State}
 use Rattle.panel.specs.Panel.{signalByte, routeByte, blockSignal}
 
--- a main signal by its number, or the block signal into block i of line l in direction w (1 is A to B, 2 is B to A)
+-- a main signal by its number, or the block signal into block i of line l in direction w
 pub data Signal : Type 0 where
   main : ℕ → Signal
   into : ℕ → ℕ → ℕ → Signal
@@ -23,15 +24,15 @@ pub record Panel : Type 0 where
 unfoldable pub signalShows : Layout → State → Signal → ℕ
 signalShows L s (main x) = signalByte (L .routes) (L .route) (s .phase) x
 signalShows L s (into l i w) =
-    if eqb w 1 or eqb w 2 then blockSignal (L .line) (s .direction) (s .point) (s .stage) (s .bar) l i w else 0
+    if eqb w aToB or eqb w bToA then blockSignal (L .line) (s .direction) (s .point) (s .stage) (s .bar) l i w else 0
 
 -- the byte of a route
 unfoldable pub routeShows : State → ℕ → ℕ
-routeShows s r = routeByte (read 48 0 (s .phase) r)
+routeShows s r = routeByte (phase (s .phase) r)
 
 -- the byte of a line
 unfoldable pub lineShows : State → ℕ → ℕ
-lineShows s l = read 8 0 (s .direction) l
+lineShows s l = direction (s .direction) l
 
 -- all of them; `proofs/Shown` proves that the image is made of these
 unfoldable pub panel : Layout → State → Panel

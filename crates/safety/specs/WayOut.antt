@@ -8,7 +8,7 @@ use lib.ListN.{length, replicate}
 use Rattle.laws.specs.Choice.{if_then_else_}
 use Rattle.laws.specs.Tests.{_and_}
 use Rattle.laws.specs.Tables.{read}
-use Rattle.signals.specs.Signals.{place}
+use Rattle.tables.specs.Blocks.{place}
 use Rattle.layout.specs.declared.Layout.{Layout}
 use Rattle.layout.specs.Layout.{lineIn}
 use Rattle.layout.specs.Load.{load}

@@ -7,17 +7,19 @@ use lib.Dec.{eqb, leb}
 use lib.ListN.{replicate}
 use Rattle.laws.specs.Choice.{if_then_else_}
 use Rattle.laws.specs.Tests.{_and_, every, all, any}
-use Rattle.laws.specs.Tables.{each, read, put}
+use Rattle.laws.specs.Tables.{each, put}
 use Rattle.sets.specs.Sets.{setOf}
+use Rattle.track.specs.Codes.{free, occupied, none, exitRoute, neutral, aToB, openBlock, stage0, stage1, stage2, atProceed, atStop}
 use Rattle.track.specs.Objects.{line, route}
-use Rattle.signals.specs.Readings.{recorded}
-use Rattle.signals.specs.Signals.{isOpen, unbarred}
+use Rattle.tables.specs.Readings.{recorded}
+use Rattle.tables.specs.Blocks.{isOpen, unbarred}
 use Rattle.passage.specs.Passage.{ownStage, farStage}
 use Rattle.release.specs.declared.Gives.{Gives}
 use Rattle.layout.specs.declared.Layout.{Layout}
 use Rattle.reasons.specs.declared.Refusal.{Refusal}
 use Rattle.reasons.specs.Refusal.{when, firstOf}
-use Rattle.reasons.specs.Leaves.{notFree, locked, exitLocked}
+use Rattle.tables.specs.Locks.{direction, locked, lockedExit}
+use Rattle.reasons.specs.Leaves.{notFree, exitLocked}
 use Rattle.refusals.specs.Orders.{routeRefusal}
 use Rattle.refusals.specs.Events.{eventRefusal}
 use Rattle.interlocking.specs.declared.State.{State}
@@ -99,11 +101,11 @@ readsBy stage = stepBy refuses (readBy stage) signals farSections routes lineRel
 
 -- section 9: a block opens because it reads free again
 abbrev pub opensFree : Box
-opensFree = readsBy (λ v was. if eqb v 1 then 0 else ownStage v was)
+opensFree = readsBy (λ v was. if eqb v free then openBlock else ownStage v was)
 
 -- section 5: none of the block is passed over, so that a passage is counted with a none between
 abbrev pub passesNone : Box
-passesNone = readsBy (λ v was. if eqb v 3 then was else ownStage v was)
+passesNone = readsBy (λ v was. if eqb v none then was else ownStage v was)
 
 -- ---- far sections (section 5)
 
@@ -111,14 +113,14 @@ passesNone = readsBy (λ v was. if eqb v 3 then was else ownStage v was)
 abbrev pub moveBy : (State → ℕ → ℕ) → (Layout → State → State → ℕ → ℕ → ℕ → ℕ → ℕ) → Layout → State → State → State
 moveBy way stage L before s =
     withLines s (s .direction)
-    (each (8 * L .lines) (λ k was. if eqb (way s (k / 8)) 0 then was else stage L before s (k / 8) (k % 8) (way s (k / 8)) was) (s .stage))
+    (each (8 * L .lines) (λ k was. if eqb (way s (k / 8)) neutral then was else stage L before s (k / 8) (k % 8) (way s (k / 8)) was) (s .stage))
 
 abbrev movesBy : (State → ℕ → ℕ) → (Layout → State → State → ℕ → ℕ → ℕ → ℕ → ℕ) → Box
 movesBy way stage = stepBy refuses does signals (moveBy way stage) routes lineRelease
 
 -- the direction that the line is secured in
 abbrev pub secured : State → ℕ → ℕ
-secured s l = read 8 0 (s .direction) l
+secured s l = direction (s .direction) l
 
 -- section 9: a signal already at stop counts as changed to stop
 abbrev pub countsStopped : Box
@@ -130,22 +132,22 @@ asksNoSignal = movesBy secured (λ L before s l i w was. farStage (farReading L 
 
 -- the far section need not read occupied
 abbrev pub asksNoArrival : Box
-asksNoArrival = movesBy secured (λ L before s l i w was. farStage (if eqb (farReading L s l i w) 3 then 3 else 2) (farDropped L before s l i w) was)
+asksNoArrival = movesBy secured (λ L before s l i w was. farStage (if eqb (farReading L s l i w) none then none else occupied) (farDropped L before s l i w) was)
 
 -- none of the far section is passed over
 abbrev pub passesFarNone : Box
-passesFarNone = movesBy secured (λ L before s l i w was. farStage (if eqb (farReading L s l i w) 3 then 1 else farReading L s l i w) (farDropped L before s l i w) was)
+passesFarNone = movesBy secured (λ L before s l i w was. farStage (if eqb (farReading L s l i w) none then free else farReading L s l i w) (farDropped L before s l i w) was)
 
 -- a block in stage 0 goes to 2 as well as one in stage 1
 abbrev pub asksNoEntry : Box
 asksNoEntry = movesBy secured (λ L before s l i w was.
-    if eqb was 1 and eqb (farStage (farReading L s l i w) (farDropped L before s l i w) 2) 3 then 3
+    if eqb was stage0 and eqb (farStage (farReading L s l i w) (farDropped L before s l i w) stage1) stage2 then stage2
     else farStage (farReading L s l i w) (farDropped L before s l i w) was)
 
 -- in neutral the far section is that of A to B
 abbrev pub movesInNeutral : Box
 movesInNeutral =
-    movesBy (λ s l. if eqb (secured s l) 0 then 1 else secured s l)
+    movesBy (λ s l. if eqb (secured s l) neutral then aToB else secured s l)
     (λ L before s l i w was. farStage (farReading L s l i w) (farDropped L before s l i w) was)
 
 -- ---- signals and seconds
@@ -153,7 +155,7 @@ movesInNeutral =
 -- section 9: a cleared bar brings back a fallen exit signal, where it has all that keeps it at proceed
 abbrev raised : Layout → State → State
 raised L s =
-    withRoutes s (each (L .routes) (λ r was. if eqb was 2 and eqb (route (L .route) r .kind) 2 then 1 else was) (s .phase)) (s .step) (s .second)
+    withRoutes s (each (L .routes) (λ r was. if eqb was atStop and eqb (route (L .route) r .kind) exitRoute then atProceed else was) (s .phase)) (s .step) (s .second)
 
 abbrev pub bringsBack : Box
 bringsBack = stepBy refuses (λ L s e. if eqb (e .kind) 9 then raised L (does L s e) else does L s e) signals farSections routes lineRelease
@@ -170,14 +172,14 @@ waits89 = stepBy refuses (λ L s e. if eqb (e .kind) 5 then counted (does L s e)
 -- a secured line becomes neutral where this holds
 abbrev pub endBy : (Layout → State → State → ℕ → ℕ → Bool) → Layout → State → State → State
 endBy ended L before s =
-    withLines s (each (L .lines) (λ l was. if eqb was 0 then was else if ended L before s l was then 0 else was) (s .direction)) (s .stage)
+    withLines s (each (L .lines) (λ l was. if eqb was neutral then was else if ended L before s l was then neutral else was) (s .direction)) (s .stage)
 
 abbrev endsWhere : (Layout → State → State → ℕ → ℕ → Bool) → Box
 endsWhere ended = stepBy refuses does signals farSections routes (endBy ended)
 
 -- no exit route of the line is locked
 abbrev unlocked : Layout → State → ℕ → Bool
-unlocked L s l = not (any (L .routes) (settling.exitLocked (L .route) (s .phase) l))
+unlocked L s l = not (any (L .routes) (lockedExit (L .route) (s .phase) l))
 
 -- left out
 abbrev pub neverEnds : Box
@@ -210,7 +212,7 @@ endsUnpassed = endsWhere (λ L before s l w. all (line (L .line) l .blocks) (pas
 
 -- blocks open; sections read free
 abbrev pub coldOpen : State
-coldOpen = withLines cold (cold .direction) (replicate 64 0)
+coldOpen = withLines cold (cold .direction) (replicate 64 openBlock)
 
 abbrev pub coldFree : State
-coldFree = withSections cold (replicate 64 1) (cold .stage)
+coldFree = withSections cold (replicate 64 free) (cold .stage)

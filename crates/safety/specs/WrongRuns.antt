@@ -16,7 +16,8 @@ use Rattle.panel.specs.Panel.{image}
 use Rattle.step_facts.specs.Run.{Event, boxInRun, stateAfter}
 use Rattle.safety.specs.Cases.{ev, p3, p4, p5}
 use Rattle.safety.specs.Shown.{Signal}
-use Rattle.safety.specs.History.{History, free, reading, shown, goesOn}
+use Rattle.track.specs.Codes.{free}
+use Rattle.safety.specs.History.{History, reading, shown, goesOn}
 use Rattle.safety.specs.Demand3.{Cleared, Enters}
 use Rattle.safety.specs.WrongBoxes.{Box, refusesNone, releasesLocked, releasesTaken, asksNoConflict, opensFree, passesNone, countsStopped, asksNoSignal, asksNoArrival, passesFarNone, asksNoEntry, movesInNeutral, bringsBack, waits89, neverEnds, endsLocked, endsHeld, endsBarred, endsUnpassed, coldOpen, coldFree}
 

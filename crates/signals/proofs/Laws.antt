@@ -1,44 +1,17 @@
 -- The cases of the code that goes by a number.
-use Prim.Native.Nat.{ℕ, _-_, _<_, _≤_}
-use mathlib.Core.Path.{_≡_, ap, _∙_}
+use Prim.Native.Nat.{ℕ}
+use mathlib.Core.Path.{_≡_}
 use mathlib.Core.Bool.{Bool, true, false, not}
 use mathlib.Core.List.{List, [], _∷_}
-use native.Mathlib.Omega.{arith}
 use borrow.Author.Tests.{eq-eqb, ne-eqb}
 use lib.Dec.{eqb}
-use lib.ListN.{getD}
 use Rattle.laws.specs.Tests.{implies, every}
-use Rattle.laws.specs.Tables.{read}
-use Rattle.laws.proofs.Choice.{if-eq, if-ne, if-lt, if-ge}
 use Rattle.laws.proofs.Tests.{every-stops, every-passes, every-last}
 use Rattle.track.specs.declared.Line.{Line}
 use Rattle.track.specs.declared.Route.{Route}
-use Rattle.signals.specs.Readings.{allFree}
-use Rattle.signals.specs.Signals.{place, nearest, linePlaced, routePlaced, isOpen, unbarred, letsOut, clear}
-
--- the nearest block: at A the first, at B the last; of a line with no block the first
-module _ (b : Line) (e r : ℕ) where
-  pub nearest-a : e ≡ 0 → r ≡ 0 → r ≡ nearest b e
-  unfolding nearest
-  nearest-a h q = if-eq _ _ _ _ r h q
-
-  pub nearest-none : (e ≡ 0 → ⊥) → b .blocks ≡ 0 → r ≡ 0 → r ≡ nearest b e
-  unfolding nearest
-  nearest-none h n q = if-ne _ _ _ _ r h (omega arith)
-
-  pub nearest-b : (e ≡ 0 → ⊥) → r ≡ b .blocks - 1 → r ≡ nearest b e
-  unfolding nearest
-  nearest-b h q = if-ne _ _ _ _ r h q
-
--- an entry of a table of blocks
-module _ (xs : List ℕ) (l i k r : ℕ) (e : k ≡ place l i) where
-  pub held-inside : k < 64 → r ≡ getD xs k 0 → r ≡ read 64 1 xs (place l i)
-  unfolding read
-  held-inside h q = if-lt (place l i) 64 _ _ r (rw (← e) h) (q ∙ ap (λ n. getD xs n 0) e)
-
-  pub held-outside : 64 ≤ k → r ≡ 1 → r ≡ read 64 1 xs (place l i)
-  unfolding read
-  held-outside h q = if-ge (place l i) 64 _ _ r (rw (← e) h) q
+use Rattle.tables.specs.Readings.{allFree, linePlaced, routePlaced}
+use Rattle.tables.specs.Blocks.{isOpen, unbarred}
+use Rattle.signals.specs.Signals.{enterableBy, letsOut, clear}
 
 -- what only exit routes are asked
 module _ (k : ℕ) (t : Bool) where
@@ -52,14 +25,17 @@ module _ (k : ℕ) (t : Bool) where
 
 -- whether a train may be let into a block, by the test at which it fails
 module _ (points stages bars : List ℕ) (b : Line) (l i : ℕ) (v : Bool) (p : v ≡ isOpen stages l i) where
-  pub enters-held : not v ≡ true → false ≡ every (isOpen stages l i ∷ unbarred bars l i ∷ linePlaced points b ∷ [])
+  pub enters-held : not v ≡ true → false ≡ enterableBy b points stages bars l i
+  unfolding enterableBy
   enters-held h = every-stops _ _ v p h
 
   module _ (u : Bool) (q : u ≡ unbarred bars l i) (h : not v ≡ false) where
-    pub enters-barred : not u ≡ true → false ≡ every (isOpen stages l i ∷ unbarred bars l i ∷ linePlaced points b ∷ [])
+    pub enters-barred : not u ≡ true → false ≡ enterableBy b points stages bars l i
+    unfolding enterableBy
     enters-barred g = every-passes _ _ v _ false p h (every-stops _ _ u q g)
 
-    pub enters-placed : (r : Bool) → not u ≡ false → r ≡ linePlaced points b → r ≡ every (isOpen stages l i ∷ unbarred bars l i ∷ linePlaced points b ∷ [])
+    pub enters-placed : (r : Bool) → not u ≡ false → r ≡ linePlaced points b → r ≡ enterableBy b points stages bars l i
+    unfolding enterableBy
     enters-placed r g e = every-passes _ _ v _ r p h (every-passes _ _ u _ r q g (every-last _ r e))
 
 -- whether a route's signal is kept at proceed, by the test at which it fails

@@ -20,8 +20,8 @@ use Rattle.step_facts.proofs.Range.{each-within, put-within, sections-r
 own-stage-in : (v was : ℕ) → In 0 3 was → In 0 3 (ownStage v was)
 unfolding ownStage
 own-stage-in v was h =
-    if-both (In 0 3) _ (λ t. if-both (In 0 3) _ (λ u. omega arith) (λ u. omega arith))
-    (λ t. if-both (In 0 3) _ (λ u. if-both (In 0 3) _ (λ x. omega arith) (λ x. h)) (λ u. if-both (In 0 3) _ (λ x. omega arith) (λ x. h)))
+    if-both (In 0 3) _ (λ t. if-both (In 0 3) _ (λ u. omega arith) (λ u. h))
+    (λ t. if-both (In 0 3) _ (λ u. omega arith) (λ u. if-both (In 0 3) _ (λ x. if-both (In 0 3) _ (λ y. omega arith) (λ y. omega arith)) (λ x. h)))
 
 -- only the block that the section is has it
 stage-in : (ls : List Line) (g v k was : ℕ) → In 0 3 was → In 0 3 (ownStageAt ls g v k was)

@@ -16,7 +16,7 @@ use Rattle.layout_facts.proofs.Means.{lastly, _also_, _&_, every-means, all-mea
 use Rattle.layout_facts.proofs.Lists.{between-means}
 use Rattle.interlocking.specs.declared.State.{State}
 use Rattle.interlocking.specs.State.{cold, codes, routesInRange, inRange, withSections, withPoints, withRoutes, withLines, withBars}
-use Rattle.step_facts.specs.Range.{In, Within, InRange}
+use Rattle.step_facts.specs.Range.{In, Within, InRange, Sections, Points, Orders, Phases, Steps, Seconds, Directions, Stages, Bars}
 
 -- ---- the test
 
@@ -24,6 +24,21 @@ use Rattle.step_facts.specs.Range.{In, Within, InRange}
 codes-means : (n low high : ℕ) (xs : List ℕ) → codes n low high xs ≡ true ↔ Within n low high xs
 unfolding codes
 codes-means n low high xs = Iff·trans (all-means (λ i l. between-means _ _ _)) (λ f. record { entry = f }, λ w. w .entry)
+
+-- a state is in range by its nine tables
+ranged : {s : State} → Sections (s .section) → Points (s .point) → Orders (s .order) → Phases (s .phase) → Steps (s .step) → Seconds (s .second)
+    → Directions (s .direction) → Stages (s .stage) → Bars (s .bar) → InRange s
+ranged section point order phase step second direction stage bar = record {
+  section = section;
+  point = point;
+  order = order;
+  phase = phase;
+  step = step;
+  second = second;
+  direction = direction;
+  stage = stage;
+  bar = bar;
+}
 
 -- each table of a state
 pub inRange-means : (s : State) → inRange s ≡ true ↔ InRange s
@@ -33,17 +48,7 @@ inRange-means s =
     codes-means _ _ _ _ also codes-means _ _ _ _ also codes-means _ _ _ _ also lastly (every-means (
     codes-means _ _ _ _ also codes-means _ _ _ _ also codes-means _ _ _ _ also codes-means _ _ _ _ also codes-means _ _ _ _
     also lastly (codes-means _ _ _ _))))) (
-      λ (section, (point, (order, (phase, (step, (second, (direction, (stage, bar)))))))). record {
-        section = section;
-        point = point;
-        order = order;
-        phase = phase;
-        step = step;
-        second = second;
-        direction = direction;
-        stage = stage;
-        bar = bar;
-      },
+      λ (section, (point, (order, (phase, (step, (second, (direction, (stage, bar)))))))). ranged section point order phase step second direction stage bar,
       λ r. r .section & r .point & r .order & r .phase & r .step & r .second & r .direction & r .stage & r .bar,
     )
 
@@ -95,73 +100,22 @@ cold-in-range = inRange-means cold .1 cold-ranges
 
 -- a state with some of its tables made anew
 module _ {s : State} (R : InRange s) where
-  pub sections-range : {section stage : List ℕ} → Within 64 1 3 section → Within 64 0 3 stage → InRange (withSections s section stage)
+  pub sections-range : {section stage : List ℕ} → Sections section → Stages stage → InRange (withSections s section stage)
   unfolding withSections
-  sections-range g k = record {
-    section = g;
-    point = R .point;
-    order = R .order;
-    phase = R .phase;
-    step = R .step;
-    second = R .second;
-    direction = R .direction;
-    stage = k;
-    bar = R .bar;
-  }
+  sections-range g k = ranged g (R .point) (R .order) (R .phase) (R .step) (R .second) (R .direction) k (R .bar)
 
-  pub points-range : {point order : List ℕ} → Within 32 1 3 point → Within 32 0 2 order → InRange (withPoints s point order)
+  pub points-range : {point order : List ℕ} → Points point → Orders order → InRange (withPoints s point order)
   unfolding withPoints
-  points-range p o = record {
-    section = R .section;
-    point = p;
-    order = o;
-    phase = R .phase;
-    step = R .step;
-    second = R .second;
-    direction = R .direction;
-    stage = R .stage;
-    bar = R .bar;
-  }
+  points-range p o = ranged (R .section) p o (R .phase) (R .step) (R .second) (R .direction) (R .stage) (R .bar)
 
-  pub routes-range : {phase step second : List ℕ} → Within 48 0 3 phase → Within 48 0 3 step → Within 48 0 89 second
-      → InRange (withRoutes s phase step second)
+  pub routes-range : {phase step second : List ℕ} → Phases phase → Steps step → Seconds second → InRange (withRoutes s phase step second)
   unfolding withRoutes
-  routes-range p t c = record {
-    section = R .section;
-    point = R .point;
-    order = R .order;
-    phase = p;
-    step = t;
-    second = c;
-    direction = R .direction;
-    stage = R .stage;
-    bar = R .bar;
-  }
+  routes-range p t c = ranged (R .section) (R .point) (R .order) p t c (R .direction) (R .stage) (R .bar)
 
-  pub lines-range : {direction stage : List ℕ} → Within 8 0 2 direction → Within 64 0 3 stage → InRange (withLines s direction stage)
+  pub lines-range : {direction stage : List ℕ} → Directions direction → Stages stage → InRange (withLines s direction stage)
   unfolding withLines
-  lines-range d k = record {
-    section = R .section;
-    point = R .point;
-    order = R .order;
-    phase = R .phase;
-    step = R .step;
-    second = R .second;
-    direction = d;
-    stage = k;
-    bar = R .bar;
-  }
+  lines-range d k = ranged (R .section) (R .point) (R .order) (R .phase) (R .step) (R .second) d k (R .bar)
 
-  pub bars-range : {bar : List ℕ} → Within 64 0 1 bar → InRange (withBars s bar)
+  pub bars-range : {bar : List ℕ} → Bars bar → InRange (withBars s bar)
   unfolding withBars
-  bars-range b = record {
-    section = R .section;
-    point = R .point;
-    order = R .order;
-    phase = R .phase;
-    step = R .step;
-    second = R .second;
-    direction = R .direction;
-    stage = R .stage;
-    bar = b;
-  }
+  bars-range b = ranged (R .section) (R .point) (R .order) (R .phase) (R .step) (R .second) (R .direction) (R .stage) b

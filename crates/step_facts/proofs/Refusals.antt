@@ -12,10 +12,10 @@ use Rattle.laws.proofs.Choice.{if-both}
 use Rattle.layout_facts.proofs.Lists.{between-means}
 use Rattle.track.specs.declared.Line.{Line}
 use Rattle.track.specs.declared.Route.{Route}
-use Rattle.signals.specs.Readings.{recorded}
+use Rattle.tables.specs.Readings.{recorded}
 use Rattle.layout.specs.declared.Layout.{Layout}
 use Rattle.reasons.specs.declared.Refusal.{Refusal}
-use Rattle.reasons.specs.Refusal.{refused, none, when, found, firstOf}
+use Rattle.reasons.specs.Refusal.{refused, noRefusal, when, found, firstOf}
 use Rattle.reasons.specs.Leaves.{notFree, notPlaced, conflicting, byRoute, byLine, exitLocked, blockBarred, blockHeld}
 use Rattle.refusals.specs.Orders.{throwRefusal, exitRefusal, routeRefusal, setRefusal, cancelRefusal, secureRefusal, manualRefusal}
 use Rattle.refusals.specs.Events.{secondWrong, eventRefusal}
@@ -60,14 +60,14 @@ data Orders : List Refusal → Type 0 where
 
 -- and so has the first of them
 first-order : {xs : List Refusal} → Orders xs → firstOf xs .number ≤ 17
-unfolding firstOf none refused
+unfolding firstOf noRefusal refused
 first-order no-more = omega arith
 first-order (h then no-more) = h
 first-order (h then (g then rest)) = if-both (λ (f : Refusal). f .number ≤ 17) _ (λ t. first-order (g then rest)) (λ t. h)
 
 -- one that goes by a test
 when-order : (t : Bool) (number detail : ℕ) → number ≤ 17 → when t number detail .number ≤ 17
-unfolding when none refused
+unfolding when noRefusal refused
 when-order t number detail h = if-both (λ (f : Refusal). f .number ≤ 17) t (λ u. h) (λ u. omega arith)
 
 -- one that goes by a search
@@ -77,7 +77,7 @@ found-order number n p h = when-order _ number _ h
 
 -- 7 and 8
 not-free-order : (sections : List ℕ) (set : ℕ) → notFree sections set .number ≤ 17
-unfolding notFree refused none
+unfolding notFree refused noRefusal
 not-free-order sections set =
     if-both (λ (f : Refusal). f .number ≤ 17) _ (λ t. if-both (λ n. n ≤ 17) _ (λ u. omega arith) (λ u. omega arith)) (λ t. omega arith)
 
@@ -94,7 +94,7 @@ exit-order ls points directions stages bars a =
 
 route-order : (ls : List Line) (sections points directions stages bars : List ℕ) (a : Route)
     → routeRefusal ls sections points directions stages bars a .number ≤ 17
-unfolding routeRefusal notPlaced none refused
+unfolding routeRefusal notPlaced noRefusal refused
 route-order ls sections points directions stages bars a =
     first-order (found-order 6 _ _ (omega arith) then not-free-order _ _
     then if-both (λ (f : Refusal). f .number ≤ 17) _ (λ t. exit-order ls points directions stages bars a) (λ t. omega arith) then no-more)
@@ -119,7 +119,7 @@ unfolding manualRefusal exitLocked
 manual-order L sections phases l = first-order (found-order 17 _ _ (omega arith) then not-free-order _ _ then no-more)
 
 order-order : (L : Layout) (s : State) (k a : ℕ) → orderRefusal L s k a .number ≤ 17
-unfolding orderRefusal none refused
+unfolding orderRefusal noRefusal refused
 order-order L s k a =
     let P : Refusal → Type 0 = λ f. f .number ≤ 17 in
     if-both P _ (λ t. throw-order L _ _ _ a) (λ t. if-both P _ (λ t. set-order L _ _ _ _ _ _ a) (λ t. if-both P _ (λ t. cancel-order _ a)
@@ -127,7 +127,7 @@ order-order L s k a =
 
 -- where soundness was found, the test for 18 does not refuse
 found-sound : when (not true) 18 0 .number ≤ 17
-unfolding when if_then_else_ none refused
+unfolding when if_then_else_ noRefusal refused
 found-sound = omega arith
 
 -- so no event is refused by 18

@@ -1,11 +1,12 @@
 -- Lines and routes by their numbers (section 2).
-use Prim.Native.Nat.{ℕ}
+use Prim.Native.Nat.{ℕ, _-_}
 use mathlib.Core.List.{List}
 use lib.ListN.{getD, replicate}
 use lib.Dec.{eqb}
 use Rattle.laws.specs.Choice.{if_then_else_}
 use Rattle.track.specs.declared.Line.{Line}
 use Rattle.track.specs.declared.Route.{Route}
+use Rattle.track.specs.Codes.{endA}
 
 -- a list of eight with nothing in it
 abbrev none8 : List ℕ
@@ -40,10 +41,17 @@ line ls l = getD ls l noLine
 unfoldable pub route : List Route → ℕ → Route
 route rs r = getD rs r noRoute
 
--- a line's inner section at an end: 0 is A, 1 is B
+-- a line's inner section at an end
 unfoldable pub inner : Line → ℕ → ℕ
-inner a e = if eqb e 0 then a .innera else a .innerb
+inner a e = if eqb e endA then a .innera else a .innerb
 
 -- a line's entrance signal at an end
 unfoldable pub entrance : Line → ℕ → ℕ
-entrance a e = if eqb e 0 then a .entrancea else a .entranceb
+entrance a e = if eqb e endA then a .entrancea else a .entranceb
+
+-- the block of a line that is nearest an end, counted from end A; its section
+unfoldable pub nearest : Line → ℕ → ℕ
+nearest a e = if eqb e endA then 0 else a .blocks - 1
+
+unfoldable pub nearestSection : Line → ℕ → ℕ
+nearestSection a e = getD (a .block) (nearest a e) 0

@@ -7,6 +7,7 @@ use Rattle.laws.specs.Tests.{_and_, _or_, every}
 use Rattle.track.specs.declared.Counts.{Counts}
 use Rattle.track.specs.declared.Line.{Line}
 use Rattle.track.specs.declared.Route.{Route}
+use Rattle.track.specs.Codes.{endB, innerRoute, exitRoute}
 use Rattle.track.specs.Lists.{between, referring, positions}
 
 -- points 0..8 as (point, position 1 left or 2 right)
@@ -28,8 +29,8 @@ lineFits c a = every (
 -- a route: entry signal, kind, for kinds 1 and 2 the line and the end, diverging, path 1..8, overlap 0..4, points
 unfoldable pub routeFits : Counts → Route → Bool
 routeFits c a = every (
-    (ltb (a .entry) (c .signals) and leb (a .kind) 2)
-    ∷ (eqb (a .kind) 0 or (ltb (a .line) (c .lines) and leb (a .end) 1))
+    (ltb (a .entry) (c .signals) and leb (a .kind) exitRoute)
+    ∷ (eqb (a .kind) innerRoute or (ltb (a .line) (c .lines) and leb (a .end) endB))
     ∷ leb (a .diverging) 1
     ∷ between 1 8 (a .paths)
     ∷ referring (a .paths) (c .sections) (a .path)

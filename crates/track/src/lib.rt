@@ -1,10 +1,15 @@
 // The objects of a layout, lines and routes, and what section 2 asks of one of them alone.
+pub mod codes;
+
+use codes::END_A;
+use laws::at8;
 use laws::lent8;
 ghost use mathlib.Core.Path.{_≡_};
 ghost use mathlib.Core.Bool.{not};
 ghost use lib.Dec.{eqb, ltb};
 ghost use lib.ListN.{length, getD};
-ghost use Rattle.track.specs.Objects.{noLine, noRoute, line, route, inner, entrance};
+ghost use Rattle.track.specs.Codes.{left, right};
+ghost use Rattle.track.specs.Objects.{noLine, noRoute, line, route, inner, entrance, nearest, nearestSection};
 ghost use Rattle.track.specs.Lists.{among, differ, between, referring, positions};
 ghost use Rattle.track.specs.Ranges.{placed, lineFits, routeFits};
 
@@ -109,7 +114,7 @@ pub fn route_at(rs: [Route; 48], r: u8) -> Route
 pub fn inner_at(a: Line, end: u8) -> u8
     ensures { λ r. ⌜ r ≡ inner a end ⌝ }
 {
-    if end == 0 {
+    if end == END_A {
         return a.innera;
     }
     a.innerb
@@ -119,10 +124,31 @@ pub fn inner_at(a: Line, end: u8) -> u8
 pub fn entrance_at(a: Line, end: u8) -> u8
     ensures { λ r. ⌜ r ≡ entrance a end ⌝ }
 {
-    if end == 0 {
+    if end == END_A {
         return a.entrancea;
     }
     a.entranceb
+}
+
+// The block of a line that is nearest an end, counted from end A.
+pub fn nearest_block(a: Line, end: u8) -> u8
+    ensures { λ r. ⌜ r ≡ nearest a end ⌝ }
+{
+    if end == END_A {
+        return 0;
+    }
+    if a.blocks == 0 {
+        return 0;
+    }
+    a.blocks - 1
+}
+
+// Its section.
+pub fn nearest_section(a: Line, end: u8) -> u8
+    ensures { λ r. ⌜ r ≡ nearestSection a end ⌝ }
+{
+    let block = a.block;
+    at8(block, nearest_block(a, end))
 }
 
 // The entry i is g.
@@ -209,9 +235,9 @@ pub fn is_between(low: u8, high: u8, x: u8) -> bool
 // The entry i is a position.
 fn position_at(xs: &[u8; 8], i: u8) -> bool
     requires { ⌜ length (now xs) ≡ 8 ⌝ }
-    ensures { λ r. ⌜ r ≡ between 1 2 (getD (now (xs .entry)) i 0) ⌝ }
+    ensures { λ r. ⌜ r ≡ between left right (getD (now (xs .entry)) i 0) ⌝ }
 {
-    is_between(1, 2, lent8(xs, i))
+    is_between(codes::LEFT, codes::RIGHT, lent8(xs, i))
 }
 
 // The first n are positions.
@@ -259,8 +285,8 @@ pub fn route_fits(c: Counts, a: Route) -> bool
     let overlap = a.overlap;
     let point = a.point;
     let position = a.position;
-    let starts = (a.entry < c.signals) & (a.kind <= 2);
-    let ends = (a.kind == 0) | ((a.line < c.lines) & (a.end <= 1));
+    let starts = (a.entry < c.signals) & (a.kind <= codes::EXIT_ROUTE);
+    let ends = (a.kind == codes::INNER_ROUTE) | ((a.line < c.lines) & (a.end <= codes::END_B));
     let diverging = a.diverging <= 1;
     let few = a.overlaps <= 4;
     let many = is_between(1, 8, a.paths);

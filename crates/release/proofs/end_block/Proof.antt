@@ -1,4 +1,4 @@
--- The block that stands there.
+-- Of the route's line, at its own end.
 use borrow.Author.Needs.{needs}
 use Rattle.release.specs.Release.{endBlock}
 use Rattle.release.proofs.end_block.Statement.{statement}
@@ -6,4 +6,4 @@ use Rattle.release.proofs.end_block.Tie as tie
 
 pub end-block-spec : {M : Type 1} → statement M
 unfolding endBlock
-end-block-spec = tie.close (tie.spec (λ c κs. search needs) (λ c κs. search needs) (λ c κs. search needs) (λ c. cc))
+end-block-spec = tie.close (tie.spec (λ c κs. search needs) (λ c κs. search needs) (λ c. cc))

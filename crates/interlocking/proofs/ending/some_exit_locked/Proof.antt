@@ -1,14 +1,14 @@
 -- A search that leaves at the first.
 use Prim.Native.Nat.{_-_}
 use Rattle.interlocking.proofs.FarSections.{exit-at}
-use Rattle.interlocking.specs.Settle.{exitLocked}
 use Rattle.laws.proofs.Arrays.{length-mapped}
 use Rattle.laws.proofs.Loops.{Failed, anys}
+use Rattle.tables.specs.Locks.{lockedExit}
 use Rattle.interlocking.proofs.ending.some_exit_locked.Statement.{statement}
 use Rattle.interlocking.proofs.ending.some_exit_locked.Tie as tie
 
 abbrev Inv-loop : tie.InvT-loop
-Inv-loop n phases k rs r₀ r = Failed n (exitLocked rs phases k) r
+Inv-loop n phases k rs r₀ r = Failed n (lockedExit rs phases k) r
 
 abbrev μ-loop : tie.MeasureT-loop
 μ-loop n phases k rs r₀ r = n - r

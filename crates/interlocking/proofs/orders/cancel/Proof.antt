@@ -7,4 +7,4 @@ use Rattle.interlocking.proofs.orders.cancel.Tie as tie
 
 pub cancel-spec : {M : Type 1} → statement M
 unfolding withRoutes
-cancel-spec = tie.close (tie.spec (λ c κs. search needs) (λ c κs. search needs) (λ c. search (needs, cancel-made)))
+cancel-spec = tie.close (tie.spec (λ c. search needs) (λ c κs. search needs) (λ c. search needs) (λ c κs. search needs) (λ c. search (needs, cancel-made)))

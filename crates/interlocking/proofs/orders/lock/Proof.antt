@@ -7,4 +7,4 @@ use Rattle.interlocking.proofs.orders.lock.Tie as tie
 
 pub lock-spec : {M : Type 1} → statement M
 unfolding withRoutes
-lock-spec = tie.close (tie.spec (λ c κs. search needs) (λ c κs. search needs) (λ c κs. search needs) (λ c. search (needs, set-made)))
+lock-spec = tie.close (tie.spec (λ c. search needs) (λ c κs. search needs) (λ c. search needs) (λ c κs. search needs) (λ c. search needs) (λ c κs. search needs) (λ c. search (needs, set-made)))

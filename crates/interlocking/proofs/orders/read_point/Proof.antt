@@ -7,4 +7,4 @@ use Rattle.interlocking.proofs.orders.read_point.Tie as tie
 
 pub read-point-spec : {M : Type 1} → statement M
 unfolding withPoints
-read-point-spec = tie.close (tie.spec (λ c κs. search needs) (λ c. search (needs, point-made)))
+read-point-spec = tie.close (tie.spec (λ c. search needs) (λ c κs. search needs) (λ c. search (needs, point-made)))

@@ -7,4 +7,4 @@ use Rattle.interlocking.proofs.orders.read_section.Tie as tie
 
 pub read-section-spec : {M : Type 1} → statement M
 unfolding withSections
-read-section-spec = tie.close (tie.spec (λ c κs. search needs) (λ c. search needs) (λ c κs. search needs) (λ c. search (needs, section-made)))
+read-section-spec = tie.close (tie.spec (λ c. search needs) (λ c κs. search needs) (λ c. search needs) (λ c κs. search needs) (λ c. search (needs, section-made)))

@@ -7,4 +7,4 @@ use Rattle.interlocking.proofs.orders.release_by_hand.Tie as tie
 
 pub release-by-hand-spec : {M : Type 1} → statement M
 unfolding withLines
-release-by-hand-spec = tie.close (tie.spec (λ c κs. search needs) (λ c. search needs) (λ c κs. search needs) (λ c. search (needs, manual-made)))
+release-by-hand-spec = tie.close (tie.spec (λ c. search needs) (λ c κs. search needs) (λ c. search needs) (λ c κs. search needs) (λ c. search (needs, manual-made)))

@@ -7,4 +7,4 @@ use Rattle.interlocking.proofs.orders.secure.Tie as tie
 
 pub secure-spec : {M : Type 1} → statement M
 unfolding withLines
-secure-spec = tie.close (tie.spec (λ c κs. search needs) (λ c. search (needs, secure-made)))
+secure-spec = tie.close (tie.spec (λ c. search needs) (λ c κs. search needs) (λ c. search (needs, secure-made)))

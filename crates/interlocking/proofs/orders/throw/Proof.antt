@@ -7,4 +7,4 @@ use Rattle.interlocking.proofs.orders.throw.Tie as tie
 
 pub throw-spec : {M : Type 1} → statement M
 unfolding withPoints
-throw-spec = tie.close (tie.spec (λ c κs. search needs) (λ c κs. search needs) (λ c κs. search needs) (λ c. search (needs, throw-made)))
+throw-spec = tie.close (tie.spec (λ c κs. search needs) (λ c. search needs) (λ c κs. search needs) (λ c. search needs) (λ c κs. search needs) (λ c. search (needs, throw-made)))

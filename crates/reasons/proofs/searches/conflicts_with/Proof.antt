@@ -1,7 +1,0 @@
--- Locked, and then by the table.
-use Rattle.reasons.proofs.Laws.{both-asked, boths}
-use Rattle.reasons.proofs.searches.conflicts_with.Statement.{statement}
-use Rattle.reasons.proofs.searches.conflicts_with.Tie as tie
-
-pub conflicts-with-spec : {M : Type 1} → statement M
-conflicts-with-spec = tie.close (tie.spec (λ c κs. search boths) (λ c. search boths) (λ c κs. search boths) (λ c. both-asked _ _ _ (search boths) (cc)))

@@ -1,9 +1,0 @@
--- In the set, and then by what it reads.
-use Rattle.reasons.proofs.Laws.{both-asked, boths}
-use Rattle.reasons.specs.Leaves.{lacking}
-use Rattle.reasons.proofs.searches.is_lacking.Statement.{statement}
-use Rattle.reasons.proofs.searches.is_lacking.Tie as tie
-
-pub is-lacking-spec : {M : Type 1} → statement M
-unfolding lacking
-is-lacking-spec = tie.close (tie.spec (λ c κs. search boths) (λ c. search boths) (λ c κs. search boths) (λ c. both-asked _ _ _ (search boths) (cc)))

@@ -1,0 +1,21 @@
+-- Each before j is another point or is in position.
+use Prim.Native.Nat.{_-_}
+use lib.Dec.{eqb}
+use lib.ListN.{getD}
+use mathlib.Core.Bool.{not}
+use Rattle.laws.proofs.Loops.{Failed, anys}
+use Rattle.laws.specs.Tests.{_and_}
+use Rattle.searches.specs.Searches.{misplaced}
+use Rattle.tables.specs.Readings.{lies}
+use Rattle.searches.proofs.is_misplaced.Statement.{statement}
+use Rattle.searches.proofs.is_misplaced.Tie as tie
+
+abbrev Inv-loop : tie.InvT-loop
+Inv-loop points n ps ws p j₀ j = Failed n (λ k. eqb (getD ps k 0) p and not (eqb (lies points p) (getD ws k 0))) j
+
+abbrev μ-loop : tie.MeasureT-loop
+μ-loop points n ps ws p j₀ j = n - j
+
+pub is-misplaced-spec : {M : Type 1} → statement M
+unfolding misplaced
+is-misplaced-spec = tie.close (tie.spec Inv-loop μ-loop (λ c. search anys) (λ c κs. search anys) (λ c. search anys) (λ c. search anys) (λ c. search anys) (λ c. search anys) (λ c. search anys))

@@ -1,0 +1,15 @@
+-- Each route before q is idle or does not conflict.
+use Prim.Native.Nat.{_-_}
+use Rattle.laws.proofs.Searches.{Sought, seeks}
+use Rattle.searches.specs.Searches.{conflictsWith}
+use Rattle.searches.proofs.lowest_conflicting.Statement.{statement}
+use Rattle.searches.proofs.lowest_conflicting.Tie as tie
+
+abbrev Inv-loop : tie.InvT-loop
+Inv-loop conflict phases n r q₀ q = Sought n (conflictsWith conflict phases r) q
+
+abbrev μ-loop : tie.MeasureT-loop
+μ-loop conflict phases n r q₀ q = n - q
+
+pub lowest-conflicting-spec : {M : Type 1} → statement M
+lowest-conflicting-spec = tie.close (tie.spec Inv-loop μ-loop (λ c. search seeks) (λ c κs. search seeks) (λ c. search seeks) (λ c. search seeks) (λ c. search seeks) (λ c. search seeks) (λ c. search seeks))

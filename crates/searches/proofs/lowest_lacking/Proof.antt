@@ -1,0 +1,15 @@
+-- Each section before g reads free or is not in the set.
+use Prim.Native.Nat.{_-_}
+use Rattle.laws.proofs.Searches.{Sought, seeks}
+use Rattle.searches.specs.Searches.{lacking}
+use Rattle.searches.proofs.lowest_lacking.Statement.{statement}
+use Rattle.searches.proofs.lowest_lacking.Tie as tie
+
+abbrev Inv-loop : tie.InvT-loop
+Inv-loop sections set g₀ g = Sought 64 (lacking sections set) g
+
+abbrev μ-loop : tie.MeasureT-loop
+μ-loop sections set g₀ g = 64 - g
+
+pub lowest-lacking-spec : {M : Type 1} → statement M
+lowest-lacking-spec = tie.close (tie.spec Inv-loop μ-loop (λ c. search seeks) (λ c κs. search seeks) (λ c. search seeks) (λ c. search seeks) (λ c. search seeks) (λ c. search seeks) (λ c. search seeks))

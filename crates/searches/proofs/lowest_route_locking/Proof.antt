@@ -1,0 +1,15 @@
+-- Each route before r is idle or does not list the point.
+use Prim.Native.Nat.{_-_}
+use Rattle.laws.proofs.Searches.{Sought, seeks}
+use Rattle.searches.specs.Searches.{routeLocks}
+use Rattle.searches.proofs.lowest_route_locking.Statement.{statement}
+use Rattle.searches.proofs.lowest_route_locking.Tie as tie
+
+abbrev Inv-loop : tie.InvT-loop
+Inv-loop rs phases n p r₀ r = Sought n (routeLocks rs phases p) r
+
+abbrev μ-loop : tie.MeasureT-loop
+μ-loop rs phases n p r₀ r = n - r
+
+pub lowest-route-locking-spec : {M : Type 1} → statement M
+lowest-route-locking-spec = tie.close (tie.spec Inv-loop μ-loop (λ c. search seeks) (λ c κs. search seeks) (λ c. search seeks) (λ c. search seeks) (λ c. search seeks) (λ c. search seeks) (λ c. search seeks))

@@ -1,0 +1,252 @@
+// The searches: the lowest number to which a reason applies, and the number after the last where it applies to none.
+use laws::at8;
+use pairs::place_of;
+use tables::direction_of;
+use tables::is_locked;
+use tables::is_locked_exit;
+use tables::is_open;
+use tables::point_reads;
+use tables::section_reads;
+use track::Line;
+use track::Route;
+use track::codes::FREE;
+use track::codes::NEUTRAL;
+use track::is_among;
+use track::line_at;
+use track::route_at;
+ghost use mathlib.Core.Path.{_≡_};
+ghost use mathlib.Core.Bool.{not};
+ghost use lib.Dec.{eqb};
+ghost use lib.ListN.{getD};
+ghost use Rattle.laws.specs.Tests.{_and_, lowest};
+ghost use Rattle.laws.specs.Tables.{read};
+ghost use Rattle.pairs.specs.Pairs.{placeOf};
+ghost use Rattle.tables.specs.Readings.{lies};
+ghost use Rattle.tables.specs.Blocks.{isOpen};
+ghost use Rattle.tables.specs.Locks.{lockedExit};
+ghost use Rattle.searches.specs.Searches.{lacking, misplaced, conflictsWith, routeLocks, lineLocks, failing};
+
+// The section that point p stands in.
+pub fn section_of(own: [u8; 32], p: u8) -> u8
+    ensures { λ r. ⌜ r ≡ read 32 0 own p ⌝ }
+{
+    if p < 32 {
+        return own[p as usize];
+    }
+    0
+}
+
+// Section g is in the set and does not read free.
+fn is_lacking(sections: &[u8; 64], set: u64, g: u8) -> bool
+    ensures { λ r. ⌜ r ≡ lacking (now (sections .entry)) set g ⌝ }
+{
+    if !sets::has(set, g) {
+        return false;
+    }
+    section_reads(sections, g) != FREE
+}
+
+// The lowest section of a set that does not read free.
+pub fn lowest_lacking(sections: &[u8; 64], set: u64) -> u8
+    ensures { λ r. ⌜ r ≡ lowest 64 (lacking (now (sections .entry)) set) ⌝ }
+{
+    let mut g: u8 = 0;
+    while g < 64 {
+        if is_lacking(sections, set, g) {
+            return g;
+        }
+        g += 1;
+    }
+    64
+}
+
+// The j-th of these points is p, and p is not read in its position.
+fn misplaced_at(points: &[u8; 32], ps: [u8; 8], ws: [u8; 8], p: u8, j: u8) -> bool
+    ensures { λ r. ⌜ r ≡ eqb (getD ps j 0) p and not (eqb (lies (now (points .entry)) p) (getD ws j 0)) ⌝ }
+{
+    let x = at8(ps, j);
+    if x != p {
+        return false;
+    }
+    let w = at8(ws, j);
+    point_reads(points, p) != w
+}
+
+// Point p is one of the first n and is not read in its position.
+fn is_misplaced(points: &[u8; 32], n: u8, ps: [u8; 8], ws: [u8; 8], p: u8) -> bool
+    ensures { λ r. ⌜ r ≡ misplaced (now (points .entry)) n ps ws p ⌝ }
+{
+    let mut j: u8 = 0;
+    while j < n {
+        if misplaced_at(points, ps, ws, p, j) {
+            return true;
+        }
+        j += 1;
+    }
+    false
+}
+
+// The lowest of the first n points that is not read in its position.
+pub fn lowest_misplaced(points: &[u8; 32], n: u8, ps: [u8; 8], ws: [u8; 8]) -> u8
+    ensures { λ r. ⌜ r ≡ lowest 32 (misplaced (now (points .entry)) n ps ws) ⌝ }
+{
+    let mut p: u8 = 0;
+    while p < 32 {
+        if is_misplaced(points, n, ps, ws, p) {
+            return p;
+        }
+        p += 1;
+    }
+    32
+}
+
+// The entry of the table of conflicts for the routes r and q, 0 past its end.
+fn entry_at(conflict: &[u8; 2304], r: u8, q: u8) -> u8
+    ensures { λ x. ⌜ x ≡ read 2304 0 (now (conflict .entry)) (placeOf r q) ⌝ }
+{
+    let place = place_of(r, q);
+    if place < 2304 {
+        return conflict[place];
+    }
+    0
+}
+
+// Route q is locked and conflicts with r.
+fn conflicts_with<'a>(conflict: &'a [u8; 2304], phases: &'a [u8; 48], r: u8, q: u8) -> bool
+    ensures { λ x. ⌜ x ≡ conflictsWith (now (conflict .entry)) (now (phases .entry)) r q ⌝ }
+{
+    if !is_locked(phases, q) {
+        return false;
+    }
+    entry_at(conflict, r, q) == 1
+}
+
+// The lowest of n routes that is locked and conflicts with r.
+pub fn lowest_conflicting<'a>(conflict: &'a [u8; 2304], phases: &'a [u8; 48], n: u8, r: u8) -> u8
+    ensures { λ x. ⌜ x ≡ lowest n (conflictsWith (now (conflict .entry)) (now (phases .entry)) r) ⌝ }
+{
+    let mut q: u8 = 0;
+    while q < n {
+        if conflicts_with(conflict, phases, r, q) {
+            return q;
+        }
+        q += 1;
+    }
+    n
+}
+
+// Route r is locked and lists point p.
+fn route_locks(rs: [Route; 48], phases: &[u8; 48], p: u8, r: u8) -> bool
+    ensures { λ x. ⌜ x ≡ routeLocks rs (now (phases .entry)) p r ⌝ }
+{
+    if !is_locked(phases, r) {
+        return false;
+    }
+    let a = route_at(rs, r);
+    let point = a.point;
+    is_among(point, a.points, p)
+}
+
+// The lowest of n routes that is locked and lists point p.
+pub fn lowest_route_locking(rs: [Route; 48], phases: &[u8; 48], n: u8, p: u8) -> u8
+    ensures { λ x. ⌜ x ≡ lowest n (routeLocks rs (now (phases .entry)) p) ⌝ }
+{
+    let mut r: u8 = 0;
+    while r < n {
+        if route_locks(rs, phases, p, r) {
+            return r;
+        }
+        r += 1;
+    }
+    n
+}
+
+// Line l is secured and lists point p.
+fn line_locks(ls: [Line; 8], directions: &[u8; 8], p: u8, l: u8) -> bool
+    ensures { λ r. ⌜ r ≡ lineLocks ls (now (directions .entry)) p l ⌝ }
+{
+    if direction_of(directions, l) == NEUTRAL {
+        return false;
+    }
+    let b = line_at(ls, l);
+    let point = b.point;
+    is_among(point, b.points, p)
+}
+
+// The lowest of n lines that is secured and lists point p.
+pub fn lowest_line_locking(ls: [Line; 8], directions: &[u8; 8], n: u8, p: u8) -> u8
+    ensures { λ r. ⌜ r ≡ lowest n (lineLocks ls (now (directions .entry)) p) ⌝ }
+{
+    let mut l: u8 = 0;
+    while l < n {
+        if line_locks(ls, directions, p, l) {
+            return l;
+        }
+        l += 1;
+    }
+    n
+}
+
+// Route r is a locked exit route of line l; an idle one is left at once.
+fn locks_exit(rs: [Route; 48], phases: &[u8; 48], l: u8, r: u8) -> bool
+    ensures { λ x. ⌜ x ≡ lockedExit rs (now (phases .entry)) l r ⌝ }
+{
+    if !is_locked(phases, r) {
+        return false;
+    }
+    let a = route_at(rs, r);
+    is_locked_exit(phases, a, l, r)
+}
+
+// The lowest of n routes that is a locked exit route of line l.
+pub fn lowest_locked_exit(rs: [Route; 48], phases: &[u8; 48], n: u8, l: u8) -> u8
+    ensures { λ x. ⌜ x ≡ lowest n (lockedExit rs (now (phases .entry)) l) ⌝ }
+{
+    let mut r: u8 = 0;
+    while r < n {
+        if locks_exit(rs, phases, l, r) {
+            return r;
+        }
+        r += 1;
+    }
+    n
+}
+
+// Block i of line l is section g, and the table of blocks has it held or barred.
+fn taken_at(table: &[u8; 64], block: [u8; 8], l: u8, g: u8, i: u8) -> bool
+    ensures { λ r. ⌜ r ≡ eqb (getD block i 0) g and not (isOpen (now (table .entry)) l i) ⌝ }
+{
+    let x = at8(block, i);
+    if x != g {
+        return false;
+    }
+    !is_open(table, l, i)
+}
+
+// Section g is one of the n blocks of line l that the table has held or barred.
+fn is_taken(table: &[u8; 64], n: u8, block: [u8; 8], l: u8, g: u8) -> bool
+    ensures { λ r. ⌜ r ≡ failing (isOpen (now (table .entry)) l) n block g ⌝ }
+{
+    let mut i: u8 = 0;
+    while i < n {
+        if taken_at(table, block, l, g, i) {
+            return true;
+        }
+        i += 1;
+    }
+    false
+}
+
+// The lowest section of the n blocks of line l that the table has held or barred.
+pub fn lowest_taken(table: &[u8; 64], n: u8, block: [u8; 8], l: u8) -> u8
+    ensures { λ r. ⌜ r ≡ lowest 64 (failing (isOpen (now (table .entry)) l) n block) ⌝ }
+{
+    let mut g: u8 = 0;
+    while g < 64 {
+        if is_taken(table, n, block, l, g) {
+            return g;
+        }
+        g += 1;
+    }
+    64
+}

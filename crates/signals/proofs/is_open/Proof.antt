@@ -1,9 +1,0 @@
--- The test itself, on the entry read.
-use borrow.Author.Needs.{needs}
-use Rattle.signals.specs.Signals.{isOpen}
-use Rattle.signals.proofs.is_open.Statement.{statement}
-use Rattle.signals.proofs.is_open.Tie as tie
-
-pub is-open-spec : {M : Type 1} → statement M
-unfolding isOpen
-is-open-spec = tie.close (tie.spec (λ c κs. search needs) (λ c. cc))
