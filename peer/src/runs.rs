@@ -36,18 +36,17 @@ fn start(run: &Run) -> Start {
     Start { loaded, plan, state, sound }
 }
 
-// Each code as a digit.
-fn digits(codes: &[u8], n: usize) -> String {
-    let digit = |&x: &u8| if x < 10 { (b'0' + x) as char } else { '?' };
-    codes.iter().take(n).map(digit).collect()
+// Each code in one digit or two.
+fn digits(codes: &[u8], n: usize, two: bool) -> String {
+    let digit = |x: u8| if x < 10 { (b'0' + x) as char } else { '?' };
+    codes.iter().take(n).map(|&x| if two { format!("{}{}", digit(x / 10), digit(x % 10)) } else { digit(x).to_string() }).collect()
 }
 
 // The tables of a state, as far as the layout has objects.
 fn shown(plan: &Plan, t: &Fields) -> String {
     let (sections, points, routes, lines) = (plan.sections(), plan.points(), plan.route_count(), plan.line_count());
-    let counts = [sections, points, points, routes, routes, 0, lines, 8 * lines, 8 * lines];
-    let groups = t.iter().zip(counts).enumerate().filter(|(k, _)| *k != 5);
-    groups.map(|(_, (codes, n))| digits(codes, n) + " ").collect()
+    let counts = [sections, points, points, routes, routes, routes, lines, 8 * lines, 8 * lines];
+    t.iter().zip(counts).enumerate().map(|(k, (codes, n))| digits(codes, n, k == 5) + " ").collect()
 }
 
 /// The answers to a run, and its text. A state that was changed by hand is only asked for refusals.

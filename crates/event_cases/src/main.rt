@@ -95,6 +95,7 @@ fn play_all(archive: &[u8]) {
     }
 }
 
+// Every event file of the archive that the first argument names.
 fn main() {
     let mut path = io::buffer();
     let n = os::arg(1, &mut path);

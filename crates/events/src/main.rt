@@ -221,6 +221,7 @@ fn usage() {
     io::write_all(STDERR_FILENO, b"usage: events LAYOUT EVENTS [panel]\n");
 }
 
+// The layout, the event file and the word `panel`, by the arguments.
 fn main() {
     let mut layout = io::buffer();
     let mut events = io::buffer();

@@ -1,4 +1,5 @@
 // Reading the layout file number by number, with a cursor that keeps the first fault met: after it each read changes nothing.
+use laws::wide;
 use numbers::Number;
 ghost use mathlib.Core.Path.{_≡_};
 ghost use Prim.Native.Nat.{_≤_};
@@ -28,13 +29,6 @@ pub struct Points {
     pub count: u8,
     pub point: [u8; 8],
     pub position: [u8; 8],
-}
-
-// A byte as a number.
-fn wide(x: u8) -> u64
-    ensures { λ r. ⌜ r ≡ x ⌝ }
-{
-    x as u64
 }
 
 // A fault, told of a place.

@@ -47,10 +47,15 @@ module _ {A : Type 0} where
       → (k : ℕ) → k < suc i → P (getD (set l i v) k d)
   stored P l i v d h f p k q = stored-at P l i v d k (ℕ-discrete k i) h (f k) p q
 
--- what is read of a list that is lent, of n numbers: the entry, 0 past its end
+-- an entry that there is
+pub read-at : (n d : ℕ) (xs : List ℕ) (i : ℕ) → i < n → read n d xs i ≡ getD xs i 0
+unfolding read
+read-at n d xs i b = sym (if-lt i n _ _ _ b refl)
+
+-- what is read of a list of n numbers: the entry, 0 past its end
 lent-cases : (xs : List ℕ) (i n v : ℕ) → Dec (i < n) → v ≡ read n 0 xs i → length xs ≡ n → v ≡ getD xs i 0
 unfolding read
-lent-cases xs i n v (yes h) e q = e ∙ sym (if-lt i n _ _ _ h refl)
+lent-cases xs i n v (yes h) e q = e ∙ read-at n 0 xs i h
 lent-cases xs i n v (no h) e q = e ∙ sym (if-ge i n _ _ _ (omega arith) (List·getD-eq-default xs 0 (omega arith)))
 
 pub lent-at : (xs : List ℕ) (i n v : ℕ) → v ≡ read n 0 xs i → length xs ≡ n → v ≡ getD xs i 0
@@ -59,8 +64,7 @@ lent-at xs i n v e q = lent-cases xs i n v (decLt i n) e q
 -- an entry of a table of n, which the code reads at k: what stands there, and d past its end
 module _ (n d : ℕ) (xs : List ℕ) (i k r : ℕ) (e : k ≡ i) where
   pub entry-inside : k < n → r ≡ getD xs k 0 → r ≡ read n d xs i
-  unfolding read
-  entry-inside h q = if-lt i n _ _ r (rw (← e) h) (q ∙ ap (λ j. getD xs j 0) e)
+  entry-inside h q = q ∙ ap (λ j. getD xs j 0) e ∙ sym (read-at n d xs i (rw (← e) h))
 
   pub entry-past : n ≤ k → r ≡ d → r ≡ read n d xs i
   unfolding read

@@ -2,12 +2,13 @@
 use Prim.Native.Nat.{ℕ, _<_, _≤_}
 use mathlib.Core.Path.{_≡_, refl, sym, _∙_}
 use mathlib.Core.Bool.{Bool, true, false, not}
-use lib.Dec.{eqb, ltb}
+use lib.Dec.{eqb, ltb, leb}
 use borrow.Author.Needs.{needs}
-use borrow.Author.Tests.{lt-ltb, le-ltb, eq-eqb, ne-eqb, not-true, not-false}
+use borrow.Author.Tests.{lt-ltb, le-ltb, le-leb, lt-leb, eq-eqb, ne-eqb, not-true, not-false}
 use Rattle.laws.specs.Choice.{if_then_else_}
 
 module _ {A : Type 0} where
+  -- the test holds; it fails
   pub if-true : (t : Bool) (x y r : A) → t ≡ true → r ≡ x → r ≡ if t then x else y
   unfolding if_then_else_
   if-true t x y r e q = rw e q
@@ -16,6 +17,7 @@ module _ {A : Type 0} where
   unfolding if_then_else_
   if-false t x y r e q = rw e q
 
+  -- the same of two numbers: equal or not, less or not, at most or not
   pub if-eq : (m n : ℕ) (x y r : A) → m ≡ n → r ≡ x → r ≡ if eqb m n then x else y
   if-eq m n x y r e q = if-true (eqb m n) x y r (eq-eqb m n e) q
 
@@ -27,6 +29,12 @@ module _ {A : Type 0} where
 
   pub if-ge : (m n : ℕ) (x y r : A) → n ≤ m → r ≡ y → r ≡ if ltb m n then x else y
   if-ge m n x y r e q = if-false (ltb m n) x y r (le-ltb m n e) q
+
+  pub if-le : (m n : ℕ) (x y r : A) → m ≤ n → r ≡ x → r ≡ if leb m n then x else y
+  if-le m n x y r e q = if-true (leb m n) x y r (le-leb m n e) q
+
+  pub if-gt : (m n : ℕ) (x y r : A) → n < m → r ≡ y → r ≡ if leb m n then x else y
+  if-gt m n x y r e q = if-false (leb m n) x y r (lt-leb m n e) q
 
   -- the same where the code tested v, which says what t says, and went on or left
   pub if-passed : (v t : Bool) (x y r : A) → v ≡ t → not v ≡ false → r ≡ x → r ≡ if t then x else y
@@ -48,6 +56,7 @@ module _ {A : Type 0} where
   if-both P false f g = g refl
 
 -- for chains of tests with early returns
-pub ruleset choices = (needs, if-true, if-false, if-eq, if-ne, if-lt, if-ge)
+pub ruleset choices = (needs, if-true, if-false, if-eq, if-ne, if-lt, if-ge, if-le, if-gt)
 
+-- for tests that a call has answered
 pub ruleset chains = (needs, if-passed, if-left, if-yes, if-no)

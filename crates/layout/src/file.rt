@@ -4,7 +4,7 @@ use fields::Cursor;
 use fields::read_code;
 use track::Counts;
 ghost use mathlib.Core.Path.{_≡_};
-ghost use Rattle.layout.specs.Load.{start, heading, countsOf, whole};
+ghost use Rattle.layout.specs.Load.{heading, countsOf, whole};
 
 // What the file begins with: sections, points, signals.
 pub struct Heading {

@@ -49,6 +49,7 @@ fn show_all(archive: i32) {
     }
 }
 
+// Every file of the archive `layouts`.
 fn main() {
     let archive = os::open_read(b"layouts");
     if archive < 0 {

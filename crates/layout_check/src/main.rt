@@ -46,6 +46,7 @@ fn answer_open(fd: i32, path: &[u8]) {
     }
 }
 
+// The file that the first argument names.
 fn main() {
     let mut path = io::buffer();
     let n = os::arg(1, &mut path);

@@ -54,21 +54,17 @@ module _ (r : Reader) (byte : ℕ) where
 -- ---- one digit
 
 module _ (d : ℕ) (small : d < 10) where
-  -- a digit is no byte that stands outside `0` to `9`
-  digit-not : (k : ℕ) → (48 + d ≡ k → ⊥) → eqb (48 + d) k ≡ false
-  digit-not k h = ne-eqb (48 + d) k h
-
   -- no word ends at a digit
   digit-inside : endsWord (48 + d) ≡ false
   unfolding endsWord _or_
   digit-inside =
       rw (
-        digit-not 32 (λ z. let y : 48 + d ≡ 32 = z in omega arith),
-        digit-not 9 (λ z. let y : 48 + d ≡ 9 = z in omega arith),
-        digit-not 13 (λ z. let y : 48 + d ≡ 13 = z in omega arith),
-        digit-not 10 (λ z. let y : 48 + d ≡ 10 = z in omega arith),
-        digit-not 44 (λ z. let y : 48 + d ≡ 44 = z in omega arith),
-        digit-not 35 (λ z. let y : 48 + d ≡ 35 = z in omega arith),
+        ne-eqb (48 + d) 32 (λ z. let y : 48 + d ≡ 32 = z in omega arith),
+        ne-eqb (48 + d) 9 (λ z. let y : 48 + d ≡ 9 = z in omega arith),
+        ne-eqb (48 + d) 13 (λ z. let y : 48 + d ≡ 13 = z in omega arith),
+        ne-eqb (48 + d) 10 (λ z. let y : 48 + d ≡ 10 = z in omega arith),
+        ne-eqb (48 + d) 44 (λ z. let y : 48 + d ≡ 44 = z in omega arith),
+        ne-eqb (48 + d) 35 (λ z. let y : 48 + d ≡ 35 = z in omega arith),
       )
 
   -- it lies within `0` and `9`
@@ -99,7 +95,7 @@ module _ (d : ℕ) (small : d < 10) where
 
 -- ---- all digits
 
--- nothing of a word is read, or nothing but digits
+-- nothing of a word is read
 pub record Clean (r : Reader) : Type 0 where
   pub doing : r .doing ≡ 0
   pub value : r .value ≡ 0

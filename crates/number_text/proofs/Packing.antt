@@ -41,12 +41,12 @@ packed-one s byte = append-nil (given s byte)
 
 -- ---- the loop
 
--- the smaller of two is neither's more
+-- the smaller of two is at most the first, whichever it is
 pub fewer-left : (a b : ℕ) → fewer a b ≤ a
 unfolding fewer
 fewer-left a b = if-both (λ n. n ≤ a) (ltb a b) (λ e. omega arith) (λ e. ltb-false a b e)
 
--- by which of the two it is
+-- and at most the second
 pub fewer-right : (a b : ℕ) → fewer a b ≤ b
 unfolding fewer
 fewer-right a b = if-both (λ n. n ≤ b) (ltb a b) (λ e. omega (arith, ltb-true a b e)) (λ e. omega arith)

@@ -33,7 +33,7 @@ data Stands (column : ℕ) (r : Reader) (rest : List ℕ) : Type 0 where
   fresh : column ≡ 0 → Clean r → rest ≡ [] → Stands column r rest
   within : (column ≡ 0 → ⊥) → r .doing ≡ 1 → r .value ≤ largest → rest ≡ encode (r .value) → Stands column r rest
 
--- a space and a line's end end a word
+-- a space ends a word
 space-ends : endsWord 32 ≡ true
 unfolding endsWord _or_
 space-ends = refl

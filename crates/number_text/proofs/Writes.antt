@@ -11,6 +11,7 @@ use lib.ListN.{length, set, length-set}
 use Rattle.laws.proofs.Choice.{if-true, if-false, if-eq, if-ne, if-lt, if-ge}
 use Rattle.numbers.specs.Number.{largest}
 use Rattle.numbers.specs.Form.{encodeIn, encode}
+use Rattle.numbers.proofs.Readings.{encode-last, encode-more}
 use Rattle.numerals.specs.Digits.{digits, fitting}
 use Rattle.numerals.specs.Writes.{Put}
 use Rattle.numerals.proofs.Writes.{put-none, put-one, put-then, put-within}
@@ -34,7 +35,7 @@ module _ (a : List ℕ) (at left n : ℕ) where
     where
       one : (k : ℕ) → (k ≡ 0 → ⊥) → n ∷ [] ≡ encodeIn k n
       one zero h = absurd (h refl)
-      one (suc k) h = if-lt _ _ _ _ _ l refl
+      one (suc k) h = encode-last k n l
 
   -- a group, and those after it
   pub put-more-groups : (b : List ℕ) (m : ℕ) → (left ≡ 0 → ⊥) → 128 ≤ n
@@ -45,7 +46,7 @@ module _ (a : List ℕ) (at left n : ℕ) where
     where
       more : (k : ℕ) → (k ≡ 0 → ⊥) → (128 + n % 128) ∷ encodeIn (k - 1) (n / 128) ≡ encodeIn k n
       more zero h = absurd (h refl)
-      more (suc k) h = if-ge _ _ _ _ _ l (rw sub-one)
+      more (suc k) h = rw sub-one (encode-more k n l)
 
   -- the buffer keeps its length
   pub long-groups : (b xs : List ℕ) (i m k x : ℕ) → Put (set a at x) k xs i b m → length b ≡ length a

@@ -1,9 +1,8 @@
 // The number form into text.
 use numbers::Number;
 ghost use mathlib.Core.Path.{_≡_};
-ghost use Prim.Native.Nat.{_+_, _*_, _/_, _≤_};
+ghost use Prim.Native.Nat.{_+_, _/_, _≤_};
 ghost use lib.ListN.{length};
-ghost use Rattle.numbers.specs.Number.{largest};
 ghost use Rattle.numerals.specs.Writes.{Put};
 ghost use Rattle.number_text.specs.Lines.{nextColumn, before, behind, numberText, onward, turnOf, unpacked};
 ghost use Rattle.number_text.specs.Pieces.{held, Went};

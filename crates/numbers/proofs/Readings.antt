@@ -18,12 +18,12 @@ use Rattle.numbers.specs.Number.{maxGroups, largest, joined, groupsAt, a
 use Rattle.numbers.specs.Form.{encodeIn, encode, Bytes, Cut}
 
 -- a number of one group
-encode-last : (k n : ℕ) → n < 128 → n ∷ [] ≡ encodeIn (suc k) n
+pub encode-last : (k n : ℕ) → n < 128 → n ∷ [] ≡ encodeIn (suc k) n
 unfolding encodeIn
 encode-last k n h = search choices
 
 -- a number of more groups
-encode-more : (k n : ℕ) → 128 ≤ n → (128 + n % 128) ∷ encodeIn k (n / 128) ≡ encodeIn (suc k) n
+pub encode-more : (k n : ℕ) → 128 ≤ n → (128 + n % 128) ∷ encodeIn k (n / 128) ≡ encodeIn (suc k) n
 unfolding encodeIn
 encode-more k n h = search choices
 

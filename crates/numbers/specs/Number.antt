@@ -28,7 +28,7 @@ groupsAt (suc left) s first at =
     (if ltb (getD s at 0) 128 then Value (getD s at 0) (at + 1) else joined first (getD s at 0 - 128) (groupsAt left s first (at + 1)))
     else Fault 21 first
 
--- section 2, a number that is too large is badly formed too
+-- section 2, a number that is too large gets 22 too
 unfoldable pub atMost : ℕ → ℕ → Number → Number
 atMost first limit (Value value next) = if ltb limit value then Fault 22 first else Value value next
 atMost first limit (Fault number at) = Fault number at

@@ -1,4 +1,5 @@
 // Numbers of the layout file (section 2): groups of seven bits, lowest group first, top bit set on every byte but a number's last.
+use laws::wide;
 ghost use mathlib.Core.Path.{_≡_};
 ghost use Prim.Native.Nat.{ℕ, _<_, _≤_, _^_};
 ghost use Rattle.numbers.specs.Number.{joined, groupsAt, atMost, largest, numberAt};
@@ -15,13 +16,6 @@ pub enum Number {
     Value { value: u64, next: usize },
     // Fault 21, the file ends early, or 22, badly formed or too large, at the number's first place.
     Fault { number: u8, at: usize },
-}
-
-// A byte as a number.
-fn wide(byte: u8) -> u64
-    ensures { λ r. ⌜ r ≡ byte ⌝ }
-{
-    byte as u64
 }
 
 // A group with the number in the groups after it, which may not be 0: the form would not be the shortest.

@@ -92,6 +92,7 @@ fn run(command: &[u8], path: &[u8], count: &[u8]) {
     usage();
 }
 
+// The command, the file and the count, by the arguments.
 fn main() {
     let mut command = io::buffer();
     let mut path = io::buffer();

@@ -21,13 +21,17 @@ ownStage given stage =
 unfoldable pub arrival : ℕ → ℕ
 arrival w = if eqb w aToB then endB else endA
 
--- the block after block i in direction w; 8 where the station comes next
+-- no block, but the station
+abbrev pub station : ℕ
+station = 8
+
+-- what comes after block i in direction w: a block or the station
 unfoldable pub nextBlock : Line → ℕ → ℕ → ℕ
-nextBlock b w i = if eqb w aToB then (if ltb (i + 1) (b .blocks) then i + 1 else 8) else if eqb i 0 then 8 else i - 1
+nextBlock b w i = if eqb w aToB then (if ltb (i + 1) (b .blocks) then i + 1 else station) else if eqb i 0 then station else i - 1
 
 -- the far section: the next block or the inner section of the arrival end
 unfoldable pub farSection : Line → ℕ → ℕ → ℕ
-farSection b w i = if eqb (nextBlock b w i) 8 then inner b (arrival w) else getD (b .block) (nextBlock b w i) 0
+farSection b w i = if eqb (nextBlock b w i) station then inner b (arrival w) else getD (b .block) (nextBlock b w i) 0
 
 -- stage 1 becomes 2 when the far section reads occupied in an event in which the far signal goes from proceed to stop;
 -- stage 2 becomes 1 when the far section reads none

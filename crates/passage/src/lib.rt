@@ -46,7 +46,7 @@ pub fn arrival_end(w: u8) -> u8
     END_A
 }
 
-// The block after block i in a direction, or 8 for the station.
+// What comes after block i in a direction: a block, or 8, the station.
 pub fn next_block(b: Line, w: u8, i: u8) -> u8
     ensures { λ r. ⌜ r ≡ nextBlock b w i ⌝ }
 {

@@ -1,19 +1,16 @@
 -- The cases of a chain of reasons, of the reasons that go by a test, and of those that go by an event's kind.
 use Prim.Native.Nat.{ℕ, _<_, _≤_}
 use mathlib.Core.Path.{_≡_, refl, sym, ap, fun-ext, _∙_}
-use mathlib.Core.Bool.{Bool, true, false, not}
+use mathlib.Core.Bool.{true}
 use mathlib.Core.List.{List, [], _∷_}
-use native.Mathlib.Decide.{decLt}
 use native.Mathlib.Omega.{arith}
 use borrow.Author.Needs.{needs}
-use borrow.Author.Tests.{le-leb, lt-leb, eq-eqb, ne-eqb, not-true, not-false}
+use borrow.Author.Tests.{le-leb}
 use lib.Dec.{eqb, ltb, leb}
-use lib.ListN.{length, getD}
-use Rattle.laws.specs.Choice.{if_then_else_}
-use Rattle.laws.specs.Tests.{_and_, any, lowest}
-use Rattle.laws.specs.Tables.{read}
-use Rattle.laws.proofs.Arrays.{read-past, entry-inside, entry-past}
-use Rattle.laws.proofs.Choice.{if-true, if-false, if-eq, if-ne, if-lt, if-ge, choices}
+use lib.ListN.{length}
+use Rattle.laws.specs.Tests.{_and_, lowest}
+use Rattle.laws.proofs.Arrays.{read-past, lent-at}
+use Rattle.laws.proofs.Choice.{if-eq, if-ne, if-lt, if-ge}
 use Rattle.track.specs.declared.Line.{Line}
 use Rattle.track.specs.Objects.{noLine, line}
 use Rattle.pairs.specs.Pairs.{placeOf}
@@ -23,7 +20,7 @@ use Rattle.layout.specs.declared.Layout.{Layout}
 use Rattle.layout.specs.Layout.{lineIn, entryOf, conflict}
 use Rattle.reasons.specs.declared.Refusal.{Refusal}
 use Rattle.reasons.specs.Refusal.{refused, noRefusal, when, found, firstOf}
-use Rattle.searches.specs.Searches.{lacking, conflictsWith, failing}
+use Rattle.searches.specs.Searches.{lacking, conflictsWith, untaken, failing}
 use Rattle.tables.specs.Locks.{locked}
 use Rattle.reasons.specs.Leaves.{notFree, conflicting, blockBarred, blockHeld}
 
@@ -71,11 +68,6 @@ module _ (sections : List ℕ) (set g : ℕ) (r : Refusal) (e : g ≡ lowest 64 
 
 -- ---- 5, by the table of conflicts
 
--- what is read of the whole table
-read-whole : (m : List ℕ) (k : ℕ) → length m ≡ 2304 → Dec (k < 2304) → read 2304 0 m k ≡ getD m k 0
-read-whole m k e (yes h) = sym (entry-inside 2304 0 m k k _ refl h refl)
-read-whole m k e (no h) = sym (entry-past 2304 0 m k k _ refl (omega arith) (sym (read-past m k 2304 0 0 e (omega arith) refl)))
-
 -- what is refused by the lowest route that the search finds
 pub conflict-found : (L : Layout) (phases : List ℕ) (r q : ℕ) (x : Refusal) → length (L .conflict) ≡ 2304
     → q ≡ lowest (L .routes) (conflictsWith (L .conflict) phases r)
@@ -83,41 +75,30 @@ pub conflict-found : (L : Layout) (phases : List ℕ) (r q : ℕ) (x : Refusal) 
 unfolding conflicting found conflict entryOf conflictsWith
 conflict-found L phases r q x e d z =
     z ∙ ap (λ m. when (ltb m (L .routes)) 5 m)
-    (d ∙ ap (lowest (L .routes)) (fun-ext (λ k. ap (λ n. locked phases k and eqb n 1) (read-whole (L .conflict) (placeOf r k) e (decLt (placeOf r k) 2304)))))
+    (d ∙ ap (lowest (L .routes)) (fun-ext (λ k. ap (λ n. locked phases k and eqb n 1) (lent-at (L .conflict) (placeOf r k) 2304 _ refl e))))
 
 -- ---- 10 and 11, by a table of blocks
 
 -- what is refused by the lowest block of a line that the table has held or barred
 taken-found : (table : List ℕ) (l number g : ℕ) (r : Refusal) (b c : Line) → b ≡ c
-    → g ≡ lowest 64 (failing (isOpen table l) (b .blocks) (b .block))
+    → g ≡ lowest 64 (failing (untaken table l) (b .blocks) (b .block))
     → r ≡ when (ltb g 64) number g
-    → r ≡ found number 64 (failing (isOpen table l) (c .blocks) (c .block))
+    → r ≡ found number 64 (failing (untaken table l) (c .blocks) (c .block))
 unfolding found
 taken-found table l number g r b c e d q =
-    q ∙ ap (λ m. when (ltb m 64) number m) (d ∙ ap (λ (a : Line). lowest 64 (failing (isOpen table l) (a .blocks) (a .block))) e)
+    q ∙ ap (λ m. when (ltb m 64) number m) (d ∙ ap (λ (a : Line). lowest 64 (failing (untaken table l) (a .blocks) (a .block))) e)
 
 module _ (ls : List Line) (table : List ℕ) (l g : ℕ) (r : Refusal) (b : Line) (e : b ≡ line ls l)
-    (d : g ≡ lowest 64 (failing (isOpen table l) (b .blocks) (b .block))) where
+    (d : g ≡ lowest 64 (failing (untaken table l) (b .blocks) (b .block))) where
   -- by the table of bars
   pub barred-found : r ≡ when (ltb g 64) 11 g → r ≡ blockBarred ls table l
-  unfolding blockBarred unbarred isOpen
+  unfolding blockBarred unbarred untaken
   barred-found q = taken-found table l 11 g r b (line ls l) e d q
 
   -- by the table of stages
   pub held-found : r ≡ when (ltb g 64) 10 g → r ≡ blockHeld ls table l
-  unfolding blockHeld
+  unfolding blockHeld isOpen untaken
   held-found q = taken-found table l 10 g r b (line ls l) e d q
-
--- ---- a choice by the kind, as the code leaves at the first that it is
-
-module _ {A : Type 0} (m n : ℕ) (x y r : A) where
-  pub if-most : m ≤ n → r ≡ x → r ≡ if leb m n then x else y
-  if-most h q = if-true (leb m n) x y r (le-leb m n h) q
-
-  pub if-more : n < m → r ≡ y → r ≡ if leb m n then x else y
-  if-more h q = if-false (leb m n) x y r (lt-leb m n h) q
-
-pub ruleset kinds = (choices, if-most, if-more)
 
 -- ---- past the last line there is no block
 

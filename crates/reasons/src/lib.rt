@@ -20,10 +20,9 @@ use track::nearest_block;
 use track::nearest_section;
 ghost use mathlib.Core.Path.{_≡_};
 ghost use mathlib.Core.Bool.{not};
-ghost use Prim.Native.Nat.{_+_};
 ghost use lib.Dec.{eqb, ltb};
 ghost use Rattle.laws.specs.Tables.{read};
-ghost use Rattle.track.specs.Codes.{cancelling, neutral};
+ghost use Rattle.track.specs.Codes.{cancelling, leaving, neutral};
 ghost use Rattle.track.specs.Objects.{line, nearest, nearestSection};
 ghost use Rattle.sets.specs.Sets.{joined, union, setOf};
 ghost use Rattle.tables.specs.Blocks.{isOpen, unbarred};
@@ -228,7 +227,7 @@ pub fn already_cancelling(phases: &[u8; 48], r: u8) -> Refusal
 
 // 9: the line is not secured that way.
 pub fn not_secured(directions: &[u8; 8], l: u8, end: u8) -> Refusal
-    ensures { λ r. ⌜ r ≡ when (not (eqb (direction (now (directions .entry)) l) (end + 1))) 9 l ⌝ }
+    ensures { λ r. ⌜ r ≡ when (not (eqb (direction (now (directions .entry)) l) (leaving end))) 9 l ⌝ }
 {
     let direction = direction_of(directions, l) as u32;
     let asked = (end as u32) + 1;

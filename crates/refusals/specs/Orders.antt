@@ -1,5 +1,5 @@
 -- What is refused of each order, in the paper's order (section 3).
-use Prim.Native.Nat.{ℕ, _+_}
+use Prim.Native.Nat.{ℕ}
 use mathlib.Core.Bool.{not}
 use mathlib.Core.List.{List, [], _∷_}
 use lib.Dec.{eqb}
@@ -8,7 +8,7 @@ use Rattle.laws.specs.Tables.{read}
 use Rattle.sets.specs.Sets.{union, setOf, joined}
 use Rattle.track.specs.declared.Line.{Line}
 use Rattle.track.specs.declared.Route.{Route}
-use Rattle.track.specs.Codes.{exitRoute, neutral, cancelling}
+use Rattle.track.specs.Codes.{exitRoute, neutral, leaving, cancelling}
 use Rattle.track.specs.Objects.{line, route, nearest, nearestSection}
 use Rattle.tables.specs.Blocks.{isOpen, unbarred}
 use Rattle.tables.specs.Locks.{direction, phase, locked}
@@ -26,7 +26,7 @@ throwRefusal L sections phases directions p =
 unfoldable pub exitRefusal : List Line → List ℕ → List ℕ → List ℕ → List ℕ → Route → Refusal
 exitRefusal ls points directions stages bars a =
     firstOf (
-    when (not (eqb (direction directions (a .line)) (a .end + 1))) 9 (a .line)
+    when (not (eqb (direction directions (a .line)) (leaving (a .end)))) 9 (a .line)
     ∷ notPlaced points (line ls (a .line) .points) (line ls (a .line) .point) (line ls (a .line) .position)
     ∷ when (not (unbarred bars (a .line) (nearest (line ls (a .line)) (a .end)))) 11 (nearestSection (line ls (a .line)) (a .end))
     ∷ when (not (isOpen stages (a .line) (nearest (line ls (a .line)) (a .end)))) 10 (nearestSection (line ls (a .line)) (a .end))

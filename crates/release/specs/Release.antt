@@ -64,7 +64,7 @@ unfoldable pub vacated : List Line → List ℕ → Route → Bool
 vacated ls sections a =
     allFree sections (toVacate a) (a .path) and implies (eqb (a .kind) entranceRoute) (eqb (reading sections (endBlock ls a)) free)
 
--- the seconds counted of a cancelling route after the event
+-- the seconds counted of a cancelling route after the event, never more than 89: the 90th releases it (`goes`)
 unfoldable pub secondsAfter : Gives → ℕ → ℕ → ℕ
 secondsAfter e phase second = if eqb phase cancelling and eqb (e .tick) 1 then (if ltb second 89 then second + 1 else second) else second
 
@@ -79,10 +79,11 @@ heldAfter ls sections a e h =
     if goes ls sections a e h (stepAfter ls sections a e (h .step)) then record { phase = idle; step = 0; second = 0 }
     else record { phase = h .phase; step = stepAfter ls sections a e (h .step); second = secondsAfter e (h .phase) (h .second) }
 
--- a locked route whose signal has fallen, or not, and then what becomes of it
+-- the phase after the signals, and what then becomes of the route
 unfoldable pub settledFrom : ℕ → Held → Settled
 settledFrom p h = record { fallen = p; phase = h .phase; step = h .step; second = h .second }
 
+-- a locked route: its signal falls or stays, and then the route stays or goes
 unfoldable pub settled : List Line → List ℕ → List ℕ → List ℕ → List ℕ → Route → Gives → Held → Settled
 settled ls sections points stages bars a e h =
     let p : ℕ = fallen ls sections points stages bars a (h .phase) in

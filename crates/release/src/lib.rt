@@ -89,7 +89,7 @@ fn second_watched(ls: [Line; 8], a: Route) -> u8
     from_end(a, 1)
 }
 
-// The step done before the second one: 0 or 1.
+// The step done, where it was 0 or 1 and neither of the pair reads none.
 fn early_step(step: u8, gave1: u8, gave2: u8, reads1: u8) -> u8
     ensures { λ r. ⌜ r ≡ earlyStep step gave1 gave2 reads1 ⌝ }
 {

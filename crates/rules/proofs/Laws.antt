@@ -1,4 +1,4 @@
--- The cases of the code that goes by a number.
+-- The last section of a path, the points that lie one way, and the entrance signals of a line, as the code reads their arrays.
 use Prim.Native.Nat.{ℕ, _-_, _<_, _≤_}
 use mathlib.Core.Path.{_≡_, refl, sym, ap, _∙_}
 use mathlib.Core.Bool.{Bool, true, false}

@@ -11,7 +11,6 @@ use track::entrance_at;
 use track::inner_at;
 use track::line_at;
 ghost use mathlib.Core.Path.{_≡_};
-ghost use mathlib.Core.Bool.{not};
 ghost use lib.Dec.{eqb};
 ghost use lib.ListN.{length};
 ghost use Rattle.laws.specs.Tests.{_or_};

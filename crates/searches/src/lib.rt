@@ -22,9 +22,8 @@ ghost use Rattle.laws.specs.Tests.{_and_, lowest};
 ghost use Rattle.laws.specs.Tables.{read};
 ghost use Rattle.pairs.specs.Pairs.{placeOf};
 ghost use Rattle.tables.specs.Readings.{lies};
-ghost use Rattle.tables.specs.Blocks.{isOpen};
 ghost use Rattle.tables.specs.Locks.{lockedExit};
-ghost use Rattle.searches.specs.Searches.{lacking, misplaced, conflictsWith, routeLocks, lineLocks, failing};
+ghost use Rattle.searches.specs.Searches.{lacking, misplaced, conflictsWith, routeLocks, lineLocks, untaken, failing};
 
 // The section that point p stands in.
 pub fn section_of(own: [u8; 32], p: u8) -> u8
@@ -214,7 +213,7 @@ pub fn lowest_locked_exit(rs: [Route; 48], phases: &[u8; 48], n: u8, l: u8) -> u
 
 // Block i of line l is section g, and the table of blocks has it held or barred.
 fn taken_at(table: &[u8; 64], block: [u8; 8], l: u8, g: u8, i: u8) -> bool
-    ensures { λ r. ⌜ r ≡ eqb (getD block i 0) g and not (isOpen (now (table .entry)) l i) ⌝ }
+    ensures { λ r. ⌜ r ≡ eqb (getD block i 0) g and not (untaken (now (table .entry)) l i) ⌝ }
 {
     let x = at8(block, i);
     if x != g {
@@ -225,7 +224,7 @@ fn taken_at(table: &[u8; 64], block: [u8; 8], l: u8, g: u8, i: u8) -> bool
 
 // Section g is one of the n blocks of line l that the table has held or barred.
 fn is_taken(table: &[u8; 64], n: u8, block: [u8; 8], l: u8, g: u8) -> bool
-    ensures { λ r. ⌜ r ≡ failing (isOpen (now (table .entry)) l) n block g ⌝ }
+    ensures { λ r. ⌜ r ≡ failing (untaken (now (table .entry)) l) n block g ⌝ }
 {
     let mut i: u8 = 0;
     while i < n {
@@ -239,7 +238,7 @@ fn is_taken(table: &[u8; 64], n: u8, block: [u8; 8], l: u8, g: u8) -> bool
 
 // The lowest section of the n blocks of line l that the table has held or barred.
 pub fn lowest_taken(table: &[u8; 64], n: u8, block: [u8; 8], l: u8) -> u8
-    ensures { λ r. ⌜ r ≡ lowest 64 (failing (isOpen (now (table .entry)) l) n block) ⌝ }
+    ensures { λ r. ⌜ r ≡ lowest 64 (failing (untaken (now (table .entry)) l) n block) ⌝ }
 {
     let mut g: u8 = 0;
     while g < 64 {

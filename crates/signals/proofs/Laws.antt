@@ -1,11 +1,11 @@
--- The cases of the code that goes by a number.
+-- Whether a train may be let into a block, and what keeps a signal at proceed, by the first test that fails.
 use Prim.Native.Nat.{ℕ}
 use mathlib.Core.Path.{_≡_}
 use mathlib.Core.Bool.{Bool, true, false, not}
-use mathlib.Core.List.{List, [], _∷_}
+use mathlib.Core.List.{List}
 use borrow.Author.Tests.{eq-eqb, ne-eqb}
 use lib.Dec.{eqb}
-use Rattle.laws.specs.Tests.{implies, every}
+use Rattle.laws.specs.Tests.{implies}
 use Rattle.laws.proofs.Tests.{every-stops, every-passes, every-last}
 use Rattle.track.specs.declared.Line.{Line}
 use Rattle.track.specs.declared.Route.{Route}

@@ -1,4 +1,5 @@
--- What main signals and block signals show (section 4), over the tables of a state: sections, points, stages and bars of blocks.
+-- What main signals and block signals show (section 4), over the tables of a state: what sections and points read, phases of routes,
+-- directions of lines, stages and bars of blocks.
 use Prim.Native.Nat.{ℕ}
 use mathlib.Core.Bool.{Bool}
 use mathlib.Core.List.{List, [], _∷_}

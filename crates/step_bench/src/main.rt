@@ -221,6 +221,7 @@ fn play_arguments(plan: Layout, state: State) {
     io::write_all(STDOUT_FILENO, b"\n");
 }
 
+// The layout first: events on one that is not sound are not timed.
 fn main() {
     if os::arg_count() != 6 {
         io::write_all(

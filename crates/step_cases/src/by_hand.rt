@@ -1,9 +1,4 @@
 // Records changed by hand: one byte of a layout or a state made anew, also to what no file and no event would bring there.
-use super::tables::put8;
-use super::tables::put32;
-use super::tables::put48;
-use super::tables::put64;
-use super::tables::put2304;
 use interlocking::State;
 use layout::Layout;
 use track::Line;
@@ -25,23 +20,30 @@ pub struct Records {
     pub state: State,
 }
 
+// Puts a byte at a place of a table; past its end nothing is changed.
+fn put(table: &mut [u8], place: usize, byte: u8) {
+    if place < table.len() {
+        table[place] = byte;
+    }
+}
+
 // A state with a reading or an order changed.
 fn changed_readings(given: State, c: Change) -> State {
     let mut t = given;
     if c.field == 0 {
-        let xs = t.section;
-        let ys = put64(xs, c.place, c.byte);
-        t.section = ys;
+        let mut xs = t.section;
+        put(&mut xs, c.place, c.byte);
+        t.section = xs;
     }
     if c.field == 1 {
-        let xs = t.point;
-        let ys = put32(xs, c.place, c.byte);
-        t.point = ys;
+        let mut xs = t.point;
+        put(&mut xs, c.place, c.byte);
+        t.point = xs;
     }
     if c.field == 2 {
-        let xs = t.order;
-        let ys = put32(xs, c.place, c.byte);
-        t.order = ys;
+        let mut xs = t.order;
+        put(&mut xs, c.place, c.byte);
+        t.order = xs;
     }
     t
 }
@@ -50,19 +52,19 @@ fn changed_readings(given: State, c: Change) -> State {
 fn changed_routes(given: State, c: Change) -> State {
     let mut t = given;
     if c.field == 3 {
-        let xs = t.phase;
-        let ys = put48(xs, c.place, c.byte);
-        t.phase = ys;
+        let mut xs = t.phase;
+        put(&mut xs, c.place, c.byte);
+        t.phase = xs;
     }
     if c.field == 4 {
-        let xs = t.step;
-        let ys = put48(xs, c.place, c.byte);
-        t.step = ys;
+        let mut xs = t.step;
+        put(&mut xs, c.place, c.byte);
+        t.step = xs;
     }
     if c.field == 5 {
-        let xs = t.second;
-        let ys = put48(xs, c.place, c.byte);
-        t.second = ys;
+        let mut xs = t.second;
+        put(&mut xs, c.place, c.byte);
+        t.second = xs;
     }
     t
 }
@@ -71,19 +73,19 @@ fn changed_routes(given: State, c: Change) -> State {
 fn changed_blocks(given: State, c: Change) -> State {
     let mut t = given;
     if c.field == 6 {
-        let xs = t.direction;
-        let ys = put8(xs, c.place, c.byte);
-        t.direction = ys;
+        let mut xs = t.direction;
+        put(&mut xs, c.place, c.byte);
+        t.direction = xs;
     }
     if c.field == 7 {
-        let xs = t.stage;
-        let ys = put64(xs, c.place, c.byte);
-        t.stage = ys;
+        let mut xs = t.stage;
+        put(&mut xs, c.place, c.byte);
+        t.stage = xs;
     }
     if c.field == 8 {
-        let xs = t.bar;
-        let ys = put64(xs, c.place, c.byte);
-        t.bar = ys;
+        let mut xs = t.bar;
+        put(&mut xs, c.place, c.byte);
+        t.bar = xs;
     }
     t
 }
@@ -95,9 +97,9 @@ fn changed_line(given: Line, c: Change) -> Line {
         t.blocks = c.byte;
     }
     if c.field == 1 {
-        let xs = t.block;
-        let ys = put8(xs, c.place, c.byte);
-        t.block = ys;
+        let mut xs = t.block;
+        put(&mut xs, c.place, c.byte);
+        t.block = xs;
     }
     if c.field == 2 {
         t.innera = c.byte;
@@ -121,14 +123,14 @@ fn changed_line(given: Line, c: Change) -> Line {
 fn changed_line_points(given: Line, c: Change) -> Line {
     let mut t = given;
     if c.field == 7 {
-        let xs = t.point;
-        let ys = put8(xs, c.place, c.byte);
-        t.point = ys;
+        let mut xs = t.point;
+        put(&mut xs, c.place, c.byte);
+        t.point = xs;
     }
     if c.field == 8 {
-        let xs = t.position;
-        let ys = put8(xs, c.place, c.byte);
-        t.position = ys;
+        let mut xs = t.position;
+        put(&mut xs, c.place, c.byte);
+        t.position = xs;
     }
     t
 }
@@ -167,24 +169,24 @@ fn changed_route(given: Route, c: Change) -> Route {
 fn changed_route_lists(given: Route, c: Change) -> Route {
     let mut t = given;
     if c.field == 6 {
-        let xs = t.path;
-        let ys = put8(xs, c.place, c.byte);
-        t.path = ys;
+        let mut xs = t.path;
+        put(&mut xs, c.place, c.byte);
+        t.path = xs;
     }
     if c.field == 8 {
-        let xs = t.overlap;
-        let ys = put8(xs, c.place, c.byte);
-        t.overlap = ys;
+        let mut xs = t.overlap;
+        put(&mut xs, c.place, c.byte);
+        t.overlap = xs;
     }
     if c.field == 10 {
-        let xs = t.point;
-        let ys = put8(xs, c.place, c.byte);
-        t.point = ys;
+        let mut xs = t.point;
+        put(&mut xs, c.place, c.byte);
+        t.point = xs;
     }
     if c.field == 11 {
-        let xs = t.position;
-        let ys = put8(xs, c.place, c.byte);
-        t.position = ys;
+        let mut xs = t.position;
+        put(&mut xs, c.place, c.byte);
+        t.position = xs;
     }
     t
 }
@@ -214,14 +216,14 @@ fn changed_counts(given: Layout, c: Change) -> Layout {
 fn changed_tables(given: Layout, c: Change) -> Layout {
     let mut t = given;
     if c.field == 2 {
-        let xs = t.pointsection;
-        let ys = put32(xs, c.place, c.byte);
-        t.pointsection = ys;
+        let mut xs = t.pointsection;
+        put(&mut xs, c.place, c.byte);
+        t.pointsection = xs;
     }
     if c.field == 8 {
-        let xs = t.conflict;
-        let ys = put2304(xs, c.place, c.byte);
-        t.conflict = ys;
+        let mut xs = t.conflict;
+        put(&mut xs, c.place, c.byte);
+        t.conflict = xs;
     }
     t
 }

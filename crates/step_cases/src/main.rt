@@ -4,7 +4,6 @@
 // its events, and three words of four bytes for each. Lengths and numbers take two bytes. All stand lowest byte first.
 mod by_hand;
 mod states;
-mod tables;
 mod text;
 
 use by_hand::Change;
@@ -200,6 +199,7 @@ fn play_all(archive: i32) {
     }
 }
 
+// Every run of the archive `runs`.
 fn main() {
     let archive = os::open_read(b"runs");
     if archive < 0 {

@@ -50,7 +50,7 @@ pub fn same_states(s: State, t: State) -> bool {
 
 // Puts the first n codes of a table of 64.
 fn put64(line: &mut [u8], at: usize, codes: [u8; 64], n: usize) -> usize {
-    put_codes(line, at, &codes, n)
+    put_codes(line, at, &codes, n, 1)
 }
 
 // Puts what the sections and points of a layout read, and the orders.
@@ -59,16 +59,19 @@ fn put_readings(line: &mut [u8], at: usize, plan: Layout, s: State) -> usize {
     let point = s.point;
     let order = s.order;
     let a = put64(line, at, section, size(plan.sections));
-    let b = put_codes(line, a, &point, size(plan.points));
-    put_codes(line, b, &order, size(plan.points))
+    let b = put_codes(line, a, &point, size(plan.points), 1);
+    put_codes(line, b, &order, size(plan.points), 1)
 }
 
-// Puts the phases of its routes and their steps.
+// Puts the phases of its routes, their steps, and their seconds in two digits.
 fn put_routes(line: &mut [u8], at: usize, plan: Layout, s: State) -> usize {
     let phase = s.phase;
     let step = s.step;
-    let a = put_codes(line, at, &phase, size(plan.routes));
-    put_codes(line, a, &step, size(plan.routes))
+    let second = s.second;
+    let n = size(plan.routes);
+    let a = put_codes(line, at, &phase, n, 1);
+    let b = put_codes(line, a, &step, n, 1);
+    put_codes(line, b, &second, n, 2)
 }
 
 // Puts the directions of its lines, and the stages and bars of eight blocks for each.
@@ -77,7 +80,7 @@ fn put_lines(line: &mut [u8], at: usize, plan: Layout, s: State) -> usize {
     let stage = s.stage;
     let bar = s.bar;
     let n = size(plan.lines);
-    let a = put_codes(line, at, &direction, n);
+    let a = put_codes(line, at, &direction, n, 1);
     let b = put64(line, a, stage, 8 * n);
     put64(line, b, bar, 8 * n)
 }

@@ -36,15 +36,24 @@ fn digit(code: u8) -> u8 {
     b'?'
 }
 
-// Puts the first n codes of a table, a digit each, and a space.
-pub fn put_codes(line: &mut [u8], from: usize, codes: &[u8], n: usize) -> usize {
+// Puts a code in so many digits, one or two.
+fn put_code(line: &mut [u8], at: usize, code: u8, digits: u8) -> usize {
+    if digits == 1 {
+        return put(line, at, digit(code));
+    }
+    let next = put(line, at, digit(code / 10));
+    put(line, next, digit(code % 10))
+}
+
+// Puts the first n codes of a table, each in so many digits, and a space.
+pub fn put_codes(line: &mut [u8], from: usize, codes: &[u8], n: usize, digits: u8) -> usize {
     let mut at = from;
     let mut i = 0;
     while i < n {
         if codes.len() <= i {
             return put(line, at, b' ');
         }
-        at = put(line, at, digit(codes[i]));
+        at = put_code(line, at, codes[i], digits);
         i += 1;
     }
     put(line, at, b' ')

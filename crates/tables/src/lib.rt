@@ -12,7 +12,7 @@ use track::codes::OPEN;
 ghost use mathlib.Core.Path.{_≡_};
 ghost use lib.Dec.{eqb};
 ghost use Rattle.laws.specs.Tables.{read};
-ghost use Rattle.track.specs.Codes.{free, neutral};
+ghost use Rattle.track.specs.Codes.{free};
 ghost use Rattle.tables.specs.Readings.{recorded, reading, lies, allFree, inPosition, linePlaced, routePlaced};
 ghost use Rattle.tables.specs.Blocks.{place, isOpen, unbarred};
 ghost use Rattle.tables.specs.Locks.{direction, phase, locked, lockedExitBy};

@@ -8,13 +8,13 @@ use Rattle.track.specs.declared.Line.{Line}
 use Rattle.track.specs.declared.Route.{Route}
 use Rattle.track.specs.Codes.{endA}
 
--- a list of eight with nothing in it
-abbrev none8 : List ℕ
-none8 = replicate 8 0
+-- eight zeros, a list with nothing in it
+abbrev zeros8 : List ℕ
+zeros8 = replicate 8 0
 
 -- a line of nothing
 unfoldable pub noLine : Line
-noLine = record { blocks = 0; block = none8; innera = 0; innerb = 0; entrancea = 0; entranceb = 0; points = 0; point = none8; position = none8 }
+noLine = record { blocks = 0; block = zeros8; innera = 0; innerb = 0; entrancea = 0; entranceb = 0; points = 0; point = zeros8; position = zeros8 }
 
 -- a route of nothing
 unfoldable pub noRoute : Route
@@ -25,12 +25,12 @@ noRoute = record {
   end = 0;
   diverging = 0;
   paths = 0;
-  path = none8;
+  path = zeros8;
   overlaps = 0;
-  overlap = none8;
+  overlap = zeros8;
   points = 0;
-  point = none8;
-  position = none8;
+  point = zeros8;
+  position = zeros8;
 }
 
 -- the line l

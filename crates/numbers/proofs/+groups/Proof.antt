@@ -11,7 +11,7 @@ use Rattle.numbers.proofs.groups.Reads as groups
 use Rattle.numbers.proofs.groups.Kinds as groups-kinds
 use Rattle.numbers.proofs.+groups.Lts-groups as groups-lts
 use Rattle.numbers.proofs.join.Reads as join-reads
-use Rattle.numbers.proofs.wide.Reads as wide-reads
+use Rattle.laws.proofs.wide.Reads as wide-reads
 use Rattle.numbers.proofs.+groups.{statement}
 use Rattle.numbers.proofs.+groups.Tie.{close}
 

@@ -1,5 +1,5 @@
 -- Locked, and then by the table.
-use Rattle.searches.proofs.Laws.{both-asked, boths}
+use Rattle.laws.proofs.Both.{both-asked, boths}
 use Rattle.searches.specs.Searches.{conflictsWith}
 use Rattle.searches.proofs.conflicts_with.Statement.{statement}
 use Rattle.searches.proofs.conflicts_with.Tie as tie

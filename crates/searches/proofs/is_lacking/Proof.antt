@@ -1,5 +1,5 @@
 -- In the set, and then by what it reads.
-use Rattle.searches.proofs.Laws.{both-asked, boths}
+use Rattle.laws.proofs.Both.{both-asked, boths}
 use Rattle.searches.specs.Searches.{lacking}
 use Rattle.searches.proofs.is_lacking.Statement.{statement}
 use Rattle.searches.proofs.is_lacking.Tie as tie

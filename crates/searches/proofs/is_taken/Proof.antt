@@ -5,13 +5,12 @@ use lib.ListN.{getD}
 use mathlib.Core.Bool.{not}
 use Rattle.laws.proofs.Loops.{Failed, anys}
 use Rattle.laws.specs.Tests.{_and_}
-use Rattle.tables.specs.Blocks.{isOpen}
-use Rattle.searches.specs.Searches.{failing}
+use Rattle.searches.specs.Searches.{untaken, failing}
 use Rattle.searches.proofs.is_taken.Statement.{statement}
 use Rattle.searches.proofs.is_taken.Tie as tie
 
 abbrev Inv-loop : tie.InvT-loop
-Inv-loop table n block l g i₀ i = Failed n (λ k. eqb (getD block k 0) g and not (isOpen table l k)) i
+Inv-loop table n block l g i₀ i = Failed n (λ k. eqb (getD block k 0) g and not (untaken table l k)) i
 
 abbrev μ-loop : tie.MeasureT-loop
 μ-loop table n block l g i₀ i = n - i

@@ -1,5 +1,5 @@
 -- Secured, and then by its list.
-use Rattle.searches.proofs.Laws.{both-asked, boths}
+use Rattle.laws.proofs.Both.{both-asked, boths}
 use Rattle.searches.specs.Searches.{lineLocks}
 use Rattle.searches.proofs.line_locks.Statement.{statement}
 use Rattle.searches.proofs.line_locks.Tie as tie

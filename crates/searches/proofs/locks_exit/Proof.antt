@@ -1,5 +1,6 @@
 -- An idle route is none; else by its record.
-use Rattle.searches.proofs.Laws.{exit-idle, boths}
+use Rattle.laws.proofs.Both.{boths}
+use Rattle.searches.proofs.Laws.{exit-idle}
 use Rattle.tables.specs.Locks.{lockedExit}
 use Rattle.searches.proofs.locks_exit.Statement.{statement}
 use Rattle.searches.proofs.locks_exit.Tie as tie

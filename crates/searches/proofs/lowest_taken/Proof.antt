@@ -1,13 +1,12 @@
 -- Each section before g is no block or a free one.
 use Prim.Native.Nat.{_-_}
 use Rattle.laws.proofs.Searches.{Sought, seeks}
-use Rattle.searches.specs.Searches.{failing}
-use Rattle.tables.specs.Blocks.{isOpen}
+use Rattle.searches.specs.Searches.{untaken, failing}
 use Rattle.searches.proofs.lowest_taken.Statement.{statement}
 use Rattle.searches.proofs.lowest_taken.Tie as tie
 
 abbrev Inv-loop : tie.InvT-loop
-Inv-loop table n block l g₀ g = Sought 64 (failing (isOpen table l) n block) g
+Inv-loop table n block l g₀ g = Sought 64 (failing (untaken table l) n block) g
 
 abbrev μ-loop : tie.MeasureT-loop
 μ-loop table n block l g₀ g = 64 - g

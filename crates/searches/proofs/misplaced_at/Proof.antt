@@ -1,5 +1,5 @@
 -- By the point, and then by what it reads.
-use Rattle.searches.proofs.Laws.{both-asked, boths}
+use Rattle.laws.proofs.Both.{both-asked, boths}
 use Rattle.searches.proofs.misplaced_at.Statement.{statement}
 use Rattle.searches.proofs.misplaced_at.Tie as tie
 

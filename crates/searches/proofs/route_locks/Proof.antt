@@ -1,5 +1,5 @@
 -- Locked, and then by its list.
-use Rattle.searches.proofs.Laws.{both-asked, boths}
+use Rattle.laws.proofs.Both.{both-asked, boths}
 use Rattle.searches.specs.Searches.{routeLocks}
 use Rattle.searches.proofs.route_locks.Statement.{statement}
 use Rattle.searches.proofs.route_locks.Tie as tie

@@ -1,9 +1,9 @@
 -- By the kind.
+use Rattle.laws.proofs.Choice.{choices}
 use Rattle.reasons.specs.Kinds.{objects}
-use Rattle.reasons.proofs.Laws.{kinds}
 use Rattle.reasons.proofs.events.objects_of.Statement.{statement}
 use Rattle.reasons.proofs.events.objects_of.Tie as tie
 
 pub objects-of-spec : {M : Type 1} → statement M
 unfolding objects
-objects-of-spec = tie.close (tie.spec (λ c. search kinds) (λ c. search kinds) (λ c. search kinds) (λ c. search kinds) (λ c. search kinds) (λ c. search kinds) (λ c. search kinds) (λ c. search kinds))
+objects-of-spec = tie.close (tie.spec (λ c. search choices) (λ c. search choices) (λ c. search choices) (λ c. search choices) (λ c. search choices) (λ c. search choices) (λ c. search choices) (λ c. search choices))

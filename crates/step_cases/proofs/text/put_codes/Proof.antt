@@ -7,10 +7,10 @@ use Rattle.step_cases.proofs.text.put_codes.Statement.{statement}
 use Rattle.step_cases.proofs.text.put_codes.Tie as tie
 
 abbrev Inv-loop : tie.InvT-loop
-Inv-loop line₀ from codes n at₀ i₀ line at i = length line ≡ length line₀
+Inv-loop line₀ from codes n digits at₀ i₀ line at i = length line ≡ length line₀
 
 abbrev μ-loop : tie.MeasureT-loop
-μ-loop line₀ from codes n at₀ i₀ line at i = n - i
+μ-loop line₀ from codes n digits at₀ i₀ line at i = n - i
 
 pub put-codes-spec : {M : Type 1} → statement M
 put-codes-spec =
