@@ -31,17 +31,17 @@ fn put(table: &mut [u8], place: usize, byte: u8) {
 fn changed_readings(given: State, c: Change) -> State {
     let mut t = given;
     if c.field == 0 {
-        let mut xs = t.section;
+        let mut xs = given.section;
         put(&mut xs, c.place, c.byte);
         t.section = xs;
     }
     if c.field == 1 {
-        let mut xs = t.point;
+        let mut xs = given.point;
         put(&mut xs, c.place, c.byte);
         t.point = xs;
     }
     if c.field == 2 {
-        let mut xs = t.order;
+        let mut xs = given.order;
         put(&mut xs, c.place, c.byte);
         t.order = xs;
     }
@@ -52,17 +52,17 @@ fn changed_readings(given: State, c: Change) -> State {
 fn changed_routes(given: State, c: Change) -> State {
     let mut t = given;
     if c.field == 3 {
-        let mut xs = t.phase;
+        let mut xs = given.phase;
         put(&mut xs, c.place, c.byte);
         t.phase = xs;
     }
     if c.field == 4 {
-        let mut xs = t.step;
+        let mut xs = given.step;
         put(&mut xs, c.place, c.byte);
         t.step = xs;
     }
     if c.field == 5 {
-        let mut xs = t.second;
+        let mut xs = given.second;
         put(&mut xs, c.place, c.byte);
         t.second = xs;
     }
@@ -73,17 +73,17 @@ fn changed_routes(given: State, c: Change) -> State {
 fn changed_blocks(given: State, c: Change) -> State {
     let mut t = given;
     if c.field == 6 {
-        let mut xs = t.direction;
+        let mut xs = given.direction;
         put(&mut xs, c.place, c.byte);
         t.direction = xs;
     }
     if c.field == 7 {
-        let mut xs = t.stage;
+        let mut xs = given.stage;
         put(&mut xs, c.place, c.byte);
         t.stage = xs;
     }
     if c.field == 8 {
-        let mut xs = t.bar;
+        let mut xs = given.bar;
         put(&mut xs, c.place, c.byte);
         t.bar = xs;
     }
@@ -97,7 +97,7 @@ fn changed_line(given: Line, c: Change) -> Line {
         t.blocks = c.byte;
     }
     if c.field == 1 {
-        let mut xs = t.block;
+        let mut xs = given.block;
         put(&mut xs, c.place, c.byte);
         t.block = xs;
     }
@@ -123,12 +123,12 @@ fn changed_line(given: Line, c: Change) -> Line {
 fn changed_line_points(given: Line, c: Change) -> Line {
     let mut t = given;
     if c.field == 7 {
-        let mut xs = t.point;
+        let mut xs = given.point;
         put(&mut xs, c.place, c.byte);
         t.point = xs;
     }
     if c.field == 8 {
-        let mut xs = t.position;
+        let mut xs = given.position;
         put(&mut xs, c.place, c.byte);
         t.position = xs;
     }
@@ -165,26 +165,32 @@ fn changed_route(given: Route, c: Change) -> Route {
     t
 }
 
-// A route with an entry of a list changed.
-fn changed_route_lists(given: Route, c: Change) -> Route {
+// A route with a section of its path or its overlap changed.
+fn changed_route_sections(given: Route, c: Change) -> Route {
     let mut t = given;
     if c.field == 6 {
-        let mut xs = t.path;
+        let mut xs = given.path;
         put(&mut xs, c.place, c.byte);
         t.path = xs;
     }
     if c.field == 8 {
-        let mut xs = t.overlap;
+        let mut xs = given.overlap;
         put(&mut xs, c.place, c.byte);
         t.overlap = xs;
     }
+    t
+}
+
+// A route with a point or a position changed.
+fn changed_route_points(given: Route, c: Change) -> Route {
+    let mut t = given;
     if c.field == 10 {
-        let mut xs = t.point;
+        let mut xs = given.point;
         put(&mut xs, c.place, c.byte);
         t.point = xs;
     }
     if c.field == 11 {
-        let mut xs = t.position;
+        let mut xs = given.position;
         put(&mut xs, c.place, c.byte);
         t.position = xs;
     }
@@ -216,12 +222,12 @@ fn changed_counts(given: Layout, c: Change) -> Layout {
 fn changed_tables(given: Layout, c: Change) -> Layout {
     let mut t = given;
     if c.field == 2 {
-        let mut xs = t.pointsection;
+        let mut xs = given.pointsection;
         put(&mut xs, c.place, c.byte);
         t.pointsection = xs;
     }
     if c.field == 8 {
-        let mut xs = t.conflict;
+        let mut xs = given.conflict;
         put(&mut xs, c.place, c.byte);
         t.conflict = xs;
     }
@@ -250,7 +256,8 @@ fn changed_at_route(plan: Layout, c: Change) -> Layout {
     let mut routes = plan.route;
     let a = routes[c.number as usize];
     let b = changed_route(a, c);
-    routes[c.number as usize] = changed_route_lists(b, c);
+    let d = changed_route_sections(b, c);
+    routes[c.number as usize] = changed_route_points(d, c);
     let mut t = plan;
     t.route = routes;
     t

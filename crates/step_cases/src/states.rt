@@ -48,6 +48,11 @@ pub fn same_states(s: State, t: State) -> bool {
     same_readings(s, t) && same_routes(s, t) && same_lines(s, t)
 }
 
+// Puts the first n codes of a table of 48, each in so many digits.
+fn put48(line: &mut [u8], at: usize, codes: [u8; 48], n: usize, digits: u8) -> usize {
+    put_codes(line, at, &codes, n, digits)
+}
+
 // Puts the first n codes of a table of 64.
 fn put64(line: &mut [u8], at: usize, codes: [u8; 64], n: usize) -> usize {
     put_codes(line, at, &codes, n, 1)
@@ -69,9 +74,9 @@ fn put_routes(line: &mut [u8], at: usize, plan: Layout, s: State) -> usize {
     let step = s.step;
     let second = s.second;
     let n = size(plan.routes);
-    let a = put_codes(line, at, &phase, n, 1);
-    let b = put_codes(line, a, &step, n, 1);
-    put_codes(line, b, &second, n, 2)
+    let a = put48(line, at, phase, n, 1);
+    let b = put48(line, a, step, n, 1);
+    put48(line, b, second, n, 2)
 }
 
 // Puts the directions of its lines, and the stages and bars of eight blocks for each.
