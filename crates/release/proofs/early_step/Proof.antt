@@ -1,4 +1,4 @@
--- By the step, then by what is given and read.
+-- After step 1 what the pair reads and is given decides; before it, what the first is given.
 use Rattle.laws.proofs.Choice.{choices}
 use Rattle.laws.specs.Tests.{_and_}
 use Rattle.release.specs.Release.{earlyStep}
