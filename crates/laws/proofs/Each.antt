@@ -62,6 +62,7 @@ each-is : (n : ℕ) (f : ℕ → ℕ → ℕ) (xs ys : List ℕ) → n ≤ lengt
     → ((k : ℕ) → k < n → getD ys k 0 ≡ f k (getD xs k 0)) → ((k : ℕ) → n ≤ k → getD ys k 0 ≡ getD xs k 0) → ys ≡ each n f xs
 each-is n f xs ys b e h g = ext-getD 0 ys (each n f xs) (e ∙ sym (length-each n f xs b)) (λ k q. go k (decLt k n))
   where
+    -- below n by what is said there, from n on by what was
     go : (k : ℕ) → Dec (k < n) → getD ys k 0 ≡ getD (each n f xs) k 0
     go k (yes l) = h k l ∙ sym (each-at n f xs k l)
     go k (no l) = g k (omega arith) ∙ sym (each-past n f xs k (omega arith))
@@ -72,6 +73,7 @@ pub each-over : (n : ℕ) (f : ℕ → ℕ → ℕ) (xs ys : List ℕ) → n ≤
 each-over n f xs ys b e h g =
     ext-getD 0 (each n f xs) (each n f ys) (length-each n f xs b ∙ e ∙ sym (length-each n f ys (omega arith))) (λ k q. go k (decLt k n))
   where
+    -- below n the rule makes the same of both, from n on they are the same
     go : (k : ℕ) → Dec (k < n) → getD (each n f xs) k 0 ≡ getD (each n f ys) k 0
     go k (yes l) = each-at n f xs k l ∙ h k l ∙ sym (each-at n f ys k l)
     go k (no l) = each-past n f xs k (omega arith) ∙ g k (omega arith) ∙ sym (each-past n f ys k (omega arith))

@@ -96,6 +96,7 @@ pub lowest-some : (n : ℕ) (p : ℕ → Bool) → ltb (lowest n p) n ≡ any n 
 unfolding lowest
 lowest-some n p = go (any n p) refl
   where
+    -- by whether the test holds at one of them
     go : (b : Bool) → any n p ≡ b → ltb (lowestFrom n 0 p) n ≡ b
     go true e = let (j, b, t) = any-some n p e in lt-ltb _ n (let z = from-below n 0 j p b (ap p (zero-add j) ∙ t) in omega arith)
     go false e = le-ltb _ n (let z = from-past n 0 p (λ j b. ap p (zero-add j) ∙ any-none n p e j b) in omega arith)
