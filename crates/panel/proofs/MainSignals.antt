@@ -89,7 +89,7 @@ module _ (n : ℕ) (rs : List Route) (phases : List ℕ) where
   there r x b e q = rw (lt-ltb r 48 b, eq-eqb (getD phases r 0) 1 e, eq-eqb (route rs r .entry) x q)
 
   module _ (shown : List ℕ) (r : ℕ) (h : Lit shown r) (some : 0 < r) (last : r ≤ n) (few : n ≤ 48) where
-    -- a signal that the next route down does not put to proceed shows what it showed
+    -- a signal that route r - 1 does not put to proceed shows already what the routes from there on say
     kept : (x : ℕ) → x < 32 → starts x (r - 1) ≡ false → getD shown x 0 ≡ from (r - 1) x
     unfolding Lit
     kept x b e =

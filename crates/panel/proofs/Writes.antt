@@ -54,30 +54,30 @@ module _ {a : List ℕ} {k : ℕ} where
 -- ---- loops that write a byte, or a run of bytes, in each turn
 
 module _ (f : ℕ → ℕ) (a : List ℕ) (k : ℕ) where
-  -- a table before its first byte
+  -- of a table, before its first byte, nothing is written
   pub table-start : Wrote a k (table 0 f) a k
   unfolding table tableFrom
   table-start = wrote-none
 
-  -- its next byte
+  -- the next byte is written after those before it
   pub table-on : (b : List ℕ) (m i v : ℕ) → Wrote a k (table i f) b m → v ≡ f i → Wrote a k (table (i + 1) f) (set b m v) (m + 1)
   table-on b m i v p e = rw (table-more i f, ← e) (wrote-then p (wrote-one v))
 
-  -- its end
+  -- none is left: the whole table is written
   pub table-end : (b : List ℕ) (m i n : ℕ) → Wrote a k (table i f) b m → i ≤ n → n ≤ i → Wrote a k (table n f) b m
   table-end b m i n p g h = let e : n ≡ i = omega arith in rw e p
 
 module _ (f : ℕ → List ℕ) (a : List ℕ) (k : ℕ) where
-  -- runs of bytes before the first
+  -- of runs of bytes, before the first, nothing is written
   pub join-start : Wrote a k (join 0 f) a k
   unfolding join
   join-start = wrote-none
 
-  -- the next run
+  -- the next run is written after those before it
   pub join-on : (b c : List ℕ) (m n i : ℕ) → Wrote a k (join i f) b m → Wrote b m (f i) c n → Wrote a k (join (i + 1) f) c n
   join-on b c m n i p q = rw (join-more i f) (wrote-then p q)
 
-  -- their end
+  -- none is left: all runs are written
   pub join-end : (b : List ℕ) (m i n : ℕ) → Wrote a k (join i f) b m → i ≤ n → n ≤ i → Wrote a k (join n f) b m
   join-end b m i n p g h = let e : n ≡ i = omega arith in rw e p
 
