@@ -22,6 +22,7 @@ use Rattle.fields.specs.Lists.{itemTurn, items, pointTurn, points}
 
 -- ---- whatever was met, the number is below the limit
 
+-- of what was judged: in range it is below the limit, and a fault's number is 0
 judge-below : (n : Number) (at low limit fault m : ℕ) → limit ≤ m → 0 < m → judge n at low limit fault .value < m
 unfolding judge failed
 judge-below (Value v next) at low limit fault m l h =
@@ -29,6 +30,7 @@ judge-below (Value v next) at low limit fault m l h =
     (λ e. if-both (λ (c : Cursor). c .value < m) (ltb v limit) (λ f. omega (arith, ltb-true v limit f)) (λ f. h))
 judge-below (Fault number place) at low limit fault m l h = h
 
+-- of the next number: what was judged, or the 0 of a fault that stays
 field-below : (s : List ℕ) (c : Cursor) (low limit fault m : ℕ) → limit ≤ m → 0 < m → field s c low limit fault .value < m
 unfolding field failed
 field-below s c low limit fault m l h =

@@ -37,6 +37,7 @@ module _ {A : Type 0} where
   set-keeps P (x ∷ l) (suc i) v d zero p q = p
   set-keeps P (x ∷ l) (suc i) v d (suc k) p q = set-keeps P l i v d k p q
 
+  -- the entry k up to i after v is stored at i: v itself where k is i, what stood there where k is below
   stored-at : (P : A → Type 0) (l : List A) (i : ℕ) (v d : A) (k : ℕ) → Dec (k ≡ i) → i < length l → (k < i → P (getD l k d)) → P v → k < suc i
       → P (getD (set l i v) k d)
   stored-at P l i v d k (yes e) h f p q = subst (λ (j : ℕ). P (getD (set l i v) j d)) (sym e) (subst P (sym (getD-set-same l i v d h)) p)
@@ -47,25 +48,28 @@ module _ {A : Type 0} where
       → (k : ℕ) → k < suc i → P (getD (set l i v) k d)
   stored P l i v d h f p k q = stored-at P l i v d k (ℕ-discrete k i) h (f k) p q
 
--- an entry that there is
+-- inside a table of n what is read is the entry itself
 pub read-at : (n d : ℕ) (xs : List ℕ) (i : ℕ) → i < n → read n d xs i ≡ getD xs i 0
 unfolding read
 read-at n d xs i b = sym (if-lt i n _ _ _ b refl)
 
--- what is read of a list of n numbers: the entry, 0 past its end
+-- by cases: below n the entry itself; from n on both sides are 0, as the list ends there
 lent-cases : (xs : List ℕ) (i n v : ℕ) → Dec (i < n) → v ≡ read n 0 xs i → length xs ≡ n → v ≡ getD xs i 0
 unfolding read
 lent-cases xs i n v (yes h) e q = e ∙ read-at n 0 xs i h
 lent-cases xs i n v (no h) e q = e ∙ sym (if-ge i n _ _ _ (omega arith) (List·getD-eq-default xs 0 (omega arith)))
 
+-- reading a list of n numbers, 0 past its end, is reading the list itself
 pub lent-at : (xs : List ℕ) (i n v : ℕ) → v ≡ read n 0 xs i → length xs ≡ n → v ≡ getD xs i 0
 lent-at xs i n v e q = lent-cases xs i n v (decLt i n) e q
 
--- an entry of a table of n, which the code reads at k: what stands there, and d past its end
+-- an entry of a table of n that the code reads at k, which is i
 module _ (n d : ℕ) (xs : List ℕ) (i k r : ℕ) (e : k ≡ i) where
+  -- inside, what stands there is what is read
   pub entry-inside : k < n → r ≡ getD xs k 0 → r ≡ read n d xs i
   entry-inside h q = q ∙ ap (λ j. getD xs j 0) e ∙ sym (read-at n d xs i (rw (← e) h))
 
+  -- past the end, d is
   pub entry-past : n ≤ k → r ≡ d → r ≡ read n d xs i
   unfolding read
   entry-past h q = if-ge i n _ _ r (rw (← e) h) q

@@ -18,25 +18,31 @@ module _ (a b : Bool) where
   unfolding _and_
   both-asked r h q = rw h q
 
--- what the code learnt by testing v: that the first holds, that it fails
+-- what the code learnt by testing v, which says what a says
 module _ (v a : Bool) (e : v ≡ a) where
+  -- it did not leave: a holds
   pub test-passes : not v ≡ false → a ≡ true
   test-passes h = sym e ∙ not-false v h
 
+  -- it left: a fails
   pub test-fails : not v ≡ true → a ≡ false
   test-fails h = sym e ∙ not-true v h
 
--- what it learnt by holding v against n: that it is n, that it is another
+-- what it learnt by holding v, which is x, against n
 module _ (v x n : ℕ) (e : v ≡ x) where
+  -- v is n: x is n
   pub number-same : v ≡ n → eqb x n ≡ true
   number-same h = eq-eqb x n (sym e ∙ h)
 
+  -- v is not n: x is not
   pub number-other : (v ≡ n → ⊥) → eqb x n ≡ false
   number-other h = ne-eqb x n (λ z. h (e ∙ z))
 
+  -- v is not n: the test that x is another holds
   pub number-not-same : (v ≡ n → ⊥) → not (eqb x n) ≡ true
   number-not-same h = ap not (number-other h)
 
+  -- v is n: the test that x is another fails
   pub number-not-other : v ≡ n → not (eqb x n) ≡ false
   number-not-other h = ap not (number-same h)
 

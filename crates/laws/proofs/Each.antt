@@ -17,6 +17,7 @@ use Rattle.laws.proofs.Choice.{if-eq, if-ne}
 
 -- ---- what stands at a place, whatever the table's length
 
+-- one of the k entries is what f makes of its number, counted from i, and of what it was, 0 past the end: entry by entry
 at-from : (k i : ℕ) (f : ℕ → ℕ → ℕ) (xs : List ℕ) (j : ℕ) → j < k → getD (eachFrom k i f xs) j 0 ≡ f (i + j) (getD xs j 0)
 unfolding eachFrom
 at-from zero i f xs j b = absurd (not-suc-le-zero b)
@@ -26,6 +27,7 @@ at-from (suc k) i f [] (suc j) b = at-from k (suc i) f [] j (le-of-suc-le-suc b)
 at-from (suc k) i f (x ∷ xs) (suc j) b =
     at-from k (suc i) f xs j (le-of-suc-le-suc b) ∙ ap (λ m. f m (getD xs j 0)) (suc-add i j ∙ sym (add-suc i j))
 
+-- after the k entries all is as it was: entry by entry
 past-from : (k i : ℕ) (f : ℕ → ℕ → ℕ) (xs : List ℕ) (j : ℕ) → k ≤ j → getD (eachFrom k i f xs) j 0 ≡ getD xs j 0
 unfolding eachFrom
 past-from zero i f xs j b = refl
@@ -43,6 +45,7 @@ pub each-past : (n : ℕ) (f : ℕ → ℕ → ℕ) (xs : List ℕ) (j : ℕ) �
 unfolding each
 each-past n f xs j b = past-from n 0 f xs j b
 
+-- making anew k entries that are all there does not change how many there are
 length-from : (k i : ℕ) (f : ℕ → ℕ → ℕ) (xs : List ℕ) → k ≤ length xs → length (eachFrom k i f xs) ≡ length xs
 unfolding eachFrom
 length-from zero i f xs b = refl
@@ -59,6 +62,7 @@ each-is : (n : ℕ) (f : ℕ → ℕ → ℕ) (xs ys : List ℕ) → n ≤ lengt
     → ((k : ℕ) → k < n → getD ys k 0 ≡ f k (getD xs k 0)) → ((k : ℕ) → n ≤ k → getD ys k 0 ≡ getD xs k 0) → ys ≡ each n f xs
 each-is n f xs ys b e h g = ext-getD 0 ys (each n f xs) (e ∙ sym (length-each n f xs b)) (λ k q. go k (decLt k n))
   where
+    -- below n by what is said there, from n on by what was
     go : (k : ℕ) → Dec (k < n) → getD ys k 0 ≡ getD (each n f xs) k 0
     go k (yes l) = h k l ∙ sym (each-at n f xs k l)
     go k (no l) = g k (omega arith) ∙ sym (each-past n f xs k (omega arith))
@@ -69,18 +73,21 @@ pub each-over : (n : ℕ) (f : ℕ → ℕ → ℕ) (xs ys : List ℕ) → n ≤
 each-over n f xs ys b e h g =
     ext-getD 0 (each n f xs) (each n f ys) (length-each n f xs b ∙ e ∙ sym (length-each n f ys (omega arith))) (λ k q. go k (decLt k n))
   where
+    -- below n the rule makes the same of both, from n on they are the same
     go : (k : ℕ) → Dec (k < n) → getD (each n f xs) k 0 ≡ getD (each n f ys) k 0
     go k (yes l) = each-at n f xs k l ∙ h k l ∙ sym (each-at n f ys k l)
     go k (no l) = each-past n f xs k (omega arith) ∙ g k (omega arith) ∙ sym (each-past n f ys k (omega arith))
 
--- ---- the loop: ys is xs, below i made anew by f, from i on as it was; its length is m, and n of its entries are to be made
+-- ---- the loop that makes a table anew in place
 
+-- ys is xs, below i made anew by f, from i on as it was; its length is m, and n of its entries are to be made
 unfoldable pub Redone : ℕ → ℕ → (ℕ → ℕ → ℕ) → List ℕ → List ℕ → ℕ → Type 0
 Redone m n f xs ys i =
     (i ≤ n) × (n ≤ m) × (length xs ≡ m) × (length ys ≡ m)
     × ((k : ℕ) → k < i → getD ys k 0 ≡ f k (getD xs k 0)) × ((k : ℕ) → i ≤ k → getD ys k 0 ≡ getD xs k 0)
 
 module _ (m n : ℕ) (f : ℕ → ℕ → ℕ) (xs : List ℕ) where
+  -- before the first turn nothing is made anew
   pub redo-start : n ≤ m → length xs ≡ m → Redone m n f xs xs 0
   unfolding Redone
   redo-start b e = (omega arith, b, e, e, λ k q. absurd (not-suc-le-zero q), λ k q. refl)
@@ -111,11 +118,13 @@ module _ (m n : ℕ) (f : ℕ → ℕ → ℕ) (xs : List ℕ) where
     λ k q. h .5 k (omega arith),
   )
 
+  -- once all n are made it is the table made anew: entry by entry
   pub redo-end : (ys : List ℕ) (i : ℕ) → Redone m n f xs ys i → n ≤ i → ys ≡ each n f xs
   unfolding Redone
   redo-end ys i h b =
       each-is n f xs ys (omega (arith, h .1, h .2)) (h .3 ∙ sym (h .2)) (λ k q. h .4 k (omega (arith, h .0))) (λ k q. h .5 k (omega (arith, h .0)))
 
+-- for loops that make a table anew
 pub ruleset redoes = (needs, length-mapped, redo-start, redo-on, redo-skip, redo-end)
 
 -- ---- one store
@@ -126,10 +135,12 @@ unfolding put
 put-set n xs a v e =
     each-is n _ xs (set xs a v) (omega arith) (length-set xs a v) (λ k b. inside k (ℕ-discrete k a) b) (λ k b. outside k (decLt a n) b)
   where
+    -- below n, a store at a puts v there and leaves the others
     inside : (k : ℕ) → Dec (k ≡ a) → k < n → getD (set xs a v) k 0 ≡ if eqb k a then v else getD xs k 0
     inside k (yes z) b = if-eq k a _ _ _ z (ap (λ m. getD (set xs a v) m 0) z ∙ getD-set-same xs a v 0 (omega arith))
     inside k (no z) b = if-ne k a _ _ _ z (getD-set-other xs a k v 0 z)
 
+    -- from n on nothing changes: either a is below n, so another place, or the store is past the end
     outside : (k : ℕ) → Dec (a < n) → n ≤ k → getD (set xs a v) k 0 ≡ getD xs k 0
     outside k (yes l) b = getD-set-other xs a k v 0 (λ z. let z′ : k ≡ a = z in omega arith)
     outside k (no l) b = ap (λ ys. getD ys k 0) (set-out xs a v (omega arith))

@@ -28,22 +28,26 @@ pub from-none : (i : ℕ) (p : ℕ → Bool) → lowestFrom 0 i p ≡ i
 unfolding lowestFrom
 from-none i p = refl
 
--- ---- the loop: what is left to look through from i on gives what the whole gives
+-- ---- the loop that looks for it
 
+-- what is left to look through from i on gives what the whole gives
 unfoldable pub Sought : ℕ → (ℕ → Bool) → ℕ → Type 0
 Sought n p i = (i ≤ n) × (lowest n p ≡ lowestFrom (n - i) i p)
 
 module _ (n : ℕ) (p : ℕ → Bool) where
+  -- before the first test all is left
   pub seek-start : Sought n p 0
   unfolding Sought lowest
   seek-start = (omega arith, ap (λ k. lowestFrom k 0 p) (omega arith))
 
+  -- it holds at i: i is the lowest
   pub seek-here : (i : ℕ) {b : Bool} → Sought n p i → i < n → b ≡ p i → b ≡ true → i ≡ lowest n p
   unfolding Sought
   seek-here i s l d e =
       let left : n - i ≡ suc (n - (i + 1)) = omega arith in
       sym (s .1 ∙ ap (λ k. lowestFrom k i p) left ∙ from-here (n - (i + 1)) i p (sym d ∙ e))
 
+  -- it fails at i: what is left from the next on gives the same
   pub seek-on : (i : ℕ) {b : Bool} → Sought n p i → i < n → b ≡ p i → b ≡ false → Sought n p (i + 1)
   unfolding Sought
   seek-on i s l d e =
@@ -53,6 +57,7 @@ module _ (n : ℕ) (p : ℕ → Bool) where
             ∙ ap (λ k. lowestFrom (n - (i + 1)) k p) (sym (add-one i)),
       )
 
+  -- nothing is left: it is n, where there is none
   pub seek-end : (i : ℕ) → Sought n p i → n ≤ i → n ≡ lowest n p
   unfolding Sought
   seek-end i s l =
@@ -60,6 +65,7 @@ module _ (n : ℕ) (p : ℕ → Bool) where
       let at : i ≡ n = omega arith in
       sym (s .1 ∙ ap (λ k. lowestFrom k i p) none ∙ from-none i p ∙ at)
 
+-- for loops that look for the lowest
 pub ruleset seeks = (needs, seek-start, seek-on, seek-here, seek-end)
 
 -- ---- whether it is past the end
@@ -90,6 +96,7 @@ pub lowest-some : (n : ℕ) (p : ℕ → Bool) → ltb (lowest n p) n ≡ any n 
 unfolding lowest
 lowest-some n p = go (any n p) refl
   where
+    -- by whether the test holds at one of them
     go : (b : Bool) → any n p ≡ b → ltb (lowestFrom n 0 p) n ≡ b
     go true e = let (j, b, t) = any-some n p e in lt-ltb _ n (let z = from-below n 0 j p b (ap p (zero-add j) ∙ t) in omega arith)
     go false e = le-ltb _ n (let z = from-past n 0 p (λ j b. ap p (zero-add j) ∙ any-none n p e j b) in omega arith)

@@ -29,29 +29,32 @@ use Rattle.layout.specs.Rules.{rule1, rule2, rule3, rule4, rule5, rule6,
 use Rattle.layout.specs.Sound.{fits, rowMirrors, mirrored, sound}
 use Rattle.layout.specs.Load.{heading, countsOf, wholeOf, whole, refused, finished}
 
--- the file from its parts
+-- the file, from its four parts
 pub whole-made : (s : List ℕ) (h : Heading) (a b : Counts) (l : Lines) (r : Routes) (p : Pairs)
     → h ≡ heading s → a ≡ countsOf h 0 → l ≡ lines s a (h .cur) → b ≡ countsOf h (l .count) → r ≡ routes s b (l .cur) → p ≡ pairs s (r .count) (r .cur)
     → wholeOf h l r p ≡ whole s
 unfolding whole
 whole-made s h a b l r p e₁ e₂ e₃ e₄ e₅ e₆ = rw (e₆, e₅, e₄, e₃, e₂, e₁)
 
--- there are at most 48 routes, in a file and in a record that is in range
+-- there are at most 48 routes in a file: the count says so, and no turn changes it
 routes-few : (s : List ℕ) (n : Counts) (c : Cursor) → routes s n c .count ≤ 48
 unfolding routes routesFrom routeTurn
 routes-few s n c =
     iter-keeps (λ i (t : Routes). t .count ≤ 48) (routeTurn s n) _ _ (code-most s c 0 48 refl) (λ i b l p. p)
 
+-- so in what was read of it
 pub whole-few : (s : List ℕ) {w : Whole} → w ≡ whole s → w .layout .routes ≤ 48
 unfolding whole
 whole-few s e = rw e (routes-few s _ _)
 
+-- and in a record that is in range, by the seventh of its tests
 pub fits-few : (L : Layout) (v : Bool) → v ≡ fits L → not v ≡ false → L .routes ≤ 48
 unfolding fits
 fits-few L v e q = leb-true _ _ (every-at _ (sym e ∙ not-false v q) 6)
 
 -- ---- the first broken rule: of the first three, else of the last three
 
+-- one of the first three fails: the first of all that fails is the first of those
 early : (a b c d e f : Bool) (k : ℕ) → k ≡ firstFailed 1 (a ∷ b ∷ c ∷ []) → (k ≡ 0 → ⊥) → k ≡ firstFailed 1 (a ∷ b ∷ c ∷ d ∷ e ∷ f ∷ [])
 unfolding firstFailed if_then_else_
 early false b c d e f k p q = p
@@ -59,6 +62,7 @@ early true false c d e f k p q = p
 early true true false d e f k p q = p
 early true true true d e f k p q = absurd (q p)
 
+-- none of them fails: it is the first of the last three
 late : (a b c d e f : Bool) (k r : ℕ) → k ≡ firstFailed 1 (a ∷ b ∷ c ∷ []) → k ≡ 0 → r ≡ firstFailed 4 (d ∷ e ∷ f ∷ [])
     → r ≡ firstFailed 1 (a ∷ b ∷ c ∷ d ∷ e ∷ f ∷ [])
 unfolding firstFailed if_then_else_
@@ -67,10 +71,12 @@ late true false c d e f k r p q s = absurd (omega arith)
 late true true false d e f k r p q s = absurd (omega arith)
 late true true true d e f k r p q s = s
 
+-- so of the rules 1 to 3
 pub broken-first : (L : Layout) (k : ℕ) → k ≡ firstFailed 1 (rule1 L ∷ rule2 L ∷ rule3 L ∷ []) → (k ≡ 0 → ⊥) → k ≡ broken L
 unfolding broken
 broken-first L k p q = early _ _ _ (rule4 L) (rule5 L) (rule6 L) k p q
 
+-- and of the rules 4 to 6
 pub broken-last : (L : Layout) (k r : ℕ) → k ≡ firstFailed 1 (rule1 L ∷ rule2 L ∷ rule3 L ∷ []) → k ≡ 0
     → r ≡ firstFailed 4 (rule4 L ∷ rule5 L ∷ rule6 L ∷ []) → r ≡ broken L
 unfolding broken
@@ -79,38 +85,47 @@ broken-last L k r p q s = late _ _ _ _ _ _ k r p q s
 -- ---- soundness, by cases
 
 module _ (L : Layout) (a : Bool) (p : a ≡ fits L) where
+  -- not in range: not sound
   pub sound-range : not a ≡ true → false ≡ sound L
   unfolding sound
   sound-range q = every-stops _ _ a p q
 
+  -- in range, and the conflicts are not both ways: not sound
   pub sound-mirror : (b : Bool) → not a ≡ false → b ≡ all (L .routes) (rowMirrors (L .conflict)) → not b ≡ true → false ≡ sound L
   unfolding sound mirrored
   sound-mirror b q r s = every-passes _ _ a _ _ p q (every-stops _ _ b r s)
 
+  -- in range, and they are: sound where no rule is broken
   pub sound-rules : (b : Bool) (k : ℕ) → not a ≡ false → b ≡ all (L .routes) (rowMirrors (L .conflict)) → not b ≡ false → k ≡ broken L → eqb k 0 ≡ sound L
   unfolding sound mirrored
   sound-rules b k q r s e = every-passes _ _ a _ _ p q (every-passes _ _ b _ _ r s (every-last _ _ (ap (λ n. eqb n 0) e)))
 
+-- for soundness, a case at each return
 pub ruleset sounds = (needs, sound-range, sound-mirror, sound-rules)
 
 -- ---- what loading answers, by cases
 
 module _ (w : Whole) (n : ℕ) (r : Loaded) where
+  -- a fault was met: it, with its place
   pub finished-fault : (w .cur .fault ≡ 0 → ⊥) → r ≡ refused (w .cur .fault) (w .cur .at) → r ≡ finished w n
   unfolding finished
   finished-fault h q = if-ne _ _ _ _ r h q
 
+  -- bytes are left over: 26, at the first of them
   pub finished-left : w .cur .fault ≡ 0 → (w .cur .at ≡ n → ⊥) → r ≡ refused 26 (w .cur .at) → r ≡ finished w n
   unfolding finished
   finished-left h k q = if-eq _ _ _ _ r h (if-ne _ _ _ _ r k q)
 
+  -- a rule is broken: 25, with its number
   pub finished-rule : (b : ℕ) → w .cur .fault ≡ 0 → w .cur .at ≡ n → b ≡ broken (w .layout) → (b ≡ 0 → ⊥) → r ≡ refused 25 b → r ≡ finished w n
   unfolding finished
   finished-rule b h k e m q = if-eq _ _ _ _ r h (if-eq _ _ _ _ r k (if-ne _ _ _ _ r (λ z. m (e ∙ z)) (q ∙ ap (refused 25) e)))
 
+  -- none is: the layout
   pub finished-well : (b : ℕ) → w .cur .fault ≡ 0 → w .cur .at ≡ n → b ≡ broken (w .layout) → b ≡ 0
       → r ≡ record { number = 0; detail = 0; layout = w .layout } → r ≡ finished w n
   unfolding finished
   finished-well b h k e m q = if-eq _ _ _ _ r h (if-eq _ _ _ _ r k (if-eq _ _ _ _ r (sym e ∙ m) q))
 
+-- for what loading answers, a case at each return
 pub ruleset endings = (needs, finished-fault, finished-left, finished-rule, finished-well)

@@ -31,15 +31,18 @@ use Rattle.layout.specs.Walks.{lineKeeps, routeKeeps, blocksApart, lists
 
 -- ---- an entry of an array of routes, as the code reads it
 
+-- what a route keeps
 pub kept-at : (rs : List Route) (i n : ℕ) (d : Route) (k : ℕ) (c : Counts) (ls : List Line) (blocks : ℕ) {v : Bool} → length rs ≡ 48 → i < n → n ≤ 48
     → v ≡ routeKeeps k c ls blocks (getD rs i d) → v ≡ routeKeeps k c ls blocks (route rs i)
 unfolding route
 kept-at rs i n d k c ls blocks q b few e = e ∙ ap (routeKeeps k c ls blocks) (read-in rs i 48 d noRoute q (omega arith))
 
+-- what rule 6 asks of a route
 pub reach-at : (rs : List Route) (i : ℕ) (d : Route) {v : Reach} → length rs ≡ 48 → i < 48 → v ≡ reachOf (getD rs i d) → v ≡ reachOf (route rs i)
 unfolding route
 reach-at rs i d q b e = e ∙ ap reachOf (read-in rs i 48 d noRoute q b)
 
+-- whether two routes keep rule 6, by the table of what it asks
 pub row-at : (m : List ℕ) (t : List Reach) (r q : ℕ) (d : Reach) {v : Bool} → length t ≡ 48 → r < 48 → q < r
     → v ≡ pairKeeps m r q (getD t r d) (getD t q d) → v ≡ rowKeeps m t r q
 unfolding rowKeeps
@@ -47,16 +50,19 @@ row-at m t r q d n h l e = e ∙ ap₂ (pairKeeps m r q) (read-in t r 48 d noRea
 
 -- ---- rule 6 for two routes: what is listed keeps it, and what is not must not clash
 
+-- what implies a thing that fails must fail
 not-implies : (t : Bool) → not t ≡ implies t false
 unfolding implies
 not-implies true = refl
 not-implies false = refl
 
 module _ (m : List ℕ) (r q : ℕ) (a b : Reach) {e : ℕ} (p : e ≡ entryOf m r q) where
+  -- listed: they keep it
   pub pair-listed : e ≡ 1 → true ≡ pairKeeps m r q a b
   unfolding pairKeeps
   pair-listed h = sym (implies-from (clashing a b) _ (λ t. eq-eqb _ 1 (sym p ∙ h)))
 
+  -- not listed: they keep it where they do not clash
   pub pair-unlisted : {v : Bool} → (e ≡ 1 → ⊥) → v ≡ clashing a b → not v ≡ pairKeeps m r q a b
   unfolding pairKeeps
   pair-unlisted h k = rw (k, ne-eqb _ 1 (λ z. h (p ∙ z))) (not-implies (clashing a b))
@@ -64,46 +70,55 @@ module _ (m : List ℕ) (r q : ℕ) (a b : Reach) {e : ℕ} (p : e ≡ entryOf m
 -- ---- rule 6 for all routes before r, and for r with those before q
 
 module _ (m : List ℕ) (t : List Reach) (n r q : ℕ) (h : Held n (λ k. all k (rowKeeps m t k)) r) (l : r < n) (j : Held r (rowKeeps m t r) q) where
+  -- r does not keep it with q: not all do
   pub rows-stop : {v : Bool} → q < r → v ≡ rowKeeps m t r q → not v ≡ true → false ≡ all n (λ k. all k (rowKeeps m t k))
   rows-stop s e f = all-stops n _ r h l (all-stops r _ q j s e f) refl
 
+  -- r keeps it with each before it: one route more
   pub rows-on : r ≤ q → Held n (λ k. all k (rowKeeps m t k)) (r + 1)
   rows-on s = held-on n _ r h l (all-done r _ q j s) refl
 
 -- ---- each rule, by the walk that tests it
 
 module _ (L : Layout) (v : Bool) (c : Counts) (same : c ≡ counts L) where
+  -- the walk of rule 1 over the lines asks of each line just what the rule does
   once-is : all (L .lines) (lineKeeps 1 (counts L) (L .line)) ≡ all (L .lines) (once (L .line))
   unfolding lineKeeps if_then_else_
   once-is = all-same _ _ _ (λ l h. refl)
 
+  -- its walk over the routes asks the same by the set of all blocks: no path section is a block
   paths-is : all (L .routes) (λ r. routeKeeps 1 (counts L) (L .line) (blockSet (L .lines) (L .line)) (routeIn L r))
       ≡ all (L .routes) (λ r. not (share (isBlock (L .lines) (L .line)) (inPath (routeIn L r))))
   unfolding routeKeeps if_then_else_
   paths-is = all-same _ _ _ (λ r h. offBlocks-is (L .lines) (L .line) (routeIn L r))
 
+  -- rule 1: the lines, the routes and the inner sections
   pub rule1-by : v ≡ blocksApart c (L .line) (L .routes) (L .route) → v ≡ rule1 L
   unfolding rule1 blocksApart counts routeIn
   rule1-by e = (rw same at e) ∙ rw (once-is, paths-is, inner-is (L .lines) (L .line))
 
+  -- rule 2: the lines
   pub rule2-by : v ≡ all (c .lines) (lineKeeps 2 c (L .line)) → v ≡ rule2 L
   unfolding rule2 lineKeeps counts if_then_else_
   rule2-by e = (rw same at e) ∙ all-same _ _ _ (λ l h. refl)
 
+  -- rule 3: the routes, then the lines
   pub rule3-by : v ≡ listsDiffer c (L .line) (L .routes) (L .route) → v ≡ rule3 L
   unfolding rule3 listsDiffer routeIn counts lineKeeps routeKeeps if_then_else_
   rule3-by e = (rw same at e) ∙ ap₂ _and_ (all-same (L .routes) _ _ (λ r h. refl)) (all-same (L .lines) _ _ (λ l h. refl))
 
+  -- rule 4: the routes
   pub rule4-by : v ≡ all (L .routes) (λ r. routeKeeps 4 c (L .line) 0 (route (L .route) r)) → v ≡ rule4 L
   unfolding rule4 routeIn routeKeeps if_then_else_
   rule4-by e = e ∙ all-same _ _ _ (λ r h. refl)
 
+  -- rule 5: the routes
   pub rule5-by : v ≡ all (L .routes) (λ r. routeKeeps 5 c (L .line) 0 (route (L .route) r)) → v ≡ rule5 L
   unfolding rule5 routeIn counts routeKeeps if_then_else_
   rule5-by e = (rw same at e) ∙ all-same _ _ _ (λ r h. refl)
 
--- and rule 6, by the table of what it asks
 module _ (L : Layout) (v : Bool) where
+  -- rule 6: each route with each before it, by the table of what it asks of each
   pub rule6-by : L .routes ≤ 48 → v ≡ all (L .routes) (λ r. all r (rowKeeps (L .conflict) (reaches (L .route)) r)) → v ≡ rule6 L
   unfolding rule6 rowKeeps pairKeeps reaches routeIn conflict
   rule6-by few e =
@@ -114,14 +129,17 @@ module _ (L : Layout) (v : Bool) where
 -- ---- the ranges, by the walks that test them
 
 module _ (L : Layout) where
+  -- the walk over the lines asks the ranges of each
   lines-fit-is : all (L .lines) (lineKeeps 0 (counts L) (L .line)) ≡ all (L .lines) (λ l. lineFits (counts L) (lineIn L l))
   unfolding lineIn lineKeeps if_then_else_
   lines-fit-is = all-same _ _ _ (λ l h. refl)
 
+  -- the walk over the routes asks the ranges of each
   routes-fit-is : all (L .routes) (λ r. routeKeeps 0 (counts L) (L .line) 0 (route (L .route) r)) ≡ all (L .routes) (λ r. routeFits (counts L) (routeIn L r))
   unfolding routeIn routeKeeps if_then_else_
   routes-fit-is = all-same _ _ _ (λ r h. refl)
 
+  -- the two walks and the tests between them are the whole test
   pub fits-made : (c : Counts) (a b d e : Bool) → c ≡ counts L → a ≡ between 1 64 (L .sections) → b ≡ sectionsFit (L .points) (L .sections) (L .pointsection)
       → d ≡ all (c .lines) (lineKeeps 0 c (L .line)) → e ≡ all (L .routes) (λ r. routeKeeps 0 c (L .line) 0 (route (L .route) r))
       → a && (leb (L .points) 32 && (b && (leb (L .signals) 32 && (leb (L .lines) 8 && (d && (leb (L .routes) 48 && e)))))) ≡ fits L

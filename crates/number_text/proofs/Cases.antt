@@ -38,4 +38,5 @@ module _ (s : Reader) (byte size : ℕ) (word : List ℕ) (e : word ≡ set (s .
   word-no-number l =
       if-false _ _ _ _ (fails-from _ (λ b. not-both (and-left (ltb (s .doing) 2) (isDigit byte) b) (le-ltb _ _ l))) (rw (e, f))
 
+-- for a byte of a word, a case at each return
 pub ruleset words = (needs, digit-least, word-digit, word-other, word-no-number)

@@ -48,6 +48,7 @@ unfolding turnOf held
 turn-stopped per p a bytes h =
     subst (Went a (p .written) 7 a p) (if-ne _ _ _ _ _ h refl) (record { column = refl; at = refl; stop = refl; text = put-none 7 })
 
+-- for one turn
 pub ruleset onwards = (needs, value-went, fault-went, turn-stopped, turn-goes)
 
 -- ---- the turns of a call

@@ -33,6 +33,7 @@ module _ (a : List ℕ) (at left n : ℕ) where
   unfolding encodeIn
   put-group h l = subst (λ xs. Put a at xs left (set a at n) (at + 1)) (one left h) (put-within left (omega arith) (put-one n))
     where
+      -- with a group left, a number below 128 is its own form
       one : (k : ℕ) → (k ≡ 0 → ⊥) → n ∷ [] ≡ encodeIn k n
       one zero h = absurd (h refl)
       one (suc k) h = encode-last k n l
@@ -44,6 +45,7 @@ module _ (a : List ℕ) (at left n : ℕ) where
   put-more-groups b m h l p =
       subst (λ xs. Put a at xs left b m) (more left h) (put-within left (omega arith) (put-then (put-one (128 + n % 128)) p))
     where
+      -- with a group left, the form is this group and the form of the rest in one less
       more : (k : ℕ) → (k ≡ 0 → ⊥) → (128 + n % 128) ∷ encodeIn (k - 1) (n / 128) ≡ encodeIn k n
       more zero h = absurd (h refl)
       more (suc k) h = rw sub-one (encode-more k n l)
@@ -52,6 +54,7 @@ module _ (a : List ℕ) (at left n : ℕ) where
   pub long-groups : (b xs : List ℕ) (i m k x : ℕ) → Put (set a at x) k xs i b m → length b ≡ length a
   long-groups b xs i m k x p = p .long ∙ length-set a at x
 
+-- for the groups of a number
 pub ruleset groups = (needs, put-no-groups, put-group, put-more-groups, long-groups)
 
 -- ---- the number that a byte ends
@@ -80,6 +83,7 @@ module _ (a : List ℕ) (at byte : ℕ) (s : Reader) where
   given-number r b m e h d q p =
       subst (λ xs. Put a at xs 3 b m) (if-eq _ _ _ _ _ e (if-ge _ _ _ _ _ h (if-true _ _ _ _ (sym d ∙ not-false r q) refl))) p
 
+-- for the number that a byte ends
 pub ruleset gifts = (needs, given-none, given-over, given-not-yet, given-number)
 
 -- ---- a number in a line
@@ -116,6 +120,7 @@ module _ (a : List ℕ) (at column : ℕ) where
   unfolding behind
   behind-end e = subst (λ xs. Put a at xs 1 (set a at 10) (at + 1)) (if-eq _ _ _ _ _ e refl) (put-one 10)
 
+-- for what stands before and behind a number
 pub ruleset seams = (needs, before-none, before-space, behind-none, behind-end)
 
 -- the space, the digits, the line's end

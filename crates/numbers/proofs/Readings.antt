@@ -54,6 +54,7 @@ module _ (s : List ℕ) (first : ℕ) where
       → Reading (suc k) at (Value (getD s at 0 - 128 + 128 * w) next)
   reading-value k at w next l b e f = (omega arith, f .1, bytes)
     where
+      -- the sum is 128 or more, with the byte for its lowest group and the number after it for the rest
       bytes : Bytes s → (getD s at 0 - 128 + 128 * w < 128 ^ suc k) × (drop at s ≡ encodeIn (suc k) (getD s at 0 - 128 + 128 * w) ++ drop next s)
       bytes h =
           let v : ℕ = getD s at 0 - 128 + 128 * w in

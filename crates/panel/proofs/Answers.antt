@@ -34,6 +34,7 @@ sound-within L e =
       lines = leb-true _ _ (every-at _ f 4);
     }
 
+-- so of a layout that the code found sound
 pub sound-holds : (L : Layout) (v : Bool) → v ≡ sound L → not v ≡ false → Within L
 sound-holds L v e q = sound-within L (sym e ∙ not-false v q)
 
@@ -48,10 +49,12 @@ module _ (L : Layout) (s : State) (buffer : List ℕ) where
   unfolding answer refused
   unsound bad = kept (refused 18) (if-true _ _ _ (refused 18) (fails-not _ (fails-from _ bad)) refl) refl
 
+  -- the code found the state out of range
   pub unsound-state : (v : Bool) → v ≡ inRange s → not v ≡ true → (record { number = 18; length = 0 } ≡ answer L s (length buffer)) × (buffer ≡ drawn L s buffer)
   unfolding refused
   unsound-state v e q = unsound (λ p. not-both (and-right _ _ p) (sym e ∙ not-true v q))
 
+  -- the code found the layout not sound
   pub unsound-layout : (v : Bool) → v ≡ sound L → not v ≡ true → (record { number = 18; length = 0 } ≡ answer L s (length buffer)) × (buffer ≡ drawn L s buffer)
   unfolding refused
   unsound-layout v e q = unsound (λ p. not-both (and-left _ _ p) (sym e ∙ not-true v q))
@@ -61,6 +64,7 @@ module _ (L : Layout) (s : State) (buffer : List ℕ) where
     whole : not (sound L and inRange s) ≡ false
     whole = ap not (and-both _ _ (sym f ∙ not-false u q) (sym e ∙ not-false v p))
 
+    -- the image is as long as the code counted
     long : length (image L s) ≡ n
     long = length-image L s ∙ sym g
 
@@ -69,12 +73,14 @@ module _ (L : Layout) (s : State) (buffer : List ℕ) where
     unfolding answer refused
     too-short h = kept (refused 27) (if-false _ _ _ (refused 27) whole (if-lt (length buffer) (length (image L s)) _ _ (refused 27) (omega (arith, long)) refl)) refl
 
-    -- 0: the image, then what was there
+    -- 0: there is room
     module _ (h : n ≤ length buffer) where
+      -- the answer is 0 with the image's length
       is-0 : record { number = 0; length = n } ≡ answer L s (length buffer)
       unfolding answer
       is-0 = if-false _ _ _ _ whole (if-ge (length buffer) (length (image L s)) _ _ _ (omega (arith, long)) (ap (λ k. record { number = 0; length = k }) (sym long)))
 
+      -- and the buffer is the image, then what was there
       pub done : (after : List ℕ) → after ≡ sets buffer 0 (image L s)
           → (record { number = 0; length = n } ≡ answer L s (length buffer)) × (after ≡ drawn L s buffer)
       unfolding drawn

@@ -30,6 +30,7 @@ module _ (stages bars : List ℕ) (n way : ℕ) (placed : Bool) (l : ℕ) where
   unfolding blockBy
   block-length i = refl
 
+  -- k blocks have three bytes each
   blocks-length : (k : ℕ) → length (join k (blockBy stages bars n way placed l)) ≡ 3 * k
   unfolding join
   blocks-length zero = refl
@@ -52,6 +53,7 @@ module _ (stages bars : List ℕ) (n way : ℕ) (placed : Bool) (l : ℕ) where
 -- ---- lines
 
 module _ (ls : List Line) where
+  -- no lines have no blocks
   pub blocks-none : blocks 0 ls ≡ 0
   unfolding blocks
   blocks-none = refl
@@ -68,13 +70,15 @@ module _ (ls : List Line) where
   blocks-add l zero = rw add-zero (le-refl (blocks l ls))
   blocks-add l (suc k) = let h : blocks l ls ≤ blocks (l + k) ls = blocks-add l k in rw (add-suc, blocks) (omega arith)
 
+  -- so up to any later line
   blocks-up : (l n : ℕ) → l ≤ n → blocks l ls ≤ blocks n ls
   blocks-up l n b = let rest : l + (n - l) ≡ n = omega arith in rw rest at (blocks-add l (n - l))
 
-  -- the loop that counts them
+  -- the loop that counts them: line l adds its own
   pub count-on : (l n count : ℕ) (d : Line) → count ≡ blocks l ls → length ls ≡ 8 → l < n → n ≤ 8 → count + getD ls l d .blocks ≡ blocks (l + 1) ls
   count-on l n count d e q b few = ap (λ k. k + getD ls l d .blocks) e ∙ sym (blocks-more l n d q b few)
 
+  -- at the last line all are counted
   pub count-end : (l n count : ℕ) → count ≡ blocks l ls → l ≤ n → n ≤ l → count ≡ blocks n ls
   count-end l n count e b f = let d : l ≡ n = omega arith in e ∙ ap (λ k. blocks k ls) d
 

@@ -42,12 +42,14 @@ table-next n f {k = k} p = p .place ∙ ap (λ w. k + w) (length-table n f)
 -- ---- the parts of the image
 
 module _ (L : Layout) (s : State) (w : Within L) where
+  -- the two tables of readings, copied one after the other, are the first part
   pub readings-made : (a b c : List ℕ) (k m : ℕ) → Wrote a 0 (table (L .sections) (λ i. getD (s .section) i 0)) b k
       → Wrote b k (table (L .points) (λ i. getD (s .point) i 0)) c m → Wrote a 0 (readingBytes L s) c m
   unfolding readingBytes reading lies
   readings-made a b c k m p q =
       rw (← table-read (λ x. x) (L .sections) 64 3 (s .section) (w .sections), ← table-read (λ x. x) (L .points) 32 3 (s .point) (w .points)) (wrote-then p q)
 
+  -- signals, routes and lines, written one after the other, are the second part
   pub objects-made : (a b c e shown : List ℕ) (k m i j : ℕ) → shown ≡ table 32 (signalByte (L .routes) (L .route) (s .phase))
       → Wrote a k (table (L .signals) (λ x. getD shown x 0)) b m → Wrote b m (table (L .routes) (λ r. routeByte (getD (s .phase) r 0))) c i
       → Wrote c i (table (L .lines) (λ l. getD (s .direction) l 0)) e j → Wrote a k (objectBytes L s) e j
@@ -62,10 +64,12 @@ module _ (L : Layout) (s : State) (w : Within L) where
 -- ---- the places after them
 
 module _ (L : Layout) (s : State) {a b : List ℕ} {k m : ℕ} where
+  -- after the first part: a byte for each section and point
   pub readings-next : Wrote a k (readingBytes L s) b m → m ≡ k + (L .sections + L .points)
   unfolding readingBytes
   readings-next p = p .place ∙ ap (λ w. k + w) (simp (length-append, length-table))
 
+  -- after the second part: a byte for each signal, route and line
   pub objects-next : Wrote a k (objectBytes L s) b m → m ≡ k + (L .signals + L .routes + L .lines)
   unfolding objectBytes
   objects-next p = p .place ∙ ap (λ w. k + w) (simp (length-append, length-table))
@@ -77,6 +81,7 @@ image-parts : (L : Layout) (s : State) → readingBytes L s ++ objectBytes L s +
 unfolding image readingBytes objectBytes
 image-parts L s = simp append-assoc
 
+-- the three parts written one after the other, from the first byte on, are the image
 pub image-made : (L : Layout) (s : State) (a b c e : List ℕ) (k m n : ℕ) → Wrote a 0 (readingBytes L s) b k → Wrote b k (objectBytes L s) c m
     → Wrote c m (join (L .lines) (lineBytes (L .line) (s .direction) (s .point) (s .stage) (s .bar))) e n → e ≡ sets a 0 (image L s)
 image-made L s a b c e k m n p q r = wrote-then (wrote-then p q) r .buffer ∙ ap (λ xs. sets a 0 xs) (image-parts L s)

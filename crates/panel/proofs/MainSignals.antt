@@ -68,24 +68,28 @@ module _ (n : ℕ) (rs : List Route) (phases : List ℕ) where
   unfoldable pub Lit : List ℕ → ℕ → Type 0
   Lit shown r = (length shown ≡ 32) × ((x : ℕ) → x < 32 → getD shown x 0 ≡ from r x)
 
+  -- at first each shows 20: from n on there is no route
   pub lit-start : Lit (replicate 32 20) n
   unfolding Lit
   lit-start = (length-replicate {A = ℕ} 32 20, λ x b. getD-replicate {A = ℕ} 32 x 20 0 b ∙ sym (from-last x))
 
-  -- where route r is not in phase 1, or starts at another signal, it does not put signal x to proceed
+  -- a route that is not in phase 1 puts no signal to proceed
   not-in-phase : (r x : ℕ) → r < 48 → (getD phases r 0 ≡ 1 → ⊥) → starts x r ≡ false
   unfolding routeProceeds _and_ read if_then_else_
   not-in-phase r x b e = rw (lt-ltb r 48 b, ne-eqb (getD phases r 0) 1 e)
 
+  -- a route that starts at another signal does not put signal x to proceed
   not-there : (r x : ℕ) → (route rs r .entry ≡ x → ⊥) → starts x r ≡ false
   unfolding routeProceeds _and_
   not-there r x e = rw (ne-eqb (route rs r .entry) x e) (and-none (eqb (read 48 0 phases r) 1))
 
+  -- a route in phase 1 that starts at signal x does
   there : (r x : ℕ) → r < 48 → getD phases r 0 ≡ 1 → route rs r .entry ≡ x → starts x r ≡ true
   unfolding routeProceeds _and_ read if_then_else_
   there r x b e q = rw (lt-ltb r 48 b, eq-eqb (getD phases r 0) 1 e, eq-eqb (route rs r .entry) x q)
 
   module _ (shown : List ℕ) (r : ℕ) (h : Lit shown r) (some : 0 < r) (last : r ≤ n) (few : n ≤ 48) where
+    -- a signal that route r - 1 does not put to proceed shows already what the routes from there on say
     kept : (x : ℕ) → x < 32 → starts x (r - 1) ≡ false → getD shown x 0 ≡ from (r - 1) x
     unfolding Lit
     kept x b e =
@@ -110,12 +114,15 @@ module _ (n : ℕ) (rs : List Route) (phases : List ℕ) where
     unfolding Lit route
     lit-on d v q e b f = (length-set shown y v ∙ h .0, λ x g. go x (ℕ-discrete x y) g)
       where
+        -- the signal that it starts at
         y : ℕ
         y = getD rs (r - 1) d .entry
 
+        -- the route that the code reads is the layout's
         same : getD rs (r - 1) d ≡ getD rs (r - 1) noRoute
         same = read-in rs (r - 1) 48 d noRoute q (omega arith)
 
+        -- that signal shows the route's byte, and each other what it showed
         go : (x : ℕ) → Dec (x ≡ y) → x < 32 → getD (set shown y v) x 0 ≡ from (r - 1) x
         go x (yes z) g =
             ap (λ k. getD (set shown y v) k 0) z ∙ getD-set-same shown y v 0 (omega (arith, h .0)) ∙ f ∙ ap proceedByte same
@@ -123,6 +130,7 @@ module _ (n : ℕ) (rs : List Route) (phases : List ℕ) where
         go x (no z) g =
             getD-set-other shown y x v 0 z ∙ kept x g (not-there (r - 1) x (λ w. z (sym w ∙ ap (λ (a : Route). a .entry) (sym same))))
 
+  -- from the first route on it is the table of what the signals show: signal by signal
   pub lit-end : (shown : List ℕ) (r : ℕ) → Lit shown r → r ≤ 0 → shown ≡ table 32 (signalByte n rs phases)
   unfolding Lit from signalByte shownBy lowest
   lit-end shown r h z =
@@ -133,4 +141,5 @@ module _ (n : ℕ) (rs : List Route) (phases : List ℕ) where
       h .1 x (omega arith) ∙ ap (λ k. byteOf n rs (lowestFrom (n - k) k (starts x))) first
       ∙ ap (λ k. byteOf n rs (lowestFrom k 0 (starts x))) whole ∙ sym (table-at 32 (signalByte n rs phases) 0 x (omega arith)))
 
+-- for the loop over the routes
 pub ruleset lights = (needs, length-mapped, lit-start, lit-idle, lit-past, lit-on, lit-end)

@@ -42,6 +42,7 @@ pub first-last : (x r : Refusal) → r ≡ x → r ≡ firstOf (x ∷ [])
 unfolding firstOf
 first-last x r q = q
 
+-- for a chain of reasons, left at the first that is given
 pub ruleset firsts = (needs, first-here, first-next, first-last)
 
 -- ---- 7 and 8, by the lowest section that does not read free
@@ -102,6 +103,7 @@ module _ (ls : List Line) (table : List ℕ) (l g : ℕ) (r : Refusal) (b : Line
 
 -- ---- past the last line there is no block
 
+-- there the line is one of nothing, with no blocks
 pub no-block : (L : Layout) (l i : ℕ) → length (L .line) ≡ 8 → 8 ≤ l → true ≡ leb (lineIn L l .blocks) i
 unfolding lineIn line noLine
 no-block L l i e h = sym (le-leb 0 i (omega arith)) ∙ ap (λ (b : Line). leb (b .blocks) i) (read-past (L .line) l 8 noLine noLine e h refl)

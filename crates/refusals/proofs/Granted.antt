@@ -55,6 +55,7 @@ module _ (isSound : Bool) (L : Layout) (k a b : ℕ) (e : eventRefusal isSound L
   unfolding eventRefusal
   granted-kind = not-false (between 1 10 k) (when-granted _ 1 0 (omega arith) (granted-at _ e 1))
 
+  -- so it is at most 10
   pub granted-most : k ≤ 10
   unfolding between
   granted-most = leb-true k 10 (and-right _ _ granted-kind)

@@ -17,10 +17,12 @@ use Rattle.sets.proofs.Sets.{holds-setOf}
 unfoldable pub Apart : ℕ → List ℕ → ℕ → ℕ → Type 0
 Apart n xs set i = Held n (λ k. not (among k xs (getD xs k 0))) i × (set ≡ setOf i xs)
 
+-- before the first entry the set is empty
 pub apart-start : (n : ℕ) (xs : List ℕ) → Apart n xs 0 0
 unfolding Apart setOf iter
 apart-start n xs = (held-start n _, refl)
 
+-- nothing is left: all differ
 pub apart-done : (n : ℕ) (xs : List ℕ) (set i : ℕ) → Apart n xs set i → n ≤ i → true ≡ differ n xs
 unfolding Apart differ
 apart-done n xs set i h l = all-done n _ i (h .0) l
@@ -32,13 +34,16 @@ module _ (n : ℕ) (xs : List ℕ) (set i x : ℕ) (b : Bool) (h : Apart n xs se
   unfolding Apart among
   seen = k ∙ ap (λ s. holds s x) (h .1) ∙ holds-setOf i xs x p ∙ ap (among i xs) (lent-at xs i 8 x e q)
 
+  -- the entry is in the set: it is one of those before, and not all differ
   pub apart-stops : b ≡ true → false ≡ differ n xs
   unfolding Apart differ
   apart-stops t = all-stops n _ i (h .0) l (ap not seen) (ap (λ v. not (not v)) t)
 
+  -- it is not: one entry more, and it joins the set
   pub apart-on : (s : ℕ) → b ≡ false → s ≡ joined set x → Apart n xs s (i + 1)
   unfolding Apart setOf iter addEntry
   apart-on s t d =
       (held-on n _ i (h .0) l (ap not seen) (ap (λ v. not (not v)) t), d ∙ ap₂ joined (h .1) (lent-at xs i 8 x e q) ∙ ap (λ m. setOf m xs) (sym (add-one i)))
 
+-- for the loop that tests a list by the set of what it has seen
 pub ruleset aparts = (needs, apart-start, apart-done, apart-stops, apart-on)

@@ -18,27 +18,31 @@ use Rattle.sets.specs.Sets.{joined}
 use Rattle.rules.specs.Rules.{hasEntrance, endSection}
 use Rattle.rules.specs.Sets.{sideWith}
 
--- the last section of a path: of one with no section it is the first entry
+-- the last section of a path with none is the first entry
 pub last-none : (a : Route) (r : ℕ) → a .paths ≡ 0 → r ≡ getD (a .path) 0 0 → r ≡ endSection a
 unfolding endSection
 last-none a r e q = q ∙ ap (λ k. getD (a .path) k 0) (omega arith)
 
+-- of any other it is the entry before the count's end
 pub last-there : (a : Route) (r : ℕ) → r ≡ getD (a .path) (a .paths - 1) 0 → r ≡ endSection a
 unfolding endSection
 last-there a r q = q
 
--- a point that lies that way, and one that does not
+-- the i-th point of a route, by the position that the code reads
 module _ (w : ℕ) (ps ws : List ℕ) (i set r at : ℕ) (e : at ≡ read 8 0 ws i) (n : length ws ≡ 8) where
+  -- it lies that way: it joins the set
   pub side-that : (x : ℕ) → at ≡ w → x ≡ read 8 0 ps i → length ps ≡ 8 → r ≡ joined set x → r ≡ sideWith w ps ws i set
   unfolding sideWith
   side-that x h d m q = if-eq (getD ws i 0) w _ _ r (sym (lent-at ws i 8 at e n) ∙ h) (q ∙ ap (joined set) (lent-at ps i 8 x d m))
 
+  -- it does not: the set stays
   pub side-other : (at ≡ w → ⊥) → r ≡ set → r ≡ sideWith w ps ws i set
   unfolding sideWith
   side-other h q = if-ne (getD ws i 0) w _ _ r (λ z. h (lent-at ws i 8 at e n ∙ z)) q
 
--- an entrance signal of line l, as the code reads the array of lines
+-- whether x is an entrance signal of line l, as the code reads the array of lines
 module _ (ls : List Line) (l x : ℕ) (n : length ls ≡ 8) where
+  -- up to the eighth the line that stands there is asked
   pub entrance-here : (d : Line) (v : Bool) → l < 8 → v ≡ eqb (getD ls l d .entrancea) x or eqb (getD ls l d .entranceb) x → v ≡ hasEntrance ls x l
   unfolding hasEntrance line
   entrance-here d v b e = e ∙ ap (λ (a : Line). eqb (a .entrancea) x or eqb (a .entranceb) x) (read-in ls l 8 d noLine n b)
@@ -48,10 +52,12 @@ module _ (ls : List Line) (l x : ℕ) (n : length ls ≡ 8) where
   unfolding hasEntrance line noLine
   entrance-past b = ap (λ (a : Line). eqb (a .entrancea) x or eqb (a .entranceb) x) (sym (read-past ls l 8 noLine noLine n b refl))
 
+  -- so there x is one where it is 0
   pub entrance-nought : 8 ≤ l → x ≡ 0 → true ≡ hasEntrance ls x l
   unfolding _or_
   entrance-nought b e = sym (entrance-past b ∙ ap (λ t. t or t) (eq-eqb 0 x (sym e)))
 
+  -- and is none where it is not
   pub entrance-none : 8 ≤ l → (x ≡ 0 → ⊥) → false ≡ hasEntrance ls x l
   unfolding _or_
   entrance-none b e = sym (entrance-past b ∙ ap (λ t. t or t) (ne-eqb 0 x (λ z. e (sym z))))

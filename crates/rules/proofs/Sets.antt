@@ -24,6 +24,7 @@ pub common-is : (a b : ℕ) (p q : ℕ → Bool) → ((g : ℕ) → g < 64 → h
 unfolding common share
 common-is a b p q f h = any-same 64 _ _ (λ g l. rw (f g l, h g l))
 
+-- of three tests one holds, whichever two are taken together first
 or-regroup : (a b c : Bool) → a or b or c ≡ a or (b or c)
 unfolding _or_
 or-regroup true b c = refl
@@ -49,11 +50,12 @@ holds-innerSet (suc n) ls g l =
     ∙ or-regroup (holds (innerSet n ls) g) _ _
     ∙ ap (λ t. t or (eqb (line ls n .innera) g or eqb (line ls n .innerb) g)) (holds-innerSet n ls g l)
 
--- a list's
+-- the sections of a path
 pub holds-path : (a : Route) (g : ℕ) → g < 64 → holds (setOf (a .paths) (a .path)) g ≡ inPath a g
 unfolding inPath among
 holds-path a g l = holds-setOf (a .paths) (a .path) g l
 
+-- the blocks of a line
 pub holds-blocks : (ls : List Line) (l g : ℕ) → g < 64 → holds (setOf (line ls l .blocks) (line ls l .block)) g ≡ hasBlock ls g l
 unfolding hasBlock among
 holds-blocks ls l g b = holds-setOf (line ls l .blocks) (line ls l .block) g b
@@ -64,10 +66,12 @@ unfolding if_then_else_ _and_ _or_
 side-more set x g true l = holds-joined set x g l
 side-more set x g false l = or-none (holds set g)
   where
+    -- with a test that fails, one of the two holds where the first does
     or-none : (b : Bool) → b ≡ b or false
     or-none true = refl
     or-none false = refl
 
+-- after n points the set holds those of them that lie that way: point by point
 sides : (w : ℕ) (a : Route) (n g : ℕ) → g < 64
     → holds (iter (sideWith w (a .point) (a .position)) n 0) g ≡ any n (λ i. eqb (getD (a .position) i 0) w and eqb (getD (a .point) i 0) g)
 unfolding iter sideWith any _or_

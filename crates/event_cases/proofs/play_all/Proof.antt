@@ -1,11 +1,13 @@
--- The turns fall.
+-- A turn for each entry, up to 65,536 of them.
 use borrow.Author.Needs.{needs}
 use Rattle.event_cases.proofs.play_all.Statement.{statement}
 use Rattle.event_cases.proofs.play_all.Tie as tie
 
+-- nothing has to be kept
 abbrev Inv-loop : tie.InvT-loop
 Inv-loop archive layout₀ at₀ turns₀ layout at turns = Unit {0}
 
+-- the turns left
 abbrev μ-loop : tie.MeasureT-loop
 μ-loop archive layout₀ at₀ turns₀ layout at turns = turns
 

@@ -1,16 +1,19 @@
--- The turns fall, and the buffers keep their lengths.
+-- A turn for each piece of the file, from a number of turns that no file uses up.
 use mathlib.Core.Path.{_≡_, refl}
 use borrow.Author.Needs.{needs}
 use lib.ListN.{length}
 use Rattle.events.proofs.walk_all.Statement.{statement}
 use Rattle.events.proofs.walk_all.Tie as tie
 
+-- the buffers keep their lengths
 abbrev Inv-loop : tie.InvT-loop
 Inv-loop fd panel layout n buf₀ out₀ w₀ turns₀ buf out w turns = (length buf ≡ length buf₀) × (length out ≡ length out₀)
 
+-- the turns left
 abbrev μ-loop : tie.MeasureT-loop
 μ-loop fd panel layout n buf₀ out₀ w₀ turns₀ buf out w turns = turns
 
+-- a turn changes the length of neither
 loop-again : tie.Need-loop-again Inv-loop μ-loop
 loop-again c = (search needs, search needs)
 

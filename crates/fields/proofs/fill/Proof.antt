@@ -1,13 +1,15 @@
--- i numbers are read.
+-- A turn for each number that the count says.
 use Prim.Native.Nat.{_-_}
 use Rattle.fields.specs.Lists.{itemTurn}
 use Rattle.laws.proofs.Loops.{Turned, iters}
 use Rattle.fields.proofs.fill.Statement.{statement}
 use Rattle.fields.proofs.fill.Tie as tie
 
+-- i numbers are read
 abbrev Inv-loop : tie.InvT-loop
 Inv-loop s objects n u₀ i₀ u i = Turned n (itemTurn s objects) u₀ u i
 
+-- the numbers left
 abbrev μ-loop : tie.MeasureT-loop
 μ-loop s objects n u₀ i₀ u i = n - i
 

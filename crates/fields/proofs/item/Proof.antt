@@ -1,4 +1,4 @@
--- One read and one store.
+-- The number is read, then stored at its place in the list.
 use borrow.Author.Needs.{needs}
 use Rattle.fields.specs.Lists.{itemTurn}
 use Rattle.fields.proofs.item.Statement.{statement}

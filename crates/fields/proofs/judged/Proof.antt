@@ -1,4 +1,4 @@
--- Each return is a case of what was read.
+-- Below the range, in it, above it, or the number form's own fault: each return is one of these.
 use Rattle.fields.proofs.Laws.{judges}
 use Rattle.fields.proofs.judged.Statement.{statement}
 use Rattle.fields.proofs.judged.Tie as tie

@@ -1,4 +1,4 @@
--- Two reads and two stores.
+-- The point is read, then its position, and each is stored at its place in its list.
 use borrow.Author.Needs.{needs}
 use Rattle.fields.specs.Lists.{pointTurn}
 use Rattle.fields.proofs.place.Statement.{statement}

@@ -1,4 +1,4 @@
--- Past the eighth entry nothing is stored.
+-- Within the list x is stored; past the eighth entry nothing is.
 use borrow.Author.Needs.{needs}
 use Rattle.fields.proofs.Laws.{put-past}
 use Rattle.fields.proofs.put8.Statement.{statement}

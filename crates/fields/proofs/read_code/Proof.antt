@@ -1,4 +1,4 @@
--- The next number, held to its range.
+-- The next number, from low to just below the number after high.
 use borrow.Author.Needs.{needs}
 use Rattle.fields.specs.Fields.{code}
 use Rattle.fields.proofs.read_code.Statement.{statement}

@@ -1,4 +1,4 @@
--- The count, then the turns.
+-- The count is read, then as many numbers.
 use borrow.Author.Needs.{needs}
 use Rattle.fields.specs.Lists.{items}
 use Rattle.fields.proofs.read_items.Statement.{statement}

@@ -1,4 +1,4 @@
--- The count, then the turns.
+-- The count is read, then as many points with positions.
 use borrow.Author.Needs.{needs}
 use Rattle.fields.specs.Lists.{points}
 use Rattle.fields.proofs.read_points.Statement.{statement}

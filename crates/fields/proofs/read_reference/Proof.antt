@@ -1,4 +1,4 @@
--- The next number, held to the objects that there are.
+-- The next number, held to below the number of objects.
 use borrow.Author.Needs.{needs}
 use Rattle.fields.specs.Fields.{reference}
 use Rattle.fields.proofs.read_reference.Statement.{statement}

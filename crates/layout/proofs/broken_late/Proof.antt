@@ -1,4 +1,4 @@
--- Each return is the number of the first that fails.
+-- Each walk tests its rule, and each return is the number of the first that fails.
 use Rattle.laws.proofs.Choice.{chains}
 use Rattle.layout.proofs.Tested.{rule4-by, rule5-by, rule6-by}
 use Rattle.layout.specs.Rules.{firstFailed}

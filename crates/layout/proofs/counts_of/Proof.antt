@@ -1,4 +1,4 @@
--- The record itself.
+-- Field by field.
 use mathlib.Core.Path.{refl}
 use Rattle.layout.specs.Layout.{counts}
 use Rattle.layout.proofs.counts_of.Statement.{statement}

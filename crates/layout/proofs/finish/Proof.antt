@@ -1,4 +1,4 @@
--- Each return is a case of the answer.
+-- A fault, bytes left over, a broken rule, or the layout: each return is one of these.
 use Rattle.layout.proofs.Laws.{endings}
 use Rattle.layout.proofs.finish.Statement.{statement}
 use Rattle.layout.proofs.finish.Tie as tie

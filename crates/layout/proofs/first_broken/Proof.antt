@@ -1,4 +1,4 @@
--- Of the first three, else of the last three.
+-- The first broken one of the first three rules, else that of the last three.
 use borrow.Author.Needs.{needs}
 use Rattle.layout.proofs.Laws.{broken-first, broken-last}
 use Rattle.layout.proofs.first_broken.Statement.{statement}

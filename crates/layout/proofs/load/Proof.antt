@@ -1,4 +1,4 @@
--- What was read, held to its end.
+-- The whole is read, has at most 48 routes, and is held to its end and to the rules.
 use borrow.Author.Needs.{needs}
 use Rattle.layout.proofs.Laws.{whole-few}
 use Rattle.layout.specs.Load.{load}

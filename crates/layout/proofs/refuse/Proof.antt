@@ -1,4 +1,4 @@
--- With the layout with no objects.
+-- The number and the detail, with the layout with no objects.
 use borrow.Author.Needs.{needs}
 use Rattle.layout.specs.Load.{refused}
 use Rattle.layout.proofs.refuse.Statement.{statement}

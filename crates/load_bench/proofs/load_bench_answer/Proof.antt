@@ -1,3 +1,4 @@
+-- The file is loaded, a section of the layout is looked up, and the three are packed.
 use borrow.Author.Needs.{needs}
 use Rattle.load_bench.proofs.load_bench_answer.Statement.{statement}
 use Rattle.load_bench.proofs.load_bench_answer.Tie as tie

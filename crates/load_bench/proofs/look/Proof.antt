@@ -1,4 +1,4 @@
--- The route, then its overlap.
+-- The route is looked up, then the entry of its overlap.
 use borrow.Author.Needs.{needs}
 use Rattle.load_bench.proofs.look.Statement.{statement}
 use Rattle.load_bench.proofs.look.Tie as tie

@@ -1,4 +1,4 @@
--- `groups` meets its contract, by the bytes that are left.
+-- A last byte is the number; any other is joined with the number in the bytes after it, of which one less may be taken.
 use Prim.Native.Nat.{ℕ, _<_}
 use mathlib.Core.Path.{sym, _∙_}
 use borrow.Author.Needs.{needs}

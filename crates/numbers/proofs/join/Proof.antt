@@ -1,4 +1,4 @@
--- `join` meets its contract.
+-- 0 in the groups after a group is a fault; any other number there is below 2 to the 56th, so the sum fits.
 use borrow.Author.Needs.{needs}
 use native.Mathlib.Omega.{arith}
 use Rattle.numbers.proofs.Cases.{cases}

@@ -1,4 +1,4 @@
--- `limited` meets its contract.
+-- A number is held to the limit, and a fault stays.
 use borrow.Author.Needs.{needs}
 use Rattle.numbers.proofs.Cases.{cases}
 use Rattle.numbers.proofs.limited.Statement.{statement}

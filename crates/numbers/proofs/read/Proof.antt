@@ -1,4 +1,4 @@
--- `read` meets its contract.
+-- A byte below 128 is the whole number; any other is read group by group.
 use borrow.Author.Needs.{needs}
 use Rattle.numbers.proofs.Cases.{cases}
 use Rattle.numbers.proofs.read.Statement.{statement}

@@ -1,4 +1,4 @@
--- `read_groups` meets its contract.
+-- The groups are read, then held to the largest.
 use borrow.Author.Needs.{needs}
 use Rattle.numbers.specs.Number.{numberAt}
 use Rattle.numbers.proofs.read_groups.Statement.{statement}

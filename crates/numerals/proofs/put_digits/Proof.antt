@@ -1,4 +1,4 @@
--- No room, or the digits.
+-- Nothing is written where there is no room, else the digits.
 use native.Mathlib.Omega.{arith}
 use Rattle.numerals.proofs.Numerals.{numerals, put-no-room, put-room}
 use Rattle.numerals.proofs.put_digits.Statement.{statement}

@@ -1,4 +1,4 @@
--- The words are of one length, and each byte before i was compared.
+-- The words are of one length, and the first byte that differs ends it.
 use Prim.Native.Nat.{_-_, _≤_}
 use mathlib.Core.Path.{_≡_}
 use borrow.Author.Needs.{needs}
@@ -6,9 +6,11 @@ use lib.ListN.{length}
 use Rattle.packed.proofs.is_word.Statement.{statement}
 use Rattle.packed.proofs.is_word.Tie as tie
 
+-- the next place is within both words, or at their end
 abbrev Inv-loop : tie.InvT-loop
 Inv-loop word known i₀ i = (i ≤ length known) × (length word ≡ length known)
 
+-- the bytes left
 abbrev μ-loop : tie.MeasureT-loop
 μ-loop word known i₀ i = length known - i
 

@@ -1,4 +1,4 @@
--- Each return is a case of the order.
+-- A fault that stays, a first number not the smaller, a pair not after the last, or one in order: each return is one of these.
 use Rattle.fields.specs.Fields.{failed}
 use Rattle.pairs.proofs.Laws.{orders}
 use Rattle.pairs.proofs.in_order.Statement.{statement}

@@ -1,4 +1,4 @@
--- Each return is a case of what was read.
+-- Too many, a number in range, or the number form's own fault: each return is one of these.
 use Rattle.pairs.proofs.Laws.{counts}
 use Rattle.pairs.proofs.judged_count.Statement.{statement}
 use Rattle.pairs.proofs.judged_count.Tie as tie

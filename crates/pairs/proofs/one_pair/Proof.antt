@@ -1,4 +1,4 @@
--- Two reads, their order and their places.
+-- Both numbers are read, then their order is asked and both places are told.
 use borrow.Author.Needs.{needs}
 use Rattle.pairs.specs.Pairs.{aPair}
 use Rattle.pairs.proofs.one_pair.Statement.{statement}

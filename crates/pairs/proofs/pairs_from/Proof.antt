@@ -1,4 +1,4 @@
--- i pairs are read, and stand in the table at both their places.
+-- A turn for each pair that the count says; both its places lie in the table, whatever was read.
 use Prim.Native.Nat.{_-_}
 use borrow.Author.Needs.{needs}
 use Rattle.laws.proofs.Loops.{Turned, iters}
@@ -7,9 +7,11 @@ use Rattle.pairs.specs.Pairs.{pairTurn}
 use Rattle.pairs.proofs.pairs_from.Statement.{statement}
 use Rattle.pairs.proofs.pairs_from.Tie as tie
 
+-- i pairs are read, and stand in the table at both their places
 abbrev Inv-loop : tie.InvT-loop
 Inv-loop s routes count conflict₀ cur₀ last₀ i₀ conflict cur last i = Turned count (pairTurn s routes) (record { cur = cur₀; last = last₀; conflict = conflict₀ }) (record { cur = cur; last = last; conflict = conflict }) i
 
+-- the pairs left
 abbrev μ-loop : tie.MeasureT-loop
 μ-loop s routes count conflict₀ cur₀ last₀ i₀ conflict cur last i = count - i
 

@@ -1,4 +1,4 @@
--- The sum itself.
+-- The sum itself, which fits.
 use borrow.Author.Needs.{needs}
 use mathlib.Core.Path.{refl}
 use Rattle.pairs.specs.Pairs.{placeOf}

@@ -1,4 +1,4 @@
--- The count, then the turns.
+-- The count is read, then as many pairs, of at most 48 routes.
 use borrow.Author.Needs.{needs}
 use Rattle.pairs.proofs.Laws.{named-few}
 use Rattle.pairs.specs.Pairs.{pairs}

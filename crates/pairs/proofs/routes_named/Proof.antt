@@ -1,4 +1,4 @@
--- By the limit.
+-- Below 48 the number itself, else 48.
 use Rattle.laws.proofs.Choice.{choices}
 use Rattle.pairs.specs.Pairs.{named}
 use Rattle.pairs.proofs.routes_named.Statement.{statement}

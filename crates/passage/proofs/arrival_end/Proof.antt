@@ -1,4 +1,4 @@
--- By the direction.
+-- B in the direction from A to B, else A.
 use Rattle.laws.proofs.Choice.{choices}
 use Rattle.passage.specs.Passage.{arrival}
 use Rattle.passage.proofs.arrival_end.Statement.{statement}

@@ -1,4 +1,4 @@
--- The station's, or the next block's.
+-- Where the station comes next, its inner section; else the next block's section.
 use borrow.Author.Needs.{needs}
 use Rattle.passage.proofs.Laws.{far-station, far-block}
 use Rattle.passage.proofs.far_section.Statement.{statement}

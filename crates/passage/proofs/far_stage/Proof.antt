@@ -1,4 +1,4 @@
--- By the stage, then by the far reading.
+-- Stage 1 and stage 2 ask for the far reading, and every other stays.
 use Rattle.laws.proofs.Choice.{choices}
 use Rattle.laws.specs.Tests.{_and_}
 use Rattle.passage.specs.Passage.{farStage}

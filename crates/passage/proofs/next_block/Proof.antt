@@ -1,4 +1,4 @@
--- By the direction, then by the line's end.
+-- By the direction, and then by whether the line has a block more that way.
 use Rattle.laws.proofs.Choice.{choices}
 use Rattle.passage.proofs.Laws.{next-past}
 use Rattle.passage.specs.Passage.{nextBlock}

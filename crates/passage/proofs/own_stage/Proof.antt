@@ -1,4 +1,4 @@
--- By what is given, then by the stage.
+-- Occupied, none, free or nothing is given, and then the stage decides.
 use Rattle.laws.proofs.Choice.{choices}
 use Rattle.laws.specs.Tests.{_or_}
 use Rattle.passage.specs.Passage.{ownStage}

@@ -1,4 +1,4 @@
--- Two reads.
+-- The line is read, then the end.
 use borrow.Author.Needs.{needs}
 use Rattle.reading.specs.Routes.{anEnd}
 use Rattle.reading.proofs.an_end.Statement.{statement}

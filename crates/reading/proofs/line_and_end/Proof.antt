@@ -1,4 +1,4 @@
--- By the kind.
+-- Nothing is read for kind 0; for any other the line and the end are.
 use Rattle.laws.proofs.Choice.{choices}
 use Rattle.reading.specs.Routes.{lineAndEnd}
 use Rattle.reading.proofs.line_and_end.Statement.{statement}

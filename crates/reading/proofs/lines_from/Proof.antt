@@ -1,4 +1,4 @@
--- i lines are read.
+-- A turn for each line that the count says, which is at most eight.
 use Prim.Native.Nat.{_-_}
 use borrow.Author.Needs.{needs}
 use Rattle.laws.proofs.Arrays.{length-mapped}
@@ -9,9 +9,11 @@ use Rattle.track.specs.Objects.{line}
 use Rattle.reading.proofs.lines_from.Statement.{statement}
 use Rattle.reading.proofs.lines_from.Tie as tie
 
+-- i lines are read
 abbrev Inv-loop : tie.InvT-loop
 Inv-loop s n count line₀ cur₀ i₀ line cur i = Turned count (lineTurn s n) (record { cur = cur₀; count = count; line = line₀ }) (record { cur = cur; count = count; line = line }) i
 
+-- the lines left
 abbrev μ-loop : tie.MeasureT-loop
 μ-loop s n count line₀ cur₀ i₀ line cur i = count - i
 

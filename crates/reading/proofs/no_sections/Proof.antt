@@ -1,4 +1,4 @@
--- Nothing anywhere.
+-- The code and the definition are the same 32 zeros.
 use mathlib.Core.Path.{refl}
 use Rattle.reading.specs.Sections.{noSections}
 use Rattle.reading.proofs.no_sections.Statement.{statement}

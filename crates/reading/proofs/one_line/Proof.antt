@@ -1,4 +1,4 @@
--- Its six reads.
+-- Each part is read after the one before it, and the six make the line.
 use borrow.Author.Needs.{needs}
 use Rattle.reading.proofs.Laws.{line-made}
 use Rattle.reading.proofs.one_line.Statement.{statement}

@@ -1,4 +1,4 @@
--- Its four reads.
+-- Each part is read after the one before it, and the four make the route.
 use borrow.Author.Needs.{needs}
 use Rattle.reading.specs.Routes.{aRoute}
 use Rattle.reading.proofs.one_route.Statement.{statement}

@@ -1,4 +1,4 @@
--- One read and one store.
+-- The section is read, then stored at the point's place.
 use borrow.Author.Needs.{needs}
 use Rattle.reading.specs.Sections.{sectionTurn}
 use Rattle.reading.proofs.own.Statement.{statement}

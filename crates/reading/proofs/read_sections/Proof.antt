@@ -1,4 +1,4 @@
--- The count, then the turns.
+-- The count is read, and as it is at most 32, as many sections fit.
 use borrow.Author.Needs.{needs}
 use Rattle.fields.proofs.Ranges.{code-most}
 use Rattle.reading.specs.Sections.{sections}

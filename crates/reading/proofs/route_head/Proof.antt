@@ -1,4 +1,4 @@
--- Its four reads.
+-- Each number is read after the one before it, and they make the head.
 use borrow.Author.Needs.{needs}
 use Rattle.reading.specs.Routes.{routeHead}
 use Rattle.reading.proofs.route_head.Statement.{statement}

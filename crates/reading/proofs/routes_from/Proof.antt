@@ -1,4 +1,4 @@
--- i routes are read.
+-- A turn for each route that the count says, which is at most 48.
 use Prim.Native.Nat.{_-_}
 use borrow.Author.Needs.{needs}
 use Rattle.laws.proofs.Arrays.{length-mapped}
@@ -9,9 +9,11 @@ use Rattle.track.specs.Objects.{route}
 use Rattle.reading.proofs.routes_from.Statement.{statement}
 use Rattle.reading.proofs.routes_from.Tie as tie
 
+-- i routes are read
 abbrev Inv-loop : tie.InvT-loop
 Inv-loop s n count route₀ cur₀ i₀ route cur i = Turned count (routeTurn s n) (record { cur = cur₀; count = count; route = route₀ }) (record { cur = cur; count = count; route = route }) i
 
+-- the routes left
 abbrev μ-loop : tie.MeasureT-loop
 μ-loop s n count route₀ cur₀ i₀ route cur i = count - i
 

@@ -1,4 +1,4 @@
--- The test itself, on the phase read.
+-- The phase is read, and refused where it is cancelling.
 use borrow.Author.Needs.{needs}
 use Rattle.reasons.proofs.already_cancelling.Statement.{statement}
 use Rattle.reasons.proofs.already_cancelling.Tie as tie

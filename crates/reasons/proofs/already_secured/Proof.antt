@@ -1,4 +1,4 @@
--- The test itself, on the direction read.
+-- The direction is read, refused where it is not neutral, and is the detail.
 use borrow.Author.Needs.{needs}
 use Rattle.reasons.proofs.already_secured.Statement.{statement}
 use Rattle.reasons.proofs.already_secured.Tie as tie

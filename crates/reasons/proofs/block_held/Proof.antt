@@ -1,4 +1,4 @@
--- What the search finds.
+-- The search by the table of stages finds the lowest section, which is the detail.
 use borrow.Author.Needs.{needs}
 use Rattle.reasons.proofs.Laws.{held-found}
 use Rattle.reasons.proofs.block_held.Statement.{statement}

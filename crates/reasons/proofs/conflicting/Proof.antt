@@ -1,4 +1,4 @@
--- What the search finds.
+-- The search by the table of conflicts finds the lowest such route, which is the detail.
 use borrow.Author.Needs.{needs}
 use Rattle.laws.proofs.Arrays.{length-mapped}
 use Rattle.reasons.proofs.Laws.{conflict-found}

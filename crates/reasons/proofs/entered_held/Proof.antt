@@ -1,4 +1,4 @@
--- The test itself, on the block nearest the route's end.
+-- The block nearest the route's end is looked up, and refused where it is held; its section is the detail.
 use borrow.Author.Needs.{needs}
 use Rattle.reasons.proofs.entered_held.Statement.{statement}
 use Rattle.reasons.proofs.entered_held.Tie as tie

@@ -1,4 +1,4 @@
--- Of the set of its list.
+-- The sections asked for are the set of the line's blocks.
 use borrow.Author.Needs.{needs}
 use Rattle.reasons.proofs.line_not_free.Statement.{statement}
 use Rattle.reasons.proofs.line_not_free.Tie as tie

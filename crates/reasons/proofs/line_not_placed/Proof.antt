@@ -1,4 +1,4 @@
--- Its own list.
+-- The points asked for are the line's own.
 use borrow.Author.Needs.{needs}
 use Rattle.reasons.proofs.line_not_placed.Statement.{statement}
 use Rattle.reasons.proofs.line_not_placed.Tie as tie

@@ -1,4 +1,4 @@
--- The record itself.
+-- Field by field.
 use mathlib.Core.Path.{refl}
 use Rattle.reasons.specs.Refusal.{refused, noRefusal}
 use Rattle.reasons.proofs.no_refusal.Statement.{statement}

@@ -1,4 +1,4 @@
--- By the lowest section that does not read free.
+-- The lowest section asked for that does not read free decides: with none nothing is refused, occupied gives 7, else 8.
 use borrow.Author.Needs.{needs}
 use Rattle.reasons.proofs.Laws.{free-all, free-occupied, free-none}
 use Rattle.reasons.proofs.not_free.Statement.{statement}

@@ -1,4 +1,4 @@
--- The test itself, on the direction read.
+-- The direction is read, and refused where it is not the one in which a train leaves that end.
 use borrow.Author.Needs.{needs}
 use Rattle.reasons.proofs.not_secured.Statement.{statement}
 use Rattle.reasons.proofs.not_secured.Tie as tie

@@ -1,4 +1,4 @@
--- Of the set of that one.
+-- The section asked for is the point's own, a set of one.
 use borrow.Author.Needs.{needs}
 use Rattle.reasons.proofs.point_not_free.Statement.{statement}
 use Rattle.reasons.proofs.point_not_free.Tie as tie

@@ -1,4 +1,4 @@
--- The record itself.
+-- Field by field.
 use mathlib.Core.Path.{refl}
 use Rattle.reasons.specs.Refusal.{refused}
 use Rattle.reasons.proofs.refuse.Statement.{statement}

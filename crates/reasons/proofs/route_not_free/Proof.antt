@@ -1,4 +1,4 @@
--- Of the set of both lists.
+-- The sections asked for are the set of the path and of the overlap.
 use borrow.Author.Needs.{needs}
 use Rattle.reasons.proofs.route_not_free.Statement.{statement}
 use Rattle.reasons.proofs.route_not_free.Tie as tie

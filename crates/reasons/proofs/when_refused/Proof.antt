@@ -1,4 +1,4 @@
--- By the test.
+-- A refusal where the test holds, else none.
 use Rattle.laws.proofs.Choice.{choices}
 use Rattle.reasons.specs.Refusal.{when}
 use Rattle.reasons.proofs.when_refused.Statement.{statement}

@@ -1,4 +1,4 @@
--- One reason after the other.
+-- 13, 14: the first that is given is the answer.
 use Rattle.reasons.proofs.Laws.{firsts}
 use Rattle.refusals.specs.Orders.{cancelRefusal}
 use Rattle.refusals.proofs.cancel_refusal.Statement.{statement}

@@ -1,4 +1,4 @@
--- One reason after the other.
+-- 18, 1, 2, 3: the first that is given is the answer.
 use Rattle.reasons.proofs.Laws.{firsts}
 use Rattle.refusals.specs.Events.{eventRefusal}
 use Rattle.refusals.proofs.event_refusal.Statement.{statement}

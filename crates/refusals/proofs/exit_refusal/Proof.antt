@@ -1,4 +1,4 @@
--- By the kind, then one reason after the other.
+-- Nothing for another kind; for an exit route 9, 6, 11, 10: the first that is given is the answer.
 use Rattle.laws.proofs.Choice.{if-eq, choices}
 use Rattle.reasons.proofs.Laws.{firsts}
 use Rattle.refusals.specs.Orders.{exitRefusal}

@@ -1,4 +1,4 @@
--- One reason after the other.
+-- 17, then 7 or 8: the first that is given is the answer.
 use Rattle.reasons.proofs.Laws.{firsts}
 use Rattle.refusals.specs.Orders.{manualRefusal}
 use Rattle.refusals.proofs.manual_refusal.Statement.{statement}

@@ -1,4 +1,4 @@
--- One reason after the other.
+-- 6, 7 or 8, then what an exit route asks besides: the first that is given is the answer.
 use Rattle.reasons.proofs.Laws.{firsts}
 use Rattle.refusals.specs.Orders.{routeRefusal}
 use Rattle.refusals.proofs.route_refusal.Statement.{statement}

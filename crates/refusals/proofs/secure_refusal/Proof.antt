@@ -1,4 +1,4 @@
--- One reason after the other.
+-- 12, 11, 6, 10: the first that is given is the answer.
 use Rattle.reasons.proofs.Laws.{firsts}
 use Rattle.refusals.specs.Orders.{secureRefusal}
 use Rattle.refusals.proofs.secure_refusal.Statement.{statement}

@@ -1,4 +1,4 @@
--- One reason after the other, the last of the route that the layout has.
+-- 4, 5, then what is refused of the route that the layout has: the first that is given is the answer.
 use Rattle.reasons.proofs.Laws.{firsts}
 use Rattle.refusals.specs.Orders.{setRefusal}
 use Rattle.refusals.proofs.Laws.{refused-of}

@@ -1,4 +1,4 @@
--- One reason after the other.
+-- 15, 16, then 7 or 8: the first that is given is the answer.
 use Rattle.reasons.proofs.Laws.{firsts}
 use Rattle.refusals.specs.Orders.{throwRefusal}
 use Rattle.refusals.proofs.throw_refusal.Statement.{statement}

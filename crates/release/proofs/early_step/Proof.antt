@@ -1,4 +1,4 @@
--- By the step, then by what is given and read.
+-- After step 1 what the first reads and the second is given decides; else what the first is given.
 use Rattle.laws.proofs.Choice.{choices}
 use Rattle.laws.specs.Tests.{_and_}
 use Rattle.release.specs.Release.{earlyStep}

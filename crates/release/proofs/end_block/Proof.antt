@@ -1,4 +1,4 @@
--- Of the route's line, at its own end.
+-- The line is looked up, and its block nearest the route's own end.
 use borrow.Author.Needs.{needs}
 use Rattle.release.specs.Release.{endBlock}
 use Rattle.release.proofs.end_block.Statement.{statement}

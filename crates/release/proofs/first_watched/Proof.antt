@@ -1,4 +1,4 @@
--- By the kind.
+-- For an exit route the last path section, for any other the last but one.
 use Rattle.laws.proofs.Choice.{choices}
 use Rattle.release.specs.Release.{firstWatched}
 use Rattle.release.proofs.first_watched.Statement.{statement}

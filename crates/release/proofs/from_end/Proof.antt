@@ -1,4 +1,4 @@
--- Counted from the end.
+-- Counted from the end; of a path with fewer sections the first entry.
 use borrow.Author.Needs.{needs}
 use Rattle.release.proofs.Laws.{from-short}
 use Rattle.release.proofs.from_end.Statement.{statement}

@@ -1,4 +1,4 @@
--- By the section.
+-- The reading, where the event gives that section one, else 0.
 use Rattle.laws.proofs.Choice.{choices}
 use Rattle.release.specs.Release.{given}
 use Rattle.release.proofs.given_to.Statement.{statement}

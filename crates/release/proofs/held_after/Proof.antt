@@ -1,4 +1,4 @@
--- By whether it goes.
+-- A route that goes holds nothing, and one that stays has its step and its seconds.
 use borrow.Author.Needs.{needs}
 use Rattle.release.proofs.Laws.{held-gone, held-stays}
 use Rattle.release.proofs.held_after.Statement.{statement}

@@ -1,4 +1,4 @@
--- By the seconds, then by the step.
+-- The 90th second releases it; else, the third step done, that it is vacated.
 use borrow.Author.Needs.{needs}
 use Rattle.laws.specs.Tests.{_and_}
 use Rattle.release.proofs.Laws.{goes-by-time, goes-vacated, goes-not}

@@ -1,4 +1,4 @@
--- Path, then end.
+-- Its path sections are asked and, for an entrance route, the block nearest its end.
 use borrow.Author.Needs.{needs}
 use Rattle.laws.specs.Tests.{_and_, implies}
 use Rattle.release.specs.Release.{vacated}

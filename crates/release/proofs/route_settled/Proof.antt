@@ -1,4 +1,4 @@
--- The two calls, one after the other.
+-- Its signal falls or stays, and then the route stays or goes.
 use borrow.Author.Needs.{needs}
 use Rattle.release.specs.Release.{settledFrom}
 use Rattle.release.proofs.Laws.{settled-made}

@@ -1,4 +1,4 @@
--- By the kind.
+-- For an exit route the block that it enters, for any other the last path section.
 use Rattle.laws.proofs.Choice.{choices}
 use Rattle.release.specs.Release.{secondWatched}
 use Rattle.release.proofs.second_watched.Statement.{statement}

@@ -1,4 +1,4 @@
--- By the phase and the tick.
+-- A tick counts for a cancelling route, up to 89.
 use Rattle.laws.proofs.Choice.{choices}
 use Rattle.laws.specs.Tests.{_and_}
 use Rattle.release.specs.Release.{secondsAfter}

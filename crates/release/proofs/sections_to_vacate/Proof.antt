@@ -1,4 +1,4 @@
--- By the kind.
+-- All for an exit route, for any other all but the last.
 use Rattle.laws.proofs.Choice.{choices}
 use Rattle.release.proofs.Laws.{vacates-none}
 use Rattle.release.specs.Release.{toVacate}

@@ -1,4 +1,4 @@
--- With the pair's own readings.
+-- What is given to the watched pair, and what it reads, decides the step.
 use borrow.Author.Needs.{needs}
 use Rattle.release.specs.Release.{stepAfter}
 use Rattle.release.proofs.step_after.Statement.{statement}

@@ -1,4 +1,4 @@
--- By the step, then by what is given and read.
+-- Step 3 stays, none starts again, step 2 waits for the first to be given free; else the early steps.
 use Rattle.laws.proofs.Choice.{choices}
 use Rattle.laws.specs.Tests.{_or_}
 use Rattle.release.specs.Release.{stepFrom}

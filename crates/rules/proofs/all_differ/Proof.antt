@@ -1,12 +1,14 @@
--- The first i differ and are in the set.
+-- Each entry is held against the set of those before it; one that no set can hold sends the list to a search.
 use Prim.Native.Nat.{_-_}
 use Rattle.rules.proofs.Differ.{Apart, aparts}
 use Rattle.rules.proofs.all_differ.Statement.{statement}
 use Rattle.rules.proofs.all_differ.Tie as tie
 
+-- the first i differ and are in the set
 abbrev Inv-loop : tie.InvT-loop
 Inv-loop n xs set₀ i₀ set i = Apart n xs set i
 
+-- the entries left
 abbrev μ-loop : tie.MeasureT-loop
 μ-loop n xs set₀ i₀ set i = n - i
 

@@ -1,4 +1,4 @@
--- The list, and what it shares with the blocks of the lines before.
+-- The line's blocks differ, and their set shares nothing with that of the lines before.
 use borrow.Author.Needs.{needs}
 use Rattle.laws.specs.Tests.{_and_}
 use Rattle.rules.proofs.Sets.{again-is}

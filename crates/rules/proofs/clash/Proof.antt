@@ -1,4 +1,4 @@
--- The four tests, one after the other.
+-- The signals are compared, and a common section or point is a number that two sets share.
 use borrow.Author.Needs.{needs}
 use Rattle.laws.specs.Tests.{_or_}
 use Rattle.rules.specs.Sets.{clashing}

@@ -1,4 +1,4 @@
--- Either end.
+-- The signal at A or the signal at B.
 use mathlib.Core.Path.{refl}
 use Rattle.laws.specs.Tests.{_or_}
 use Rattle.rules.proofs.is_entrance_of.Statement.{statement}

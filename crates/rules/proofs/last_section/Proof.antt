@@ -1,4 +1,4 @@
--- The entry before the count's end.
+-- With no section the first entry, else the one before the count's end.
 use borrow.Author.Needs.{needs}
 use Rattle.rules.proofs.Laws.{last-none, last-there}
 use Rattle.rules.proofs.last_section.Statement.{statement}

@@ -1,4 +1,4 @@
--- The four tests, one after the other.
+-- The code asks the four tests of rule 2 in their order.
 use borrow.Author.Needs.{needs}
 use Rattle.laws.specs.Tests.{every}
 use Rattle.rules.specs.Rules.{lineEnds}

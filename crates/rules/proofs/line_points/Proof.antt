@@ -1,4 +1,4 @@
--- The list itself.
+-- The line is looked up, and its list of points is tested.
 use borrow.Author.Needs.{needs}
 use Rattle.rules.specs.Rules.{linePoints}
 use Rattle.rules.proofs.line_points.Statement.{statement}

@@ -1,4 +1,4 @@
--- What the two sets share, turned round.
+-- It keeps off where the set of its path and the set of blocks share nothing.
 use borrow.Author.Needs.{needs}
 use Rattle.rules.specs.Sets.{offBlocks}
 use Rattle.rules.proofs.path_off_blocks.Statement.{statement}

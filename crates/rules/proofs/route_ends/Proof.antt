@@ -1,4 +1,4 @@
--- The three clauses, one after the other.
+-- The code asks the three clauses of rule 5 in their order.
 use borrow.Author.Needs.{needs}
 use Rattle.laws.specs.Tests.{_and_, _or_, implies, every}
 use Rattle.rules.specs.Rules.{routeEnds}

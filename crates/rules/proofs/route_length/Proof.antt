@@ -1,4 +1,4 @@
--- The test itself.
+-- The code asks the test of rule 4 itself.
 use mathlib.Core.Path.{refl}
 use Rattle.laws.specs.Tests.{_or_}
 use Rattle.rules.specs.Rules.{routeLength}

@@ -1,4 +1,4 @@
--- Both lists.
+-- The path is tested and the list of points is.
 use borrow.Author.Needs.{needs}
 use Rattle.laws.specs.Tests.{_and_}
 use Rattle.rules.specs.Rules.{routeLists}

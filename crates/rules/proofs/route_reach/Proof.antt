@@ -1,4 +1,4 @@
--- Its three sets.
+-- The set of its path and the sets of its points to either side.
 use borrow.Author.Needs.{needs}
 use Rattle.rules.specs.Sets.{reachOf}
 use Rattle.rules.proofs.route_reach.Statement.{statement}

@@ -1,4 +1,4 @@
--- One after the other.
+-- The inner section at A joins the set, then the one at B.
 use borrow.Author.Needs.{needs}
 use Rattle.rules.specs.Sets.{innerTurn}
 use Rattle.rules.proofs.with_inner.Statement.{statement}

@@ -1,4 +1,4 @@
--- By the position.
+-- The point joins the set where its position is that way.
 use borrow.Author.Needs.{needs}
 use Rattle.rules.proofs.Laws.{side-that, side-other}
 use Rattle.rules.proofs.with_point.Statement.{statement}

@@ -1,4 +1,4 @@
--- Each before j is another point or is in position.
+-- A search that leaves at the first entry that is the point, out of position.
 use Prim.Native.Nat.{_-_}
 use lib.Dec.{eqb}
 use lib.ListN.{getD}
@@ -10,9 +10,11 @@ use Rattle.tables.specs.Readings.{lies}
 use Rattle.searches.proofs.is_misplaced.Statement.{statement}
 use Rattle.searches.proofs.is_misplaced.Tie as tie
 
+-- each entry before j is another point or is in position
 abbrev Inv-loop : tie.InvT-loop
 Inv-loop points n ps ws p j₀ j = Failed n (λ k. eqb (getD ps k 0) p and not (eqb (lies points p) (getD ws k 0))) j
 
+-- the entries left
 abbrev μ-loop : tie.MeasureT-loop
 μ-loop points n ps ws p j₀ j = n - j
 

@@ -1,4 +1,4 @@
--- Each block before i is another section or is free.
+-- A search that leaves at the first block that is the section and is taken.
 use Prim.Native.Nat.{_-_}
 use lib.Dec.{eqb}
 use lib.ListN.{getD}
@@ -9,9 +9,11 @@ use Rattle.searches.specs.Searches.{untaken, failing}
 use Rattle.searches.proofs.is_taken.Statement.{statement}
 use Rattle.searches.proofs.is_taken.Tie as tie
 
+-- each block before i is another section or is not taken
 abbrev Inv-loop : tie.InvT-loop
 Inv-loop table n block l g i₀ i = Failed n (λ k. eqb (getD block k 0) g and not (untaken table l k)) i
 
+-- the blocks left
 abbrev μ-loop : tie.MeasureT-loop
 μ-loop table n block l g i₀ i = n - i
 

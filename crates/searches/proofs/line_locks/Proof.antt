@@ -1,4 +1,4 @@
--- Secured, and then by its list.
+-- A neutral line is none; else by its list of points.
 use Rattle.laws.proofs.Both.{both-asked, boths}
 use Rattle.searches.specs.Searches.{lineLocks}
 use Rattle.searches.proofs.line_locks.Statement.{statement}

@@ -1,13 +1,15 @@
--- Each route before q is idle or does not conflict.
+-- A search that leaves at the first route that is locked and conflicts.
 use Prim.Native.Nat.{_-_}
 use Rattle.laws.proofs.Searches.{Sought, seeks}
 use Rattle.searches.specs.Searches.{conflictsWith}
 use Rattle.searches.proofs.lowest_conflicting.Statement.{statement}
 use Rattle.searches.proofs.lowest_conflicting.Tie as tie
 
+-- the lowest such route is none of those before q
 abbrev Inv-loop : tie.InvT-loop
 Inv-loop conflict phases n r q₀ q = Sought n (conflictsWith conflict phases r) q
 
+-- the routes left
 abbrev μ-loop : tie.MeasureT-loop
 μ-loop conflict phases n r q₀ q = n - q
 

@@ -1,13 +1,15 @@
--- Each section before g reads free or is not in the set.
+-- A search that leaves at the first section that is in the set and does not read free.
 use Prim.Native.Nat.{_-_}
 use Rattle.laws.proofs.Searches.{Sought, seeks}
 use Rattle.searches.specs.Searches.{lacking}
 use Rattle.searches.proofs.lowest_lacking.Statement.{statement}
 use Rattle.searches.proofs.lowest_lacking.Tie as tie
 
+-- the lowest such section is none of those before g
 abbrev Inv-loop : tie.InvT-loop
 Inv-loop sections set g₀ g = Sought 64 (lacking sections set) g
 
+-- the sections left
 abbrev μ-loop : tie.MeasureT-loop
 μ-loop sections set g₀ g = 64 - g
 

@@ -1,13 +1,15 @@
--- Each point before p is in position or is not listed.
+-- A search that leaves at the first point that is listed and is not in position.
 use Prim.Native.Nat.{_-_}
 use Rattle.laws.proofs.Searches.{Sought, seeks}
 use Rattle.searches.specs.Searches.{misplaced}
 use Rattle.searches.proofs.lowest_misplaced.Statement.{statement}
 use Rattle.searches.proofs.lowest_misplaced.Tie as tie
 
+-- the lowest such point is none of those before p
 abbrev Inv-loop : tie.InvT-loop
 Inv-loop points n ps ws p₀ p = Sought 32 (misplaced points n ps ws) p
 
+-- the points left
 abbrev μ-loop : tie.MeasureT-loop
 μ-loop points n ps ws p₀ p = 32 - p
 

@@ -1,13 +1,15 @@
--- Each route before r is idle or does not list the point.
+-- A search that leaves at the first route that is locked and lists the point.
 use Prim.Native.Nat.{_-_}
 use Rattle.laws.proofs.Searches.{Sought, seeks}
 use Rattle.searches.specs.Searches.{routeLocks}
 use Rattle.searches.proofs.lowest_route_locking.Statement.{statement}
 use Rattle.searches.proofs.lowest_route_locking.Tie as tie
 
+-- the lowest such route is none of those before r
 abbrev Inv-loop : tie.InvT-loop
 Inv-loop rs phases n p r₀ r = Sought n (routeLocks rs phases p) r
 
+-- the routes left
 abbrev μ-loop : tie.MeasureT-loop
 μ-loop rs phases n p r₀ r = n - r
 

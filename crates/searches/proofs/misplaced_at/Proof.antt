@@ -1,4 +1,4 @@
--- By the point, and then by what it reads.
+-- An entry that is another point is passed over; else what the point reads decides.
 use Rattle.laws.proofs.Both.{both-asked, boths}
 use Rattle.searches.proofs.misplaced_at.Statement.{statement}
 use Rattle.searches.proofs.misplaced_at.Tie as tie

@@ -1,4 +1,4 @@
--- Locked, and then by its list.
+-- A route that is not locked is none; else by its list of points.
 use Rattle.laws.proofs.Both.{both-asked, boths}
 use Rattle.searches.specs.Searches.{routeLocks}
 use Rattle.searches.proofs.route_locks.Statement.{statement}

@@ -1,4 +1,4 @@
--- By the section, and then by the table.
+-- A block that is another section is passed over; else the table decides.
 use Rattle.laws.proofs.Both.{both-asked, boths}
 use Rattle.tables.specs.Blocks.{isOpen}
 use Rattle.searches.specs.Searches.{untaken}

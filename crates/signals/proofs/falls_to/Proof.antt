@@ -1,4 +1,4 @@
--- Only a signal at proceed falls.
+-- Only a signal at proceed falls, where what keeps it there fails.
 use Rattle.laws.proofs.Choice.{if-yes, if-no, choices}
 use Rattle.signals.specs.Signals.{fallen}
 use Rattle.signals.proofs.falls_to.Statement.{statement}

@@ -1,4 +1,4 @@
--- The four tests, one after the other.
+-- The four tests are asked in their order, and the first that fails ends it.
 use borrow.Author.Needs.{needs}
 use Rattle.signals.proofs.Laws.{clear-way, clear-beyond, clear-placed, clear-out}
 use Rattle.signals.proofs.is_clear.Statement.{statement}

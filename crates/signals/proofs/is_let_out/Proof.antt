@@ -1,4 +1,4 @@
--- By the kind.
+-- An exit route asks for its line, and the other kinds pass.
 use borrow.Author.Needs.{needs}
 use Rattle.signals.proofs.Laws.{others-pass, exits-asked}
 use Rattle.signals.proofs.is_let_out.Statement.{statement}

@@ -1,4 +1,4 @@
--- Of the block nearest the route's end.
+-- The test of a block, on the one nearest the route's end.
 use borrow.Author.Needs.{needs}
 use Rattle.signals.specs.Signals.{letsOut}
 use Rattle.signals.proofs.line_lets_out.Statement.{statement}

@@ -1,4 +1,4 @@
--- By the line's record.
+-- The line is looked up, and asked by its record.
 use borrow.Author.Needs.{needs}
 use Rattle.signals.specs.Signals.{enterable}
 use Rattle.signals.proofs.may_enter.Statement.{statement}

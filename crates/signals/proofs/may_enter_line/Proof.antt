@@ -1,4 +1,4 @@
--- The three tests, one after the other.
+-- The three tests are asked in their order, and the first that fails ends it.
 use borrow.Author.Needs.{needs}
 use Rattle.signals.proofs.Laws.{enters-held, enters-barred, enters-placed}
 use Rattle.signals.proofs.may_enter_line.Statement.{statement}

@@ -1,10 +1,13 @@
+-- As many turns as are asked for.
 use borrow.Author.Needs.{needs}
 use Rattle.step_bench.proofs.play_turns.Statement.{statement}
 use Rattle.step_bench.proofs.play_turns.Tie as tie
 
+-- nothing has to be kept
 abbrev Inv-loop : tie.InvT-loop
 Inv-loop plan asking events turns played₀ left₀ played left = Unit {0}
 
+-- the turns left
 abbrev μ-loop : tie.MeasureT-loop
 μ-loop plan asking events turns played₀ left₀ played left = left
 

@@ -1,10 +1,13 @@
+-- The events that are left over are played first, then a turn for every sixteen.
 use borrow.Author.Needs.{needs}
 use Rattle.step_cases.proofs.play.Statement.{statement}
 use Rattle.step_cases.proofs.play.Tie as tie
 
+-- nothing has to be kept
 abbrev Inv-loop : tie.InvT-loop
 Inv-loop archive plan n state₀ left₀ state left = Unit {0}
 
+-- the lines left
 abbrev μ-loop : tie.MeasureT-loop
 μ-loop archive plan n state₀ left₀ state left = left
 

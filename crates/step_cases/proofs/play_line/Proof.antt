@@ -1,10 +1,13 @@
+-- A turn for each event, and then the state.
 use borrow.Author.Needs.{needs}
 use Rattle.step_cases.proofs.play_line.Statement.{statement}
 use Rattle.step_cases.proofs.play_line.Tie as tie
 
+-- nothing has to be kept
 abbrev Inv-loop : tie.InvT-loop
 Inv-loop archive plan n line₀ state₀ at₀ left₀ line state at left = Unit {0}
 
+-- the events left
 abbrev μ-loop : tie.MeasureT-loop
 μ-loop archive plan n line₀ state₀ at₀ left₀ line state at left = left
 

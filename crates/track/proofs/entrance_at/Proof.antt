@@ -1,4 +1,4 @@
--- By the end.
+-- At A the one, at any other end the other.
 use Rattle.laws.proofs.Choice.{choices}
 use Rattle.track.specs.Objects.{entrance}
 use Rattle.track.proofs.entrance_at.Statement.{statement}

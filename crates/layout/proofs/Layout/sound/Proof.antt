@@ -1,4 +1,4 @@
--- In range, both ways, no rule broken.
+-- The ranges are asked, then that conflicts are both ways, then the rules: the first that fails ends it.
 use borrow.Author.Needs.{needs}
 use Rattle.layout.proofs.Laws.{fits-few, sounds}
 use Rattle.layout.proofs.Layout.sound.Statement.{statement}

@@ -1,4 +1,4 @@
--- Its four reads.
+-- Each part is read after the one before it, and the four make the heading.
 use borrow.Author.Needs.{needs}
 use Rattle.layout.specs.Load.{heading}
 use Rattle.layout.proofs.file.read_heading.Statement.{statement}

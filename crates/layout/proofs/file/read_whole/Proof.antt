@@ -1,4 +1,4 @@
--- Its four parts.
+-- Each part is read after the one before it, and the four make the whole.
 use borrow.Author.Needs.{needs}
 use Rattle.layout.proofs.Laws.{whole-made}
 use Rattle.layout.proofs.file.read_whole.Statement.{statement}

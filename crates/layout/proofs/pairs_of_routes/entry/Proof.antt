@@ -1,4 +1,4 @@
--- One look at the table.
+-- The place of two routes below 48 lies in the table.
 use borrow.Author.Needs.{needs}
 use Rattle.layout.specs.Layout.{entryOf}
 use Rattle.pairs.proofs.Laws.{place-inside}

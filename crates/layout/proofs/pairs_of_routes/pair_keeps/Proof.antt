@@ -1,4 +1,4 @@
--- What is listed, else a clash.
+-- What is listed keeps rule 6, and what is not keeps it where it does not clash.
 use borrow.Author.Needs.{needs}
 use Rattle.layout.proofs.Tested.{pair-listed, pair-unlisted}
 use Rattle.layout.proofs.pairs_of_routes.pair_keeps.Statement.{statement}

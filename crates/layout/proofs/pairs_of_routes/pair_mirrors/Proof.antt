@@ -1,4 +1,4 @@
--- Two looks at the table.
+-- The two entries are read and compared.
 use borrow.Author.Needs.{needs}
 use Rattle.laws.specs.Tests.{_and_}
 use Rattle.layout.specs.Sound.{pairMirrors}

@@ -1,4 +1,4 @@
--- What rule 6 asks of the routes before i stands in the table.
+-- A store for each of the 48 routes.
 use Prim.Native.Nat.{_-_}
 use Rattle.laws.proofs.Tables.{Filled, fills}
 use Rattle.layout.proofs.Tested.{reach-at}
@@ -8,9 +8,11 @@ use Rattle.track.specs.Objects.{route}
 use Rattle.layout.proofs.pairs_of_routes.reach_table.Statement.{statement}
 use Rattle.layout.proofs.pairs_of_routes.reach_table.Tie as tie
 
+-- what rule 6 asks of the routes before i stands in the table
 abbrev Inv-loop : tie.InvT-loop
 Inv-loop rs t₀ i₀ t i = Filled 48 (λ k. reachOf (route rs k)) t i
 
+-- the routes left
 abbrev μ-loop : tie.MeasureT-loop
 μ-loop rs t₀ i₀ t i = 48 - i
 

@@ -1,4 +1,4 @@
--- Itself, then the others.
+-- The route's entry with itself, then those with the routes before it.
 use borrow.Author.Needs.{needs}
 use Rattle.laws.specs.Tests.{_and_}
 use Rattle.layout.specs.Sound.{rowMirrors}

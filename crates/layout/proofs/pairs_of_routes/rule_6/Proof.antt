@@ -1,4 +1,4 @@
--- By the table.
+-- What it asks of each route is told once, in a table, by which each two are tested.
 use borrow.Author.Needs.{needs}
 use Rattle.layout.proofs.pairs_of_routes.rule_6.Statement.{statement}
 use Rattle.layout.proofs.pairs_of_routes.rule_6.Tie as tie

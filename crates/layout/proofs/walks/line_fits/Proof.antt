@@ -1,4 +1,4 @@
--- The line that stands there.
+-- The line is looked up, and its ranges are tested.
 use borrow.Author.Needs.{needs}
 use Rattle.layout.proofs.walks.line_fits.Statement.{statement}
 use Rattle.layout.proofs.walks.line_fits.Tie as tie

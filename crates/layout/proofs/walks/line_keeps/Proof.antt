@@ -1,4 +1,4 @@
--- By the rule's number.
+-- Each return is the test of the rule with that number.
 use Rattle.laws.proofs.Choice.{choices}
 use Rattle.layout.specs.Walks.{lineKeeps}
 use Rattle.layout.proofs.walks.line_keeps.Statement.{statement}

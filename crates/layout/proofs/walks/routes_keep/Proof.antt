@@ -1,4 +1,4 @@
--- Each route before i keeps the rule.
+-- Each route is tested, and the first that does not keep the rule ends it.
 use Prim.Native.Nat.{_-_}
 use Rattle.laws.proofs.Arrays.{length-mapped}
 use Rattle.laws.proofs.Loops.{Held, alls}
@@ -8,9 +8,11 @@ use Rattle.track.specs.Objects.{route}
 use Rattle.layout.proofs.walks.routes_keep.Statement.{statement}
 use Rattle.layout.proofs.walks.routes_keep.Tie as tie
 
+-- each route before i keeps the rule
 abbrev Inv-loop : tie.InvT-loop
 Inv-loop k c ls blocks n rs i₀ i = Held n (λ j. routeKeeps k c ls blocks (route rs j)) i
 
+-- the routes left
 abbrev μ-loop : tie.MeasureT-loop
 μ-loop k c ls blocks n rs i₀ i = n - i
 

@@ -1,4 +1,4 @@
--- Routes, then lines.
+-- The lists of the routes, then the points of the lines.
 use borrow.Author.Needs.{needs}
 use Rattle.laws.specs.Tests.{_and_}
 use Rattle.layout.specs.Walks.{listsDiffer}

@@ -1,4 +1,4 @@
--- The own section of each point before i is there.
+-- Each point is tested, and the first whose own section is not there ends it.
 use Prim.Native.Nat.{_-_}
 use lib.Dec.{ltb}
 use lib.ListN.{getD}
@@ -7,9 +7,11 @@ use Rattle.layout.specs.Sound.{sectionsFit}
 use Rattle.layout.proofs.walks.sections_fit.Statement.{statement}
 use Rattle.layout.proofs.walks.sections_fit.Tie as tie
 
+-- the own section of each point before i is there
 abbrev Inv-loop : tie.InvT-loop
 Inv-loop own n sections i₀ i = Held n (λ p. ltb (getD own p 0) sections) i
 
+-- the points left
 abbrev μ-loop : tie.MeasureT-loop
 μ-loop own n sections i₀ i = n - i
 

@@ -1,4 +1,4 @@
--- By the byte.
+-- The end of a line starts the next, `#` starts a comment, any other byte stands between words.
 use Rattle.laws.proofs.Choice.{choices}
 use Rattle.number_text.specs.Text.{afterEnd}
 use Rattle.number_text.proofs.pack.after_end.Statement.{statement}

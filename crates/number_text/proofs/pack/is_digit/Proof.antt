@@ -1,4 +1,4 @@
--- Both tests.
+-- Both bounds are asked.
 use mathlib.Core.Path.{refl}
 use Rattle.laws.specs.Tests.{_and_}
 use Rattle.number_text.specs.Text.{isDigit}

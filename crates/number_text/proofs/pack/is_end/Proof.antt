@@ -1,4 +1,4 @@
--- The tests.
+-- The code asks the six bytes in their order.
 use mathlib.Core.Path.{refl}
 use Rattle.laws.specs.Tests.{_or_}
 use Rattle.number_text.specs.Text.{endsWord}

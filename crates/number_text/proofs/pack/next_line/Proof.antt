@@ -1,4 +1,4 @@
--- By the line.
+-- One more, as far as 64 bits go.
 use Rattle.laws.proofs.Choice.{choices}
 use Rattle.number_text.specs.Text.{nextLine}
 use Rattle.number_text.proofs.pack.next_line.Statement.{statement}

@@ -1,4 +1,4 @@
--- By the size.
+-- One more, up to 32.
 use Rattle.laws.proofs.Choice.{choices}
 use Rattle.number_text.specs.Text.{nextSize}
 use Rattle.number_text.proofs.pack.next_size.Statement.{statement}

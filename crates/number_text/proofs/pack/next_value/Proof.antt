@@ -1,4 +1,4 @@
--- By the number so far.
+-- A number that is too large already stays; any other has one more digit, which fits.
 use Rattle.laws.proofs.Choice.{choices}
 use Rattle.number_text.specs.Text.{nextValue}
 use Rattle.number_text.proofs.pack.next_value.Statement.{statement}

@@ -1,4 +1,4 @@
--- The first i bytes are read, and their numbers are written.
+-- As many bytes are read as there surely is room for the numbers of, one after the other.
 use Prim.Native.Nat.{_-_, _*_, _/_, _≤_}
 use mathlib.Core.Path.{_≡_}
 use mathlib.Core.List.{[]}
@@ -11,14 +11,17 @@ use Rattle.number_text.proofs.Packing.{fewer-left, fewer-right, reader-
 use Rattle.number_text.proofs.pack.pack_piece.Statement.{statement}
 use Rattle.number_text.proofs.pack.pack_piece.Tie as tie
 
+-- the first i bytes are read, and their numbers are written
 abbrev Inv-loop : tie.InvT-loop
 Inv-loop bytes out₀ n reader₀ written₀ i₀ out reader written i =
     (i ≤ n) × (n ≤ length bytes) × (3 * n ≤ length out₀) × (reader ≡ readerAfter reader₀ (take i bytes))
     × Put out₀ 0 (packed reader₀ (take i bytes)) (3 * i) out written
 
+-- the bytes left
 abbrev μ-loop : tie.MeasureT-loop
 μ-loop bytes out₀ n reader₀ written₀ i₀ out reader written i = n - i
 
+-- before the first byte nothing is written, and n is no more than the bytes and than a third of the room
 loop-holds : tie.Need-loop-holds Inv-loop μ-loop
 loop-holds c =
     let few = c .smaller .ensures in (
@@ -29,9 +32,11 @@ loop-holds c =
       pack-start _ (c .before .before .before .args .bytes .now) _,
     )
 
+-- a number has three bytes at most, for which there is room
 put-given-requires : tie.Need-put-given-requires Inv-loop μ-loop
 put-given-requires c κs = omega arith
 
+-- byte i is read, and the number that it ends is written after those before it
 loop-again : tie.Need-loop-again Inv-loop μ-loop
 loop-again c =
     let here = c .before .before .before .before .before .before .before .loop in
@@ -43,6 +48,7 @@ loop-again c =
       pack-on _ bytes _ _ _ (here .i) _ _ _ (omega arith) (here .inv .3) (here .inv .4) (c .before .before .before .put-given .ensures),
     )
 
+-- all n bytes are read
 returns : tie.Need-returns Inv-loop μ-loop
 returns c = search (needs, pack-done)
 

@@ -1,4 +1,4 @@
--- By the two.
+-- The first where it is less, else the second.
 use Rattle.laws.proofs.Choice.{choices}
 use Rattle.number_text.specs.Pieces.{fewer}
 use Rattle.number_text.proofs.pack.smaller.Statement.{statement}

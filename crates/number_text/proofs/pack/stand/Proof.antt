@@ -1,4 +1,4 @@
--- The record itself.
+-- Field by field.
 use mathlib.Core.Path.{refl}
 use Rattle.number_text.specs.Text.{standing}
 use Rattle.number_text.proofs.pack.stand.Statement.{statement}

@@ -1,13 +1,15 @@
--- The turns fall, and the buffer keeps its length.
+-- A turn for each piece of the file, from a number of turns that no file uses up.
 use mathlib.Core.Path.{_≡_, refl}
 use borrow.Author.Needs.{needs}
 use lib.ListN.{length}
 use Rattle.packed.proofs.unpacking.walk_all.Statement.{statement}
 use Rattle.packed.proofs.unpacking.walk_all.Tie as tie
 
+-- the buffer keeps its length
 abbrev Inv-loop : tie.InvT-loop
 Inv-loop fd path per buf₀ writes w₀ turns₀ buf w turns = length buf ≡ length buf₀
 
+-- the turns left
 abbrev μ-loop : tie.MeasureT-loop
 μ-loop fd path per buf₀ writes w₀ turns₀ buf w turns = turns
 

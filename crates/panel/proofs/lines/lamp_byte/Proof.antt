@@ -1,4 +1,4 @@
--- Dark, free, not free.
+-- 0 where it is dark, 22 where the block may be entered, else 20.
 use Rattle.laws.proofs.Choice.{chains}
 use Rattle.panel.specs.Panel.{lamp}
 use Rattle.panel.proofs.lines.lamp_byte.Statement.{statement}

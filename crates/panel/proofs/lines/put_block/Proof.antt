@@ -1,4 +1,4 @@
--- Three bytes, one after the other.
+-- Stage, signal A to B, signal B to A are made, then stored one after the other.
 use borrow.Author.Needs.{needs}
 use native.Mathlib.Omega.{arith}
 use lib.ListN.{length-set}

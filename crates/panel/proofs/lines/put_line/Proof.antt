@@ -1,4 +1,4 @@
--- The line's direction and points, then its blocks.
+-- The line's direction and whether its points are in position are told once, then its blocks are written.
 use borrow.Author.Needs.{needs}
 use Rattle.panel.proofs.Blocks.{line-made}
 use Rattle.panel.proofs.lines.put_line.Statement.{statement}

@@ -1,4 +1,4 @@
--- The first i bytes are written, and the next place is i further on.
+-- A turn for each byte.
 use Prim.Native.Nat.{_+_, _-_, _≤_}
 use mathlib.Core.Path.{_≡_, refl}
 use native.Mathlib.Omega.{arith}
@@ -10,16 +10,20 @@ use Rattle.panel.proofs.Writes.{writes}
 use Rattle.panel.proofs.objects.copy.Statement.{statement}
 use Rattle.panel.proofs.objects.copy.Tie as tie
 
+-- the first i bytes are written, and the next place is i further on
 abbrev Inv-loop : tie.InvT-loop
 Inv-loop from n buffer₀ at i₀ next₀ buffer i next =
     (i ≤ n) × (next ≡ at + i) × (length buffer ≡ length buffer₀) × Wrote buffer₀ at (table i (λ k. getD from k 0)) buffer next
 
+-- the bytes left
 abbrev μ-loop : tie.MeasureT-loop
 μ-loop from n buffer₀ at i₀ next₀ buffer i next = n - i
 
+-- before the first byte nothing is written
 loop-holds : tie.Need-loop-holds Inv-loop μ-loop
 loop-holds c = (omega arith, omega arith, refl, search writes)
 
+-- byte i is written after those before it
 loop-again : tie.Need-loop-again Inv-loop μ-loop
 loop-again c = (omega arith, omega arith, search needs, search writes)
 

@@ -1,4 +1,4 @@
--- Diverging or not.
+-- 21 for a diverging route, else 22.
 use Rattle.laws.proofs.Choice.{choices}
 use Rattle.panel.specs.Panel.{proceedByte}
 use Rattle.panel.proofs.objects.proceed_byte.Statement.{statement}

@@ -1,4 +1,4 @@
--- Sections, then points.
+-- What sections read is copied, and after it what points read.
 use native.Mathlib.Omega.{arith}
 use borrow.Author.Needs.{needs}
 use Rattle.panel.proofs.Writes.{wrote-length}
@@ -6,6 +6,7 @@ use Rattle.panel.proofs.Laws.{table-next, readings-made}
 use Rattle.panel.proofs.objects.put_readings.Statement.{statement}
 use Rattle.panel.proofs.objects.put_readings.Tie as tie
 
+-- what is left after the sections has room for the points
 copy-requires-2 : tie.Need-copy-requires-2
 copy-requires-2 c κs =
     let sections = c .before .before .before .before .before .before .copy .ensures in

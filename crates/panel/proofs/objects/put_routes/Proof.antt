@@ -1,4 +1,4 @@
--- The bytes of the first i routes are written, and the next place is i further on.
+-- A turn for each route.
 use Prim.Native.Nat.{_+_, _-_, _≤_}
 use mathlib.Core.Path.{_≡_, refl}
 use native.Mathlib.Omega.{arith}
@@ -11,16 +11,20 @@ use Rattle.panel.proofs.Writes.{writes}
 use Rattle.panel.proofs.objects.put_routes.Statement.{statement}
 use Rattle.panel.proofs.objects.put_routes.Tie as tie
 
+-- the bytes of the first i routes are written, and the next place is i further on
 abbrev Inv-loop : tie.InvT-loop
 Inv-loop phases n buffer₀ at i₀ next₀ buffer i next =
     (i ≤ n) × (next ≡ at + i) × (length buffer ≡ length buffer₀) × Wrote buffer₀ at (table i (λ k. routeByte (getD phases k 0))) buffer next
 
+-- the routes left
 abbrev μ-loop : tie.MeasureT-loop
 μ-loop phases n buffer₀ at i₀ next₀ buffer i next = n - i
 
+-- before the first route nothing is written
 loop-holds : tie.Need-loop-holds Inv-loop μ-loop
 loop-holds c = (omega arith, omega arith, refl, search writes)
 
+-- route i is written after those before it
 loop-again : tie.Need-loop-again Inv-loop μ-loop
 loop-again c = (omega arith, omega arith, search needs, search writes)
 

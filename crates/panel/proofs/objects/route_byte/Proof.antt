@@ -1,4 +1,4 @@
--- Idle, cancelling, locked.
+-- 0 for idle, 2 for cancelling, else 1.
 use Rattle.laws.proofs.Choice.{choices}
 use Rattle.panel.specs.Panel.{routeByte}
 use Rattle.panel.proofs.objects.route_byte.Statement.{statement}

@@ -1,4 +1,4 @@
--- By the kind.
+-- Each return is the test of its kinds.
 use Rattle.laws.proofs.Choice.{choices}
 use Rattle.laws.specs.Tests.{_and_, _or_}
 use Rattle.reasons.specs.Kinds.{secondWrong}

@@ -1,4 +1,4 @@
--- The test itself.
+-- The objects of that kind are counted, and refused where the number is none of theirs.
 use borrow.Author.Needs.{needs}
 use Rattle.laws.specs.Tests.{_and_}
 use Rattle.reasons.proofs.events.no_such_object.Statement.{statement}

@@ -1,4 +1,4 @@
--- By the kind.
+-- Each return is the count for its kinds.
 use Rattle.laws.proofs.Choice.{choices}
 use Rattle.reasons.specs.Kinds.{objects}
 use Rattle.reasons.proofs.events.objects_of.Statement.{statement}

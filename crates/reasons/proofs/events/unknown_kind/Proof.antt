@@ -1,4 +1,4 @@
--- The test itself.
+-- Refused where the kind is none of 1 to 10.
 use borrow.Author.Needs.{needs}
 use Rattle.reasons.proofs.events.unknown_kind.Statement.{statement}
 use Rattle.reasons.proofs.events.unknown_kind.Tie as tie

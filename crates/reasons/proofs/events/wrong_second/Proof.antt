@@ -1,4 +1,4 @@
--- The test itself.
+-- Refused where the test of the second number says so.
 use borrow.Author.Needs.{needs}
 use Rattle.reasons.proofs.events.wrong_second.Statement.{statement}
 use Rattle.reasons.proofs.events.wrong_second.Tie as tie

@@ -1,4 +1,4 @@
--- A turn's `put` keeps the room's length.
+-- A turn for each byte.
 use mathlib.Core.Path.{_≡_}
 use Prim.Native.Nat.{_-_}
 use lib.ListN.{length}
@@ -6,9 +6,11 @@ use borrow.Author.Needs.{needs}
 use Rattle.step_cases.proofs.text.put_bytes.Statement.{statement}
 use Rattle.step_cases.proofs.text.put_bytes.Tie as tie
 
+-- the line keeps its length
 abbrev Inv-loop : tie.InvT-loop
 Inv-loop line₀ from bytes at₀ i₀ line at i = length line ≡ length line₀
 
+-- the bytes left
 abbrev μ-loop : tie.MeasureT-loop
 μ-loop line₀ from bytes at₀ i₀ line at i = length bytes - i
 

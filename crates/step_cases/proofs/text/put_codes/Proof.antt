@@ -1,4 +1,4 @@
--- A turn's `put_code` keeps the room's length.
+-- A turn for each code; where the table ends first, so does the loop.
 use mathlib.Core.Path.{_≡_}
 use Prim.Native.Nat.{_-_}
 use lib.ListN.{length}
@@ -6,9 +6,11 @@ use borrow.Author.Needs.{needs}
 use Rattle.step_cases.proofs.text.put_codes.Statement.{statement}
 use Rattle.step_cases.proofs.text.put_codes.Tie as tie
 
+-- the line keeps its length
 abbrev Inv-loop : tie.InvT-loop
 Inv-loop line₀ from codes n digits at₀ i₀ line at i = length line ≡ length line₀
 
+-- the codes left
 abbrev μ-loop : tie.MeasureT-loop
 μ-loop line₀ from codes n digits at₀ i₀ line at i = n - i
 
