@@ -47,6 +47,12 @@ unfolding _or_
 or-right true b p = refl
 or-right false b p = p
 
+-- with a test that fails, one of the two holds where the first does
+pub or-false : (a : Bool) → a ≡ a or false
+unfolding _or_
+or-false true = refl
+or-false false = refl
+
 -- where the first implies the second and holds, the second holds
 pub implied : (a b : Bool) → implies a b ≡ true → a ≡ true → b ≡ true
 unfolding implies

@@ -8,7 +8,7 @@ use lib.ListN.{getD}
 use Rattle.laws.specs.Choice.{if_then_else_}
 use Rattle.laws.specs.Tests.{_and_, _or_, any}
 use Rattle.laws.specs.Tables.{iter}
-use Rattle.laws.proofs.Tests.{any-same}
+use Rattle.laws.proofs.Tests.{any-same, or-false}
 use Rattle.sets.specs.Sets.{holds, joined, setOf, common}
 use Rattle.sets.proofs.Sets.{holds-none, holds-union, holds-joined, holds-setOf}
 use Rattle.track.specs.declared.Line.{Line}
@@ -64,12 +64,7 @@ holds-blocks ls l g b = holds-setOf (line ls l .blocks) (line ls l .block) g b
 side-more : (set x g : ℕ) (t : Bool) → g < 64 → holds (if t then joined set x else set) g ≡ holds set g or (t and eqb x g)
 unfolding if_then_else_ _and_ _or_
 side-more set x g true l = holds-joined set x g l
-side-more set x g false l = or-none (holds set g)
-  where
-    -- with a test that fails, one of the two holds where the first does
-    or-none : (b : Bool) → b ≡ b or false
-    or-none true = refl
-    or-none false = refl
+side-more set x g false l = or-false (holds set g)
 
 -- after n points the set holds those of them that lie that way: point by point
 sides : (w : ℕ) (a : Route) (n g : ℕ) → g < 64

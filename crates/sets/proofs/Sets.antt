@@ -13,7 +13,7 @@ use lib.ListN.{getD}
 use Rattle.laws.specs.Tables.{iter}
 use Rattle.laws.specs.Tests.{_and_, _or_, any}
 use Rattle.laws.proofs.Choice.{if-ge, if-lt}
-use Rattle.laws.proofs.Tests.{and-right, any-same, fails-from}
+use Rattle.laws.proofs.Tests.{and-right, any-same, fails-from, or-false}
 use Rattle.sets.specs.Sets.{holds, joined, union, addEntry, setOf, common}
 use Rattle.sets.proofs.Bits.{and-bit, one-shifted, or-bit, power-bit, some-bit, zero-bit}
 
@@ -58,12 +58,6 @@ joined-below set x l = if-lt x 64 _ _ _ l (ap (bitOr set) (one-shifted x l))
 pub joined-past : (set x : ℕ) → 64 ≤ x → set ≡ joined set x
 unfolding joined
 joined-past set x l = if-ge x 64 _ _ _ l refl
-
--- an `or` with a test that fails
-or-false : (t : Bool) → t ≡ t or false
-unfolding _or_
-or-false true = refl
-or-false false = refl
 
 -- the law below, by whether x is below 64
 joined-cases : (set x g : ℕ) → Dec (x < 64) → g < 64 → holds (joined set x) g ≡ holds set g or eqb x g
