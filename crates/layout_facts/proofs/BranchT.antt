@@ -1,8 +1,7 @@
--- Branch T, computed: it loads and is sound, and less its last byte it is refused (section 8).
+-- Branch T, computed: it loads and is sound (section 8).
 use Prim.Native.Nat.{ℕ}
 use mathlib.Core.Path.{_≡_, refl}
 use mathlib.Core.Bool.{true}
-use lib.ListN.{take}
 use Rattle.laws.specs.Choice.{if_then_else_}
 use Rattle.laws.specs.Tests.{_and_, _or_, implies, every, all, any}
 use Rattle.laws.specs.Tables.{iter}
@@ -49,13 +48,3 @@ branchT-detail = refl
 pub branchT-sound : sound (load branchT .layout) ≡ true
 unfolding computed
 branchT-sound = refl
-
--- T less its last byte ends early
-pub branchT-short : load (take 48 branchT) .number ≡ 21
-unfolding computed
-branchT-short = refl
-
--- at its end
-pub branchT-short-at : load (take 48 branchT) .detail ≡ 48
-unfolding computed
-branchT-short-at = refl

@@ -7,10 +7,10 @@ use mathlib.Core.List.{List, [], _∷_}
 use borrow.Author.Tests.{eqb-false, eq-eqb, not-true}
 use lib.Dec.{lit<}
 use Rattle.laws.specs.Tests.{_and_}
-use Rattle.laws.proofs.Tests.{and-left, and-right, not-both}
+use Rattle.laws.proofs.Tests.{and-left, and-right, and-both, not-both}
 use Rattle.layout.specs.declared.Layout.{Layout}
 use Rattle.layout.specs.Load.{load, whole}
-use Rattle.panel_facts.specs.Cases.{same}
+use Rattle.safety.specs.Cases.{same}
 use Rattle.safety.specs.History.{History}
 use Rattle.safety.specs.Demand3.{Safe}
 use Rattle.safety.specs.WrongRuns.{T, twoBlocks, innerIsBlock, sharedBlock, innerPassedBy, kept, Asked, secured, alone, isFree, cleared, Broken, Run, told, Each, unsafe, together, showing, right, Differs, unlike}
@@ -84,7 +84,7 @@ apart xs ys t q = not-both (ap (same xs) (sym q) ∙ is-same xs) (not-true _ t)
   where
     is-same : (zs : List ℕ) → same zs zs ≡ true
     is-same [] = refl
-    is-same (z ∷ zs) = rw (same, eq-eqb z z refl) (is-same zs)
+    is-same (z ∷ zs) = and-both _ _ (eq-eqb z z refl) (is-same zs)
 
 -- computed
 unlike-tested : passes (λ r. not (same (showing r) (right r))) unlike ≡ true
