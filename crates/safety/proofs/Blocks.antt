@@ -103,7 +103,7 @@ pub data FarCase (L : Layout) (before s : State) (l i w was x : ℕ) : Type 0 wh
   loses : x ≡ 2 → was ≡ 3 → FarCase L before s l i w was x
 
 -- by the tests of a block's far section, one after the other
-pub far-case : (L : Layout) (before s : State) (l i was : ℕ) → i < 8
+far-case : (L : Layout) (before s : State) (l i was : ℕ) → i < 8
     → FarCase L before s l i (direction s l) was (farAfter L before s (place l i) was)
 unfolding farAfter farMoved farStage
 far-case L before s l i was b =

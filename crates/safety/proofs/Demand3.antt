@@ -113,7 +113,7 @@ ran L ok S s h I [] = I
 ran L ok S s h I (e ∷ es) = ran L ok S _ _ (kept L ok S s h I e) es
 
 -- on any sound layout, loaded or assembled by hand
-pub safe-run : (L : Layout) → sound L ≡ true → (es : List Event) → Safe L (history L es)
+safe-run : (L : Layout) → sound L ≡ true → (es : List Event) → Safe L (history L es)
 unfolding history
 safe-run L ok es = let S = sound-says L ok in safe L S _ _ (ran L ok S cold [] (cold-has L S) es)
 

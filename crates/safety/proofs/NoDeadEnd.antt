@@ -62,7 +62,7 @@ way-short L S s =
 -- ---- where it leads
 
 -- from any state in range
-pub leads-out : (L : Layout) → sound L ≡ true → (s : State) → inRange s ≡ true → WayOut L s
+leads-out : (L : Layout) → sound L ≡ true → (s : State) → inRange s ≡ true → WayOut L s
 unfolding wayOut
 leads-out L ok s ranged =
     let S = sound-says L ok in

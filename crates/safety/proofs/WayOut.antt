@@ -41,7 +41,7 @@ pub record Goes (L : Layout) (s : State) (es : List Event) (P : State → Type 0
 
 module _ (L : Layout) (P : State → Type 0) where
   -- no event
-  pub stop : (s : State) → inRange s ≡ true → P s → Goes L s [] P
+  stop : (s : State) → inRange s ≡ true → P s → Goes L s [] P
   unfolding Granted stateAfter box
   stop s r p = record { granted = tt; ranged = r; ends = p }
 
@@ -115,7 +115,7 @@ LinesRest L n s = (l : ℕ) → n ≤ l → l < L .lines → (direction s l ≡ 
 
 module _ (L : Layout) (ok : sound L ≡ true) (S : Sound L) where
   -- one event that nothing refuses
-  pub goes : (P : State → Type 0) (s : State) (e : Event) (es : List Event) → refusal (sound L and inRange s) L s (e .kind) (e .first) (e .second) .number ≡ 0
+  goes : (P : State → Type 0) (s : State) (e : Event) (es : List Event) → refusal (sound L and inRange s) L s (e .kind) (e .first) (e .second) .number ≡ 0
       → inRange s ≡ true → ((t : State) → t ≡ end L s e → inRange t ≡ true → Goes L t es P) → Goes L s (e ∷ es) P
   goes P s e es pass ranged next = first L P s e es (step-granted L s e pass) (next _ (step-end L s e pass) (step-in-range L s _ _ _ ranged))
 
@@ -150,7 +150,7 @@ module _ (L : Layout) (ok : sound L ≡ true) (S : Sound L) where
           (rest _ (omega arith) (step-in-range L s 5 n 0 ranged) (rw (step-end L s (ev 5 n 0) pass) then-calm))
 
   -- ninety seconds
-  pub wait : (n k : ℕ) (s : State) → inRange s ≡ true → Counted L k s → Goes L s (replicate n (ev 10 0 0)) (Counted L (k + n))
+  wait : (n k : ℕ) (s : State) → inRange s ≡ true → Counted L k s → Goes L s (replicate n (ev 10 0 0)) (Counted L (k + n))
   wait zero k s ranged counted = stop L (Counted L (k + 0)) s ranged (rw (add-zero k) counted)
   wait (suc n) k s ranged counted =
       goes (Counted L (k + suc n)) s (ev 10 0 0) _ (second-granted L s ok ranged) ranged
@@ -176,7 +176,7 @@ module _ (L : Layout) (ok : sound L ≡ true) (S : Sound L) where
   wait-all s ranged calm = counted-idle _ s (wait 90 0 s ranged (λ r b. ⊎-elim inl (λ t. inr (t, omega arith)) (calm r (omega arith) b)))
 
   -- the blocks of one line read free
-  pub read-blocks : (l i : ℕ) (s : State) → l < L .lines → i ≤ lineIn L l .blocks → inRange s ≡ true → Idle L s × BlocksFree L l i s
+  read-blocks : (l i : ℕ) (s : State) → l < L .lines → i ≤ lineIn L l .blocks → inRange s ≡ true → Idle L s × BlocksFree L l i s
       → Goes L s (readFree L l i) (λ t. Idle L t × BlocksFree L l 0 t)
   unfolding readFree
   read-blocks l zero s there few ranged p = stop L _ s ranged p

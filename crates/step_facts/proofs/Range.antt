@@ -80,7 +80,7 @@ alike-within n low high v h = record { entry = λ i b. rw (getD-replicate n i v 
 -- ---- states
 
 -- everything reads none, nothing is ordered, locked, secured or barred, and each block is held in stage 0
-pub cold-ranges : InRange cold
+cold-ranges : InRange cold
 unfolding cold
 cold-ranges = record {
   section = alike-within 64 1 3 3 (omega arith);
