@@ -20,7 +20,7 @@ use Rattle.layout.specs.Layout.{counts, lineIn, routeIn, entryOf, conflict}
 use Rattle.layout.specs.Rules.{rule1, rule2, rule3, rule4, rule5, rule6, firstFailed, broken}
 use Rattle.layout.specs.Sound.{sectionsFit, fits, pairMirrors, rowMirrors, mirrored, sound}
 use Rattle.layout.specs.Load.{heading, countsOf, whole, refused, finished, load}
-use Rattle.layout_facts.specs.BranchT.{branchT}
+use Rattle.layout_facts.specs.BranchT.{branchT, layoutT}
 
 -- whoever unfolds this unfolds all that loading and soundness are made of
 unfoldable pub computed : ℕ
@@ -45,6 +45,6 @@ unfolding computed
 branchT-detail = refl
 
 -- T is sound
-pub branchT-sound : sound (load branchT .layout) ≡ true
+pub branchT-sound : sound layoutT ≡ true
 unfolding computed
 branchT-sound = refl

@@ -10,10 +10,11 @@ use Rattle.laws.specs.Tests.{_and_}
 use Rattle.laws.proofs.Tests.{and-left, and-right, and-both, not-both}
 use Rattle.layout.specs.declared.Layout.{Layout}
 use Rattle.layout.specs.Load.{load, whole}
+use Rattle.layout_facts.specs.BranchT.{layoutT}
 use Rattle.safety.specs.Cases.{same}
 use Rattle.safety.specs.History.{History}
 use Rattle.safety.specs.Demand3.{Safe}
-use Rattle.safety.specs.WrongRuns.{T, twoBlocks, innerIsBlock, sharedBlock, innerPassedBy, kept, Asked, secured, alone, isFree, cleared, Broken, Run, told, Each, unsafe, together, showing, right, Differs, unlike}
+use Rattle.safety.specs.WrongRuns.{twoBlocks, innerIsBlock, sharedBlock, innerPassedBy, kept, Asked, secured, alone, isFree, cleared, Broken, Run, told, Each, unsafe, together, showing, right, Differs, unlike}
 use Rattle.safety.proofs.Computed.{runComputed}
 use Rattle.safety.proofs.Tested.{brokenTest, is-broken}
 
@@ -72,7 +73,7 @@ pub wrong-boxes-break : (what : Asked) → Each (λ r. Broken what (r .layout) (
 wrong-boxes-break what = each-passes _ (λ r. is-broken (r .layout) (told r) what) (unsafe what) (tested what)
 
 -- routes 1 and 2 conflict, and both are locked
-pub conflict-locked : Safe T (told together) → ⊥
+pub conflict-locked : Safe layoutT (told together) → ⊥
 unfolding runComputed
 conflict-locked S = S .apart 1 2 (lit< tt) (lit< tt) refl (eqb-false _ 0 refl) (eqb-false _ 0 refl)
 

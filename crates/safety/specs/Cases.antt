@@ -11,11 +11,7 @@ use Rattle.interlocking.specs.declared.Answer.{Answer}
 use Rattle.interlocking.specs.State.{cold}
 use Rattle.layout.specs.Load.{load}
 use Rattle.panel.specs.Panel.{image, answer, drawn}
-use Rattle.step_facts.specs.Run.{Event, box, answers, fromCold}
-
--- an event by its numbers
-abbrev pub ev : ℕ → ℕ → ℕ → Event
-ev k a b = record { kind = k; first = a; second = b }
+use Rattle.step_facts.specs.Run.{Event, event, box, answers, fromCold}
 
 -- number and detail of each answer, one after the other
 abbrev pub numbers : List Answer → List ℕ
@@ -33,18 +29,19 @@ look s = getD (s .phase) 0 0 ∷ getD (s .direction) 0 0 ∷ getD (s .stage) 0 0
 
 -- P1: the events of section 8
 abbrev pub p1 : List Event
-p1 = ev 4 0 0 ∷ ev 1 0 1 ∷ ev 1 1 1 ∷ ev 1 2 1 ∷ ev 1 3 1 ∷ ev 2 0 1 ∷ ev 6 0 1 ∷ ev 7 0 1 ∷ ev 6 0 1 ∷ ev 4 1 0 ∷ ev 4 0 0 ∷ ev 4 2 0 ∷ []
+p1 = event 4 0 0 ∷ event 1 0 1 ∷ event 1 1 1 ∷ event 1 2 1 ∷ event 1 3 1 ∷ event 2 0 1 ∷ event 6 0 1 ∷ event 7 0 1 ∷ event 6 0 1 ∷ event 4 1 0 ∷ event 4 0 0 ∷ event 4 2 0 ∷ []
 
--- P3, P4: a train leaves A, passes the block, arrives at B
+-- P3: a train leaves A for the block
 abbrev pub p3 : List Event
-p3 = ev 1 0 2 ∷ ev 1 1 2 ∷ ev 1 0 1 ∷ []
+p3 = event 1 0 2 ∷ event 1 1 2 ∷ event 1 0 1 ∷ []
 
+-- P4: it arrives at B
 abbrev pub p4 : List Event
-p4 = ev 1 2 2 ∷ ev 1 3 2 ∷ ev 1 1 1 ∷ []
+p4 = event 1 2 2 ∷ event 1 3 2 ∷ event 1 1 1 ∷ []
 
 -- P5: the block's wire dies before it reads free
 abbrev pub p5 : List Event
-p5 = ev 1 2 2 ∷ ev 1 3 2 ∷ ev 1 1 0 ∷ ev 1 1 1 ∷ []
+p5 = event 1 2 2 ∷ event 1 3 2 ∷ event 1 1 0 ∷ event 1 1 1 ∷ []
 
 -- P2: the cold panel
 abbrev pub coldPanel : List ℕ
@@ -77,7 +74,7 @@ cases bytes =
     -- P5: held in stage 0 (code 1), secured
     ∷ same (look (fromCold L (p1 ++ (p3 ++ p5)))) (0 ∷ 1 ∷ 1 ∷ [])
     -- P6: cancelling (phase 3) after 89 seconds, idle after 90
-    ∷ same (route0 (answers (box L) (fromCold L (p1 ++ (ev 5 0 0 ∷ []))) (replicate 90 (ev 10 0 0)))) (replicate 89 3 ++ (0 ∷ []))
+    ∷ same (route0 (answers (box L) (fromCold L (p1 ++ (event 5 0 0 ∷ []))) (replicate 90 (event 10 0 0)))) (replicate 89 3 ++ (0 ∷ []))
     -- P7: a buffer of 15 bytes gets 27 and length 0 and stays as it was; one of 16 bytes gets the image
     ∷ same (outcome L (replicate 15 9)) (27 ∷ 0 ∷ replicate 15 9)
     ∷ same (outcome L (replicate 16 9)) (0 ∷ 16 ∷ coldPanel)
