@@ -201,7 +201,7 @@ module _ (L : Layout) (S : Sound L) (s : State) (h : History) (I : Inv L s h) (e
       let x : Beyond = beyond L l i w in
       let up : farUp L s l w x ≡ true = sym (far-proceeds s few (there w)) ∙ and-left _ _ fell in
       let down : farUp L (lit L s e) l w x ≡ false = sym (far-proceeds (lit L s e) few (there w)) ∙ not-true _ (and-right _ _ fell) in
-      let ways : direction s l ≤ 2 = two-ways L s e pass l (omega (arith, S .ranges .lineCount)) in
+      let ways : direction s l ≤ 2 = two-ways L s e pass l in
       inl (record {
         entered = I .entered l i b c (entered-before w refl z d taken up);
         stays = let quiet = of-block w refl z d taken up in (omega arith, omega arith);

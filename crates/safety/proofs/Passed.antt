@@ -14,7 +14,6 @@ use Rattle.laws.proofs.Searches.{lowest-none}
 use Rattle.laws.proofs.Tests.{and-right, and-both, not-both, fails-from, every-at, all-at, any-at}
 use Rattle.sets.specs.Sets as sets
 use Rattle.sets.proofs.Sets.{holds-setOf}
-use Rattle.track.specs.Lists.{between}
 use Rattle.track.specs.Objects.{line}
 use Rattle.tables.specs.Readings.{reading}
 use Rattle.layout.specs.declared.Layout.{Layout}
@@ -30,10 +29,11 @@ use Rattle.refusals.specs.Orders.{exitRefusal, routeRefusal, setRefusal, cancel
 use Rattle.refusals.specs.Events.{eventRefusal}
 use Rattle.refusals.proofs.Granted.{granted-at, when-granted}
 use Rattle.interlocking.specs.declared.State.{State}
-use Rattle.interlocking.specs.State.{codes, routesInRange, inRange}
+use Rattle.interlocking.specs.State.{inRange}
 use Rattle.interlocking.specs.Step.{orderRefusal, refusal}
 use Rattle.step_facts.specs.Run.{Event}
-use Rattle.safety.proofs.Entries.{phase, direction, holds, read-at}
+use Rattle.step_facts.proofs.Range.{inRange-means, read-within}
+use Rattle.safety.proofs.Entries.{phase, direction, holds}
 
 -- ---- reasons that there were not
 
@@ -68,11 +68,8 @@ module _ (L : Layout) (s : State) (e : Event) (pass : refusal (sound L and inRan
   in-range = and-right _ _ (not-false _ (when-granted _ 18 0 (omega arith) (granted-at _ (granted-at _ pass 0) 0)))
 
   -- a line is neutral or secured one of the two ways
-  pub two-ways : (l : ℕ) → l < 8 → direction s l ≤ 2
-  unfolding inRange routesInRange codes between
-  two-ways l b =
-      rw (read-at 8 0 (s .direction) l b)
-      (leb-true _ 2 (and-right _ _ (all-at _ _ (every-at _ (every-at _ in-range 3) 3) l b)))
+  pub two-ways : (l : ℕ) → direction s l ≤ 2
+  two-ways l = read-within (inRange-means s .0 in-range .direction) 0 l (omega arith) .1
 
   -- none of the reasons of its kind
   order-granted : (k : ℕ) → e .kind ≡ k → orderRefusal L s k (e .first) .number ≡ 0

@@ -7,12 +7,11 @@ use mathlib.Core.List.{List, [], _∷_, _++_}
 use native.Mathlib.Decide.{ℕ-discrete}
 use native.Mathlib.Nat.{le-refl, add-zero, add-suc, suc-add}
 use native.Mathlib.Omega.{arith}
-use borrow.Author.Tests.{eqb-false, ne-eqb, leb-true, not-true}
+use borrow.Author.Tests.{eqb-false, ne-eqb, not-true}
 use lib.ListN.{replicate}
 use Rattle.laws.specs.Tests.{_and_}
 use Rattle.laws.proofs.Choice.{if-both}
-use Rattle.laws.proofs.Tests.{and-left, and-right, and-both, not-both, every-at, all-at}
-use Rattle.track.specs.Lists.{between}
+use Rattle.laws.proofs.Tests.{and-left, and-right, and-both, not-both}
 use Rattle.tables.specs.Readings as readings
 use Rattle.tables.specs.Locks.{locked}
 use Rattle.layout.specs.declared.Layout.{Layout}
@@ -21,12 +20,13 @@ use Rattle.layout.specs.Sound.{sound}
 use Rattle.layout_facts.specs.Plain.{block, Sound}
 use Rattle.layout_facts.proofs.Uses.{block-below}
 use Rattle.interlocking.specs.declared.State.{State}
-use Rattle.interlocking.specs.State.{codes, routesInRange, inRange}
+use Rattle.interlocking.specs.State.{inRange}
 use Rattle.interlocking.specs.Step.{refusal, step}
 use Rattle.step_facts.specs.Run.{Event, event, box, stateAfter}
+use Rattle.step_facts.proofs.Range.{inRange-means, read-within}
 use Rattle.step_facts.proofs.Step.{step-in-range}
 use Rattle.safety.specs.WayOut.{standing, cancels, ninetySeconds, readFree, allReadFree, releases, Granted}
-use Rattle.safety.proofs.Entries.{phase, direction, stage, read-at}
+use Rattle.safety.proofs.Entries.{phase, direction, stage}
 use Rattle.safety.proofs.Within.{end, says-nothing}
 use Rattle.safety.proofs.Granted.{cancel-granted, second-granted, reading-granted, release-granted, step-granted, step-end}
 use Rattle.safety.proofs.Calm.{second, Calm, idle-on, calm-on, cancelled, second-on, section-kept, section-free, free-on, neutral-on, open-on}
@@ -63,9 +63,8 @@ pub after-that : {L : Layout} {s : State} {xs ys : List Event} {P Q : State → 
 after-that {L} {s} {xs} {ys} {P} {Q} G next = joined L Q xs ys s (G .granted) (next _ (G .ranged) (G .ends))
 
 -- what a state in range has counted of a route's seconds
-few-seconds : (s : State) → inRange s ≡ true → (r : ℕ) → r < 48 → second s r ≤ 89
-unfolding inRange routesInRange codes between
-few-seconds s ok r b = rw (read-at 48 0 (s .second) r b) (leb-true _ 89 (and-right _ _ (all-at _ _ (every-at _ (every-at _ ok 3) 2) r b)))
+few-seconds : (s : State) → inRange s ≡ true → (r : ℕ) → second s r ≤ 89
+few-seconds s ok r = read-within (inRange-means s .0 ok .second) 0 r (omega arith) .1
 
 -- a route that is not locked, or is cancelling
 not-standing : (s : State) (r : ℕ) → standing s r ≡ false → Calm s r
@@ -169,7 +168,7 @@ module _ (L : Layout) (ok : sound L ≡ true) (S : Sound L) where
   counted-idle es s G = record { granted = G .granted; ranged = G .ranged; ends = λ r b. ⊎-elim (λ z. z) (λ t. absurd (late r b (t .1))) (G .ends r b) }
     where
       late : (r : ℕ) → r < L .routes → 90 ≤ second (stateAfter (box L) s es) r → ⊥
-      late r b t = let few = few-seconds (stateAfter (box L) s es) (G .ranged) r (omega (arith, S .ranges .routeCount)) in omega arith
+      late r b t = let few = few-seconds (stateAfter (box L) s es) (G .ranged) r in omega arith
 
   pub wait-all : (s : State) → inRange s ≡ true → AllCalm L 0 s → Goes L s ninetySeconds (Idle L)
   unfolding ninetySeconds

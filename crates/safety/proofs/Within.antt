@@ -28,6 +28,7 @@ use Rattle.tables.specs.Locks.{locked, lockedExitBy, lockedExit}
 use Rattle.interlocking.specs.Settle.{fallenAt, signals, farSections, heldOf, routeAfter, unlessIdle, routesBy, routes, passable, ends, directionAfter, lineRelease, settle}
 use Rattle.interlocking.specs.Step.{meant, gives, ownOf, own, after}
 use Rattle.step_facts.specs.Run.{Event}
+use Rattle.step_facts.proofs.Refusals.{recorded-in}
 use Rattle.safety.specs.History.{says}
 use Rattle.safety.proofs.Entries.{phase, direction, stage, chosen, passed-over, read-each, read-put}
 
@@ -102,13 +103,6 @@ pub says-recorded : (e : Event) (g : ℕ) → e .kind ≡ 1 → e .first ≡ g �
 unfolding says recorded _and_
 says-recorded e g k f = chosen _ _ 0 (rw (eq-eqb _ 1 k, eq-eqb _ g f))
 
-pub recorded-is : (b : ℕ) → (1 ≤ recorded b) × (recorded b ≤ 3)
-unfolding recorded
-recorded-is b = if-both R (eqb b 1) (λ t. omega arith) (λ f. if-both R (eqb b 2) (λ t. omega arith) (λ g. omega arith))
-  where
-    R : ℕ → Type 0
-    R n = (1 ≤ n) × (n ≤ 3)
-
 pub meant-reading : (e : Event) → e .kind ≡ 1 → meant (e .kind) (e .second) ≡ recorded (e .second)
 unfolding meant
 meant-reading e k = chosen _ _ _ (le-leb (e .kind) 2 (omega arith))
@@ -127,7 +121,7 @@ section-done L s e g b = go (is-done L s e)
         ≡ if eqb (says e g) 0 then read 64 3 (s .section) g else says e g
     at k (yes q) =
         let told = says-recorded e g k (sym q) in
-        let some = recorded-is (e .second) in
+        let some = recorded-in (e .second) in
         chosen _ _ _ (eq-eqb _ _ q) ∙ meant-reading e k ∙ sym told ∙ sym (passed-over _ _ _ (ne-eqb (says e g) 0 (omega arith)))
     at k (no d) = passed-over _ _ _ (ne-eqb _ _ d) ∙ sym (chosen _ _ _ (eq-eqb _ 0 (says-other e g (λ q. d (sym q)))))
 

@@ -33,7 +33,7 @@ unfolding refusal
 second-right isSound L s k a b p = granted-second isSound L k a b (granted-at _ p 0)
 
 -- what is recorded of a reading is free, occupied or none
-recorded-in : (code : ℕ) → In 1 3 (recorded code)
+pub recorded-in : (code : ℕ) → In 1 3 (recorded code)
 unfolding recorded
 recorded-in code = if-both (In 1 3) _ (λ t. omega arith) (λ t. if-both (In 1 3) _ (λ u. omega arith) (λ u. omega arith))
 
