@@ -28,7 +28,7 @@ use Rattle.interlocking.specs.Settle.{signals, farSections, heldOf, routeAfter,
 use Rattle.interlocking.specs.Step.{gives, ownOf, own, after}
 use Rattle.step_facts.specs.Run.{Event, event}
 use Rattle.safety.specs.History.{says}
-use Rattle.safety.proofs.Entries.{phase, direction, stage, chosen, passed-over, read-each, read-put}
+use Rattle.safety.proofs.Entries.{phase, direction, stage, chosen, passed-over, read-each, put-here, put-elsewhere}
 use Rattle.safety.proofs.Within.{done, lit, end, Done, reads, sets, cancels, secures, opens, leaves, is-done, says-other, says-recorded, section-done, fallen-else, phase-lit, phase-stays, released}
 use Rattle.safety.proofs.Blocks.{OwnCase, byHand, unread, frees, shuts, takes, own-case}
 use Rattle.safety.proofs.Routes.{still-open}
@@ -52,8 +52,7 @@ module _ (L : Layout) (S : Sound L) (s : State) (e : Event) (r : ℕ) (b : r < L
       go : {t : State} → Done L s e t → phase t r ≡ phase s r
       go (reads k) = refl
       go (sets k) = absurd (d k)
-      go (cancels k) =
-          read-put 48 0 (s .phase) (e .first) 3 r (omega (arith, S .ranges .routeCount)) ∙ passed-over _ _ _ (ne-eqb r _ (λ z. other k (sym z)))
+      go (cancels k) = put-elsewhere 48 0 (s .phase) (e .first) 3 r (omega (arith, S .ranges .routeCount)) (λ z. other k (sym z))
       go (secures k) = refl
       go (opens k) = refl
       go (leaves f u) = rw (u .1)
@@ -76,7 +75,7 @@ module _ (L : Layout) (S : Sound L) (s : State) (e : Event) (r : ℕ) (b : r < L
   -- and so is one that it cancelled
   pub cancelled : e .kind ≡ 5 → e .first ≡ r → Calm (end L s e) r
   unfolding own ownOf ownCancel withRoutes if_then_else_
-  cancelled k q = calm-then (inr (rw (k, q) (read-put 48 0 (s .phase) r 3 r (omega (arith, S .ranges .routeCount)) ∙ chosen _ _ _ (eq-eqb r r refl))))
+  cancelled k q = calm-then (inr (rw (k, q) (put-here 48 0 (s .phase) r 3 r (omega (arith, S .ranges .routeCount)) refl)))
 
 -- in an event that gives a second a cancelling route goes, or counts it
 ticked : (ls : List Line) (sections : List ℕ) (a : Route) (g : Gives) (h : Held) → g .tick ≡ 1 → h .phase ≡ 3
@@ -154,9 +153,9 @@ module _ (L : Layout) (S : Sound L) (s : State) (l : ℕ) (k : ℕ) (b : k < L .
   neutral-on c = ⊎-elim (λ q. q ∙ own-neutral c (ℕ-discrete k l)) (λ t. t .0) (released L (S .ranges .lineCount) s (event 7 l 1) k b)
     where
       own-neutral : (k ≡ l) ⊎ (direction s k ≡ 0) → Dec (k ≡ l) → direction (done L s (event 7 l 1)) k ≡ 0
-      own-neutral c (yes q) = read-put 8 0 (s .direction) l 0 k (omega (arith, S .ranges .lineCount)) ∙ chosen _ _ _ (eq-eqb k l q)
+      own-neutral c (yes q) = put-here 8 0 (s .direction) l 0 k (omega (arith, S .ranges .lineCount)) q
       own-neutral (inl q) (no d) = absurd (d q)
-      own-neutral (inr z) (no d) = read-put 8 0 (s .direction) l 0 k (omega (arith, S .ranges .lineCount)) ∙ passed-over _ _ _ (ne-eqb k l d) ∙ z
+      own-neutral (inr z) (no d) = put-elsewhere 8 0 (s .direction) l 0 k (omega (arith, S .ranges .lineCount)) d ∙ z
 
   -- it opens the line's blocks, and leaves open what is
   pub open-on : (i : ℕ) → i < lineIn L k .blocks → (k ≡ l) ⊎ (stage s k i ≡ 0) → stage (end L s (event 7 l 1)) k i ≡ 0

@@ -31,7 +31,7 @@ use Rattle.safety.proofs.Held.{opened-then, entered-then}
 use Rattle.safety.proofs.Far.{passing-then}
 use Rattle.safety.proofs.Alone.{shown-locked, main-for, enters-open, alone}
 use Rattle.safety.proofs.Within.{end, says-of-one}
-use Rattle.safety.proofs.Granted.{reading-granted, step-end}
+use Rattle.safety.proofs.Granted.{reading-granted, step-granted}
 
 -- ---- the invariant says what is demanded
 
@@ -76,7 +76,7 @@ module _ (L : Layout) (ok : sound L ≡ true) (S : Sound L) (s : State) (h : His
   accepted : refusal (sound L and inRange s) L s (e .kind) (e .first) (e .second) .number ≡ 0 → Inv L (end L s e) (granted L s e ∷ h)
   unfolding shown
   accepted pass = record {
-    ranged = rw (sym (step-end L s e pass)) (step-in-range L s _ _ _ (I .ranged));
+    ranged = rw (step-granted L s e pass) at (step-in-range L s (e .kind) (e .first) (e .second) (I .ranged));
     seen = refl;
     reads = reads-on L S s h I e pass;
     apart = apart-on L S s h I e pass;

@@ -20,6 +20,7 @@ use Rattle.layout.specs.Sound.{sound}
 use Rattle.layout_facts.specs.Plain.{block, Sound}
 use Rattle.layout_facts.proofs.Uses.{block-below}
 use Rattle.interlocking.specs.declared.State.{State}
+use Rattle.interlocking.specs.declared.Answer.{Answer}
 use Rattle.interlocking.specs.State.{inRange}
 use Rattle.interlocking.specs.Step.{refusal, step}
 use Rattle.step_facts.specs.Run.{Event, event, box, stateAfter}
@@ -28,7 +29,7 @@ use Rattle.step_facts.proofs.Step.{step-in-range}
 use Rattle.safety.specs.WayOut.{standing, cancels, ninetySeconds, readFree, allReadFree, releases, Granted}
 use Rattle.safety.proofs.Entries.{phase, direction, stage}
 use Rattle.safety.proofs.Within.{end, says-nothing}
-use Rattle.safety.proofs.Granted.{cancel-granted, second-granted, reading-granted, release-granted, step-granted, step-end}
+use Rattle.safety.proofs.Granted.{cancel-granted, second-granted, reading-granted, release-granted, step-granted}
 use Rattle.safety.proofs.Calm.{second, Calm, idle-on, calm-on, cancelled, second-on, section-kept, section-free, free-on, neutral-on, open-on}
 
 -- ---- lists of events that are granted and end in a state in range of which P holds
@@ -116,7 +117,9 @@ module _ (L : Layout) (ok : sound L ≡ true) (S : Sound L) where
   -- one event that nothing refuses
   goes : (P : State → Type 0) (s : State) (e : Event) (es : List Event) → refusal (sound L and inRange s) L s (e .kind) (e .first) (e .second) .number ≡ 0
       → inRange s ≡ true → ((t : State) → t ≡ end L s e → inRange t ≡ true → Goes L t es P) → Goes L s (e ∷ es) P
-  goes P s e es pass ranged next = first L P s e es (step-granted L s e pass) (next _ (step-end L s e pass) (step-in-range L s _ _ _ ranged))
+  goes P s e es pass ranged next =
+      let done = step-granted L s e pass in
+      first L P s e es (ap (λ (r : Answer). r .number) done) (next _ (ap (λ (r : Answer). r .next) done) (step-in-range L s _ _ _ ranged))
 
   -- cancel what is locked
   pub cancel-all : (n : ℕ) (s : State) → n ≤ L .routes → inRange s ≡ true → AllCalm L n s → Goes L s (cancels L n s) (AllCalm L 0)
@@ -145,8 +148,9 @@ module _ (L : Layout) (ok : sound L ≡ true) (S : Sound L) where
       cancel : ((t : State) → Rest t) → standing s n ≡ true → Goes L s (event 5 n 0 ∷ cancels L n (step L s 5 n 0 .next)) (AllCalm L 0)
       cancel rest t =
           let pass = cancel-granted L s ok ranged n few (standing-locked s n t) (standing-kept s n t) in
-          first L (AllCalm L 0) s (event 5 n 0) _ (step-granted L s (event 5 n 0) pass)
-          (rest _ (omega arith) (step-in-range L s 5 n 0 ranged) (rw (step-end L s (event 5 n 0) pass) then-calm))
+          let done = step-granted L s (event 5 n 0) pass in
+          first L (AllCalm L 0) s (event 5 n 0) _ (ap (λ (r : Answer). r .number) done)
+          (rest _ (omega arith) (step-in-range L s 5 n 0 ranged) (rw done then-calm))
 
   -- ninety seconds
   wait : (n k : ℕ) (s : State) → inRange s ≡ true → Counted L k s → Goes L s (replicate n (event 10 0 0)) (Counted L (k + n))

@@ -30,7 +30,7 @@ use Rattle.interlocking.specs.Step.{meant, gives, ownOf, own, after}
 use Rattle.step_facts.specs.Run.{Event}
 use Rattle.step_facts.proofs.Refusals.{recorded-in}
 use Rattle.safety.specs.History.{says}
-use Rattle.safety.proofs.Entries.{phase, direction, stage, chosen, passed-over, read-each, read-put}
+use Rattle.safety.proofs.Entries.{phase, direction, stage, chosen, passed-over, read-each, put-here, put-elsewhere}
 
 -- ---- the states within one event
 
@@ -117,17 +117,17 @@ section-done L s e g b = go (is-done L s e)
     kept d = sym (chosen _ _ _ (eq-eqb _ 0 (says-nothing e g d)))
 
     at : e .kind ≡ 1 → Dec (g ≡ e .first)
-        → (if eqb g (e .first) then meant (e .kind) (e .second) else read 64 3 (s .section) g)
+        → read 64 3 (put 64 (s .section) (e .first) (meant (e .kind) (e .second))) g
         ≡ if eqb (says e g) 0 then read 64 3 (s .section) g else says e g
     at k (yes q) =
         let told = says-recorded e g k (sym q) in
         let some = recorded-in (e .second) in
-        chosen _ _ _ (eq-eqb _ _ q) ∙ meant-reading e k ∙ sym told ∙ sym (passed-over _ _ _ (ne-eqb (says e g) 0 (omega arith)))
-    at k (no d) = passed-over _ _ _ (ne-eqb _ _ d) ∙ sym (chosen _ _ _ (eq-eqb _ 0 (says-other e g (λ q. d (sym q)))))
+        put-here 64 3 (s .section) _ _ g b q ∙ meant-reading e k ∙ sym told ∙ sym (passed-over _ _ _ (ne-eqb (says e g) 0 (omega arith)))
+    at k (no d) = put-elsewhere 64 3 (s .section) _ _ g b d ∙ sym (chosen _ _ _ (eq-eqb _ 0 (says-other e g (λ q. d (sym q)))))
 
     go : {t : State} → Done L s e t
         → read 64 3 (t .section) g ≡ if eqb (says e g) 0 then read 64 3 (s .section) g else says e g
-    go (reads k) = read-put 64 3 (s .section) (e .first) _ g b ∙ at k (ℕ-discrete g (e .first))
+    go (reads k) = at k (ℕ-discrete g (e .first))
     go (sets k) = kept (omega arith)
     go (cancels k) = kept (omega arith)
     go (secures k) = kept (omega arith)
@@ -198,7 +198,7 @@ module _ (L : Layout) (few : L .routes ≤ 48) (s : State) (e : Event) (r : ℕ)
       stored : (v : ℕ) → (e .first ≡ r → On 4 e r ⊎ (phase s r ≢ 0)) → Dec (r ≡ e .first)
           → read 48 0 (put 48 (s .phase) (e .first) v) r ≢ 0 → On 4 e r ⊎ (phase s r ≢ 0)
       stored v here (yes q) x = here (sym q)
-      stored v here (no q) x = inr (λ z. x (read-put 48 0 (s .phase) (e .first) v r (omega arith) ∙ passed-over _ _ _ (ne-eqb r _ q) ∙ z))
+      stored v here (no q) x = inr (λ z. x (put-elsewhere 48 0 (s .phase) (e .first) v r (omega arith) q ∙ z))
 
       go : {t : State} → Done L s e t → phase t r ≢ 0
           → On 4 e r ⊎ (phase s r ≢ 0)
@@ -218,7 +218,7 @@ module _ (L : Layout) (few : L .lines ≤ 8) (s : State) (e : Event) (l : ℕ) (
   direction-same n m = go (is-done L s e)
     where
       elsewhere : (v : ℕ) → (e .first ≡ l → ⊥) → read 8 0 (put 8 (s .direction) (e .first) v) l ≡ direction s l
-      elsewhere v d = read-put 8 0 (s .direction) (e .first) v l (omega arith) ∙ passed-over _ _ _ (ne-eqb l _ (λ z. d (sym z)))
+      elsewhere v d = put-elsewhere 8 0 (s .direction) (e .first) v l (omega arith) (λ z. d (sym z))
 
       go : {t : State} → Done L s e t → direction t l ≡ direction s l
       go (reads k) = refl
