@@ -6,7 +6,7 @@ use mathlib.Core.Bool.{false}
 use mathlib.Core.List.{List}
 use native.Mathlib.Decide.{ℕ-discrete, decLt}
 use native.Mathlib.Omega.{arith}
-use borrow.Author.Tests.{eq-eqb, ne-eqb, le-leb, lt-ltb}
+use borrow.Author.Tests.{eqb-true, eq-eqb, ne-eqb, le-leb, lt-ltb}
 use Rattle.laws.specs.Choice.{if_then_else_}
 use Rattle.laws.specs.Tables.{read}
 use Rattle.laws.proofs.Choice.{if-both}
@@ -15,6 +15,7 @@ use Rattle.track.specs.declared.Line.{Line}
 use Rattle.track.specs.declared.Route.{Route}
 use Rattle.tables.specs.Readings.{recorded}
 use Rattle.tables.specs.Readings as readings
+use Rattle.tables.specs.Blocks.{isOpen}
 use Rattle.release.specs.declared.Gives.{Gives}
 use Rattle.release.specs.declared.Held.{Held}
 use Rattle.release.specs.Release.{stepAfter, secondsAfter, goes, heldAfter}
@@ -30,8 +31,8 @@ use Rattle.step_facts.specs.Run.{Event, event}
 use Rattle.safety.specs.History.{says}
 use Rattle.safety.proofs.Entries.{phase, direction, stage, chosen, passed-over, read-each, put-here, put-elsewhere}
 use Rattle.safety.proofs.Within.{done, lit, end, Done, reads, sets, cancels, secures, opens, leaves, is-done, says-other, says-recorded, section-done, fallen-else, phase-lit, phase-stays, released}
-use Rattle.safety.proofs.Blocks.{OwnCase, byHand, unread, frees, shuts, takes, own-case}
-use Rattle.safety.proofs.Routes.{still-open}
+use Rattle.safety.proofs.Blocks.{OwnCase, byHand, unread, frees, shuts, takes}
+use Rattle.safety.proofs.Routes.{own-of, open-same}
 
 -- ---- routes
 
@@ -159,11 +160,9 @@ module _ (L : Layout) (S : Sound L) (s : State) (l : ℕ) (k : ℕ) (b : k < L .
 
   -- it opens the line's blocks, and leaves open what is
   pub open-on : (i : ℕ) → i < lineIn L k .blocks → (k ≡ l) ⊎ (stage s k i ≡ 0) → stage (end L s (event 7 l 1)) k i ≡ 0
-  open-on i h c = still-open L S s (event 7 l 1) k i b h (go own-of c)
+  unfolding isOpen
+  open-on i h c = eqb-true _ 0 (open-same L S s (event 7 l 1) k i b h ∙ eq-eqb _ 0 (go (own-of L S s (event 7 l 1) k i b h) c))
     where
-      own-of : OwnCase L (event 7 l 1) k i (stage s k i) (stage (done L s (event 7 l 1)) k i)
-      own-of = own-case L (S .ranges .lineCount) s (event 7 l 1) k i b h (omega (arith, S .ranges .lines k b .blockCount))
-
       go : OwnCase L (event 7 l 1) k i (stage s k i) (stage (done L s (event 7 l 1)) k i) → (k ≡ l) ⊎ (stage s k i ≡ 0) → stage (done L s (event 7 l 1)) k i ≡ 0
       go (byHand kind q x) c = x
       go (unread n q x) (inl z) = absurd (n (refl, sym z))
