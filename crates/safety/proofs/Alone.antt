@@ -5,7 +5,7 @@ use mathlib.Core.Logic.{_≢_}
 use mathlib.Core.Bool.{true}
 use native.Mathlib.Decide.{ℕ-discrete}
 use native.Mathlib.Omega.{arith}
-use borrow.Author.Tests.{eqb-true, eq-eqb, ne-eqb, ltb-true}
+use borrow.Author.Tests.{eqb-true, eq-eqb, ne-eqb, ltb-true, lt-ltb}
 use lib.Dec.{ltb}
 use Rattle.laws.proofs.Tests.{and-left, and-right, implied, every-at, any-some}
 use Rattle.track.specs.Objects.{nearest}
@@ -17,11 +17,12 @@ use Rattle.layout_facts.specs.Plain.{block, nearestBlock, Sound, sameEntry}
 use Rattle.layout_facts.proofs.Uses.{same-exit}
 use Rattle.interlocking.specs.declared.State.{State}
 use Rattle.panel.specs.Panel.{hasSignal, routeByte}
-use Rattle.safety.specs.Shown.{Signal, main, into, Panel, routeShows, panel}
+use Rattle.panel_facts.proofs.Shows.{main-shows}
+use Rattle.safety.specs.Shown.{Signal, main, into, Panel, signalShows, routeShows, panel}
 use Rattle.safety.specs.History.{History, shown}
 use Rattle.safety.specs.Demand3.{Proceeds, Enters}
 use Rattle.safety.proofs.Entries.{phase, direction, stage, chosen, passed-over}
-use Rattle.safety.proofs.Signals.{main-shown, into-shown}
+use Rattle.safety.proofs.Signals.{into-shown}
 use Rattle.safety.proofs.Invariant.{Inv}
 
 -- no exit signal and block signal lead into one block the same way: a block signal stands behind another block
@@ -49,9 +50,9 @@ module _ (L : Layout) (S : Sound L) (s : State) (h : History) (I : Inv L s h) wh
 
   -- a main signal shows proceed for a route in phase 1 that starts at it
   pub main-for : (x : ℕ) → Proceeds (shown L h) (main x) → (r : ℕ) × (r < L .routes) × (phase s r ≡ 1) × (routeIn L r .entry ≡ x)
-  unfolding panel mainProceeds routeProceeds routeIn
+  unfolding panel signalShows mainProceeds routeProceeds routeIn
   main-for x p =
-      let (r, there, t) = any-some _ _ (main-shown L s x (rw (I .seen) at p)) in
+      let (r, there, t) = any-some _ _ (sym (main-shows _ _ _ x) ∙ lt-ltb 20 _ (rw (I .seen) at p)) in
       (r, there, eqb-true _ 1 (and-left _ _ t), eqb-true _ x (and-right _ _ t))
 
   -- two locked routes that conflict if they are two are one

@@ -6,7 +6,7 @@ use mathlib.Core.Bool.{true, false}
 use mathlib.Core.List.{List, _∷_}
 use native.Mathlib.Decide.{ℕ-discrete}
 use native.Mathlib.Omega.{arith}
-use borrow.Author.Tests.{eqb-true, eq-eqb, ne-eqb, lt-ltb, not-true}
+use borrow.Author.Tests.{eqb-true, eq-eqb, ne-eqb, ltb-true, lt-ltb, not-true}
 use lib.ListN.{getD}
 use Rattle.laws.specs.Choice.{if_then_else_}
 use Rattle.laws.specs.Tests.{_and_}
@@ -27,7 +27,8 @@ use Rattle.interlocking.specs.Settle.{signals, farProceeds, farDropped, farRead
 use Rattle.interlocking.specs.Step.{refusal, after}
 use Rattle.step_facts.specs.Run.{Event}
 use Rattle.panel.specs.Panel.{hasSignal}
-use Rattle.safety.specs.Shown.{lineShows, panel}
+use Rattle.panel_facts.proofs.Shows.{main-shows, main-stops}
+use Rattle.safety.specs.Shown.{signalShows, lineShows, panel}
 use Rattle.safety.specs.History.{History, says, gave, reading, Since}
 use Rattle.safety.specs.Demand3.{Beyond, beyond, sectionAt, signalAt, farSection, Proceeds, Stops, Passage}
 use Rattle.safety.proofs.Entries.{phase, direction, stage, chosen, passed-over}
@@ -35,7 +36,7 @@ use Rattle.safety.proofs.Passed.{two-ways, secure-neutral}
 use Rattle.safety.proofs.Within.{On, done, lit, end, says-of-one, says-other, phase-kept, lit-clear, direction-same, direction-held}
 use Rattle.safety.proofs.Blocks.{OwnCase, byHand, unread, frees, shuts, takes, FarCase, keeps, proves, loses}
 use Rattle.safety.proofs.Beyond.{BeyondCase, aBlock, aStation, beyond-case, far-there, far-section, farUp, far-proceeds}
-use Rattle.safety.proofs.Signals.{main-lit, main-stops, into-lit, into-stops}
+use Rattle.safety.proofs.Signals.{into-lit, into-stops}
 use Rattle.safety.proofs.Told.{reading-kept, reading-given}
 use Rattle.safety.proofs.Invariant.{Inv}
 use Rattle.safety.proofs.Routes.{granted, own-of, far-of, open-same, enterable-same, reads-on}
@@ -82,22 +83,22 @@ far-signal n w j up down = go (ℕ-discrete w 1)
 module _ (L : Layout) (S : Sound L) (s : State) (e : Event) (l i w : ℕ) (b : l < L .lines) where
   -- a signal at proceed shows so
   far-showed : (x : Beyond) → BeyondCase L l i w x → w ≢ 0 → direction s l ≤ 2 → farUp L s l w x ≡ true → Proceeds (panel L s) (signalAt L l w x)
-  unfolding panel blockProceeds
+  unfolding panel signalShows blockProceeds
   far-showed x (aBlock j h d n up down) z few p =
       let way = eqb-true (direction s l) w (and-left _ _ p) in
-      into-lit L s l j w z (omega arith) (far-signal _ w j up down) way (and-right _ _ p)
-  far-showed x (aStation k h a n) z few p = main-lit L s _ p
+      into-lit L s l j w z (omega arith) (far-signal _ w j up down) p
+  far-showed x (aStation k h a n) z few p = ltb-true 20 _ (main-shows _ _ _ _ ∙ p)
 
   -- one that fell within the event still shows stop at its end: phases never return to 1, and the far sections open no block
   far-stops : (x : Beyond) → BeyondCase L l i w x → w ≢ 0 → direction s l ≤ 2 → direction (done L s e) l ≡ w → direction (end L s e) l ≡ w
       → farUp L s l w x ≡ true → farUp L (lit L s e) l w x ≡ false → Stops (panel L (end L s e)) (signalAt L l w x)
-  unfolding panel blockProceeds mainProceeds routeProceeds signals withRoutes
+  unfolding panel signalShows blockProceeds mainProceeds routeProceeds signals withRoutes
   far-stops x (aBlock j h d n up down) z few own now p f =
       let way = eqb-true (direction s l) w (and-left _ _ p) in
       into-stops L (end L s e) l j w z (omega arith) (far-signal _ w j up down) now
       (fails-from _ (λ t. not-both (and-both _ _ (eq-eqb _ w own) (sym (enterable-same L S s e l j b h) ∙ t)) f))
   far-stops x (aStation k h a n) z few own now p f =
-      main-stops L (end L s e) _
+      main-stops (L .routes) (L .route) (end L s e .phase) _
       (fails-from _ (λ t.
       let (r, there, lit) = any-some _ _ t in
       let one = eqb-true (phase (end L s e) r) 1 (and-left _ _ lit) in
