@@ -28,8 +28,8 @@ pub which : (t : Bool) → Is t
 which true = holds refl
 which false = fails refl
 
--- a choice whose test is known
 module _ {A : Type 0} (t : Bool) (x y : A) where
+  -- a choice whose test is known to hold
   pub chosen : t ≡ true → (if t then x else y) ≡ x
   unfolding if_then_else_
   chosen e = rw e

@@ -167,21 +167,26 @@ module _ (L : Layout) (S : Sound L) (s : State) (h : History) (I : Inv L s h) (e
   -- this event gave it occupied, so it gave the block nothing: the block was entered by an event before
   module _ (w : ℕ) (own : direction (done L s e) l ≡ w) (z : stage (done L s e) l i ≡ 2) (d : w ≢ 0) (taken : farReading L (lit L s e) l i w ≡ 2)
       (up : farUp L s l w (beyond L l i w) ≡ true) where
+    -- the far section reads occupied then
     now : reading (farSection L l i w) (granted L s e ∷ h) ≡ 2
     now = sym (far-reads w) ∙ taken
 
+    -- before the event each open block read free
     opens : (j : ℕ) → j < lineIn L l .blocks → stage s l j ≡ 0 → readings.reading (s .section) (block L l j) ≡ 1
     opens j k z = I .reads _ (S .ranges .lines l b .blocks j k) ∙ I .opened l j b k z .isFree
 
+    -- so the far section read free, and this event says something of it
     of-far : says e (farSection L l i w) ≢ 0
     of-far q =
         let was = sym (I .reads _ (far-there L S l i w b c)) ∙ far-free L S l i w b c s opens (I .lights) (beyond L l i w) (there w) up in
         let still = reading-kept (granted L s e) h _ q in
         omega (arith, now)
 
+    -- so it says nothing of the block, by rule 1 another section
     of-block : says e (block L l i) ≡ 0
     of-block = says-other e _ (λ q. far-other L S l i w b c (beyond L l i w) (there w) (sym q ∙ says-of-one e _ of-far .1))
 
+    -- so the block was in stage 1 or 2 before
     entered-before : 2 ≤ stage s l i
     entered-before = go (own-of L S s e l i b c)
       where

@@ -3,18 +3,17 @@ use Prim.Native.Nat.{ℕ, _+_, _<_, _≤_}
 use mathlib.Core.Path.{_≡_, refl, _∙_}
 use mathlib.Core.Logic.{_≢_}
 use mathlib.Core.Bool.{Bool, true, false}
-use mathlib.Core.List.{List, [], _∷_}
+use mathlib.Core.List.{List}
 use native.Mathlib.Omega.{arith}
-use borrow.Author.Tests.{eqb-true, eqb-false, eq-eqb, leb-true, not-true, not-false}
-use lib.Dec.{eqb, ltb}
+use borrow.Author.Tests.{eqb-true, eqb-false, eq-eqb, not-true, not-false}
+use lib.Dec.{ltb}
 use Rattle.laws.specs.Choice.{if_then_else_}
 use Rattle.laws.specs.Tests.{_and_, lowest}
 use Rattle.laws.proofs.Choice.{if-both}
 use Rattle.laws.proofs.Searches.{lowest-none}
-use Rattle.laws.proofs.Tests.{and-right, and-both, not-both, fails-from, every-at, all-at, any-at}
+use Rattle.laws.proofs.Tests.{and-right, and-both, not-both, fails-from, any-at}
 use Rattle.sets.specs.Sets as sets
 use Rattle.sets.proofs.Sets.{holds-setOf}
-use Rattle.track.specs.Objects.{line}
 use Rattle.tables.specs.Readings.{reading}
 use Rattle.layout.specs.declared.Layout.{Layout}
 use Rattle.layout.specs.Layout.{lineIn, routeIn, conflict}
@@ -33,7 +32,7 @@ use Rattle.interlocking.specs.State.{inRange}
 use Rattle.interlocking.specs.Step.{orderRefusal, refusal}
 use Rattle.step_facts.specs.Run.{Event}
 use Rattle.step_facts.proofs.Range.{inRange-means, read-within}
-use Rattle.safety.proofs.Entries.{phase, direction, holds}
+use Rattle.safety.proofs.Entries.{phase, direction}
 
 -- ---- reasons that there were not
 

@@ -138,6 +138,7 @@ unmetTest alone L h r =
 unmetTest isFree L h r = not (eqb (reading (block L (routeIn L r .line) (entry L r)) h) 1)
 unmetTest cleared L h r = not (clearedTest L (routeIn L r .line) (entry L r) h)
 
+-- both, of some exit route
 abbrev pub brokenTest : Asked → Layout → History → Bool
 brokenTest what L h = any (L .routes) (λ r. letsTest L (shown L h) r and unmetTest what L h r)
 

@@ -101,10 +101,11 @@ Idle L s = (r : ℕ) → r < L .routes → phase s r ≡ 0
 abbrev Counted : Layout → ℕ → State → Type 0
 Counted L k s = (r : ℕ) → r < L .routes → (phase s r ≡ 0) ⊎ ((phase s r ≡ 3) × (k ≤ second s r))
 
--- the blocks of the lines from n on read free; those of line n from i on do, and those of the lines after it
+-- the blocks of the lines from n on read free
 abbrev LinesFree : Layout → ℕ → State → Type 0
 LinesFree L n s = (l i : ℕ) → n ≤ l → l < L .lines → i < lineIn L l .blocks → readings.reading (s .section) (block L l i) ≡ 1
 
+-- the blocks of line n from k on read free, and those of the lines after it
 abbrev BlocksFree : Layout → ℕ → ℕ → State → Type 0
 BlocksFree L n k s =
     (l i : ℕ) → (n < l) ⊎ ((n ≡ l) × (k ≤ i)) → l < L .lines → i < lineIn L l .blocks → readings.reading (s .section) (block L l i) ≡ 1
@@ -152,7 +153,7 @@ module _ (L : Layout) (ok : sound L ≡ true) (S : Sound L) where
           first L (AllCalm L 0) s (event 5 n 0) _ (ap (λ (r : Answer). r .number) done)
           (rest _ (omega arith) (step-in-range L s 5 n 0 ranged) (rw done then-calm))
 
-  -- ninety seconds
+  -- n seconds: each route counts them, or goes
   wait : (n k : ℕ) (s : State) → inRange s ≡ true → Counted L k s → Goes L s (replicate n (event 10 0 0)) (Counted L (k + n))
   wait zero k s ranged counted = stop L (Counted L (k + 0)) s ranged (rw (add-zero k) counted)
   wait (suc n) k s ranged counted =
@@ -174,6 +175,7 @@ module _ (L : Layout) (ok : sound L ≡ true) (S : Sound L) where
       late : (r : ℕ) → r < L .routes → 90 ≤ second (stateAfter (box L) s es) r → ⊥
       late r b t = let few = few-seconds (stateAfter (box L) s es) (G .ranged) r in omega arith
 
+  -- ninety seconds: every route has gone
   pub wait-all : (s : State) → inRange s ≡ true → AllCalm L 0 s → Goes L s ninetySeconds (Idle L)
   unfolding ninetySeconds
   wait-all s ranged calm = counted-idle _ s (wait 90 0 s ranged (λ r b. ⊎-elim inl (λ t. inr (t, omega arith)) (calm r (omega arith) b)))

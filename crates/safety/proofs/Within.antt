@@ -34,16 +34,19 @@ use Rattle.safety.proofs.Entries.{phase, direction, stage, chosen, pass
 
 -- ---- the states within one event
 
--- after what it does itself; after the signals; after far sections and routes; at its end
+-- after what it does itself
 abbrev pub done : Layout → State → Event → State
 done L s e = own L s (e .kind) (e .first) (meant (e .kind) (e .second))
 
+-- after the signals
 abbrev pub lit : Layout → State → Event → State
 lit L s e = signals L (done L s e)
 
+-- after far sections and routes
 abbrev pub moved : Layout → State → Event → State
 moved L s e = routes L (farSections L s (lit L s e)) (gives (e .kind) (e .first) (meant (e .kind) (e .second)))
 
+-- at its end
 abbrev pub end : Layout → State → Event → State
 end L s e = after L s (e .kind) (e .first) (meant (e .kind) (e .second))
 
@@ -53,7 +56,7 @@ end L s e = after L s (e .kind) (e .first) (meant (e .kind) (e .second))
 abbrev pub On : ℕ → Event → ℕ → Type 0
 On k e a = (e .kind ≡ k) × (e .first ≡ a)
 
--- the other kinds leave sections, phases, directions and stages as they are
+-- the state that it leaves, by its kind; the other kinds leave sections, phases, directions and stages as they are
 pub data Done (L : Layout) (s : State) (e : Event) : State → Type 0 where
   reads : e .kind ≡ 1 → Done L s e (ownSection (L .line) (L .lines) s (e .first) (meant (e .kind) (e .second)))
   sets : e .kind ≡ 4 → Done L s e (ownSet s (e .first))
@@ -63,6 +66,7 @@ pub data Done (L : Layout) (s : State) (e : Event) : State → Type 0 where
   leaves : {t : State} → (e .kind ≢ 1) × (e .kind ≢ 4) × (e .kind ≢ 5) × (e .kind ≢ 6) × (e .kind ≢ 7)
       → (t .section ≡ s .section) × (t .phase ≡ s .phase) × (t .direction ≡ s .direction) × (t .stage ≡ s .stage) → Done L s e t
 
+-- by the tests of its kind, one after the other
 pub is-done : (L : Layout) (s : State) (e : Event) → Done L s e (done L s e)
 unfolding own ownOf ownPoint ownThrow ownBar withPoints withBars
 is-done L s e =
@@ -85,24 +89,28 @@ is-done L s e =
 
 -- ---- sections
 
--- what an event says of a section: nothing, unless it is a reading of that section; then what is recorded of its code
+-- an event that is no reading says nothing of any section
 pub says-nothing : (e : Event) (g : ℕ) → e .kind ≢ 1 → says e g ≡ 0
 unfolding says _and_
 says-nothing e g d = passed-over _ _ 0 (rw (ne-eqb _ 1 d))
 
+-- one that says something of a section is a reading of that section
 pub says-of-one : (e : Event) (g : ℕ) → says e g ≢ 0 → (e .kind ≡ 1) × (e .first ≡ g)
 unfolding says
 says-of-one e g =
     if-both (λ n. n ≢ 0 → (e .kind ≡ 1) × (e .first ≡ g)) _ (λ t d. (eqb-true _ 1 (and-left _ _ t), eqb-true _ g (and-right _ _ t))) (λ f d. absurd (d refl))
 
+-- one that names another section says nothing of this one
 pub says-other : (e : Event) (g : ℕ) → e .first ≢ g → says e g ≡ 0
 unfolding says
 says-other e g d = passed-over _ _ 0 (fails-from _ (λ t. d (eqb-true _ g (and-right _ _ t))))
 
+-- a reading says of its section what is recorded of its code
 pub says-recorded : (e : Event) (g : ℕ) → e .kind ≡ 1 → e .first ≡ g → says e g ≡ recorded (e .second)
 unfolding says recorded _and_
 says-recorded e g k f = chosen _ _ 0 (rw (eq-eqb _ 1 k, eq-eqb _ g f))
 
+-- and that is what its second number means to the step
 pub meant-reading : (e : Event) → e .kind ≡ 1 → meant (e .kind) (e .second) ≡ recorded (e .second)
 unfolding meant
 meant-reading e k = chosen _ _ _ (le-leb (e .kind) 2 (omega arith))
@@ -136,12 +144,13 @@ section-done L s e g b = go (is-done L s e)
 
 -- ---- routes
 
--- only a signal at proceed can fall, and one that still shows proceed had all that keeps it there
 module _ (L : Layout) (s : State) (r was : ℕ) where
+  -- only a signal at proceed can fall
   pub fallen-else : was ≢ 1 → fallenAt (L .line) (L .route) s r was ≡ was
   unfolding fallenAt fallen
   fallen-else d = passed-over _ _ _ (ne-eqb was 1 d)
 
+  -- one that is still at proceed has all that keeps it there
   fallen-not : fallenAt (L .line) (L .route) s r was ≡ 1 → clear (L .line) (s .section) (s .point) (s .stage) (s .bar) (routeIn L r) ≡ true
   unfolding fallenAt fallen routeIn
   fallen-not = if-both R (eqb was 1) (λ t. if-both R _ (λ c z. c) (λ c z. absurd (omega arith))) (λ f z. absurd (eqb-false _ _ f z))
@@ -158,6 +167,7 @@ let-go L s g r =
     (λ f. if-both (λ (h : Held). h .phase ≢ 0 → h .phase ≡ phase s r) _ (λ t d. absurd (d refl)) (λ t d. refl))
 
 module _ (L : Layout) (few : L .routes ≤ 48) (s : State) (e : Event) (r : ℕ) (b : r < L .routes) where
+  -- the signals go route by route
   pub phase-lit : phase (lit L s e) r ≡ fallenAt (L .line) (L .route) (done L s e) r (phase (done L s e) r)
   unfolding signals withRoutes
   phase-lit = read-each 48 0 (L .routes) _ _ r (omega arith) b

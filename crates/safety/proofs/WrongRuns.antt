@@ -25,23 +25,25 @@ pub two-blocks-load : load twoBlocks .number ≡ 0
 unfolding runComputed
 two-blocks-load = refl
 
--- of the others each breaks one rule and keeps the rest
+-- these two break rule 1 and keep the rest
 pub rule-1-off : (kept (whole innerIsBlock .layout) ≡ false ∷ true ∷ true ∷ true ∷ true ∷ true ∷ [])
     × (kept (whole sharedBlock .layout) ≡ false ∷ true ∷ true ∷ true ∷ true ∷ true ∷ [])
 unfolding runComputed
 rule-1-off = (refl, refl)
 
+-- this one breaks rule 5 and keeps the rest
 pub rule-5-off : kept (whole innerPassedBy .layout) ≡ true ∷ true ∷ true ∷ true ∷ false ∷ true ∷ []
 unfolding runComputed
 rule-5-off = refl
 
--- for nothing else are they refused: 25 comes after all other faults
+-- for nothing else are the three refused: 25 comes after all other faults
 pub only-by-rules : (load innerIsBlock .number ≡ 25) × (load sharedBlock .number ≡ 25) × (load innerPassedBy .number ≡ 25)
 unfolding runComputed
 only-by-rules = (refl, refl, refl)
 
 -- ---- what is broken is refused by demand 3
 
+-- each of what is asked is a part of what guards a signal
 pub not-safe : (what : Asked) (L : Layout) (h : History) → Broken what L h → Safe L h → ⊥
 not-safe secured L h b S = b .unmet (S .guarded _ _ _ _ (b .enters) .secured)
 not-safe alone L h b S = b .unmet (S .guarded _ _ _ _ (b .enters) .alone)
