@@ -50,5 +50,6 @@ short-buffer buffer e = too-short layoutT cold buffer true true 16 (sym cold-in-
 pub whole-buffer : (buffer : List ℕ) → length buffer ≡ 16
     → (record { number = 0; length = 16 } ≡ answer layoutT cold (length buffer)) × (coldPanel ≡ drawn layoutT cold buffer)
 whole-buffer buffer e =
-    let outcome = done layoutT cold buffer true true 16 (sym cold-in-range) refl (sym branchT-sound) refl cold-length (omega arith) coldPanel in
-    outcome (sym (sets-eq coldPanel buffer 0 (omega arith) ∙ ap (λ xs. coldPanel ++ xs) (drop-of-length-le buffer {i = 16} (omega arith))) ∙ ap (λ xs. sets buffer 0 xs) (sym cold-image))
+    let nothing-left = ap (λ xs. coldPanel ++ xs) (drop-of-length-le buffer {i = 16} (omega arith)) in
+    done layoutT cold buffer true true 16 (sym cold-in-range) refl (sym branchT-sound) refl cold-length (omega arith) coldPanel
+    (sym (sets-eq coldPanel buffer 0 (omega arith) ∙ nothing-left) ∙ ap (λ xs. sets buffer 0 xs) (sym cold-image))

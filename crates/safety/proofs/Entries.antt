@@ -14,6 +14,7 @@ use Rattle.laws.specs.Tables.{read, each, put}
 use Rattle.laws.proofs.Arrays.{read-at}
 use Rattle.laws.proofs.Each.{each-at}
 use Rattle.tables.specs.Blocks.{place}
+use Rattle.tables.specs.Locks as locks
 use Rattle.interlocking.specs.declared.State.{State}
 
 -- ---- a test, with what it said
@@ -83,11 +84,11 @@ module _ (l i : ℕ) (b : i < 8) where
 
 -- the phase of route r
 abbrev pub phase : State → ℕ → ℕ
-phase s r = read 48 0 (s .phase) r
+phase s r = locks.phase (s .phase) r
 
 -- the direction of line l
 abbrev pub direction : State → ℕ → ℕ
-direction s l = read 8 0 (s .direction) l
+direction s l = locks.direction (s .direction) l
 
 -- the stage of block i of line l
 abbrev pub stage : State → ℕ → ℕ → ℕ

@@ -29,7 +29,10 @@ look s = getD (s .phase) 0 0 ∷ getD (s .direction) 0 0 ∷ getD (s .stage) 0 0
 
 -- P1: the events of section 8
 abbrev pub p1 : List Event
-p1 = event 4 0 0 ∷ event 1 0 1 ∷ event 1 1 1 ∷ event 1 2 1 ∷ event 1 3 1 ∷ event 2 0 1 ∷ event 6 0 1 ∷ event 7 0 1 ∷ event 6 0 1 ∷ event 4 1 0 ∷ event 4 0 0 ∷ event 4 2 0 ∷ []
+p1 =
+    event 4 0 0 ∷ event 1 0 1 ∷ event 1 1 1 ∷ event 1 2 1 ∷ event 1 3 1 ∷ event 2 0 1
+    ∷ event 6 0 1 ∷ event 7 0 1 ∷ event 6 0 1 ∷ event 4 1 0 ∷ event 4 0 0 ∷ event 4 2 0
+    ∷ []
 
 -- P3: a train leaves A for the block
 abbrev pub p3 : List Event
@@ -64,7 +67,8 @@ cases bytes =
     let L = load bytes .layout in
     let less = load (take 48 bytes) in
     -- P1: the answers
-    same (numbers (answers (box L) cold p1)) (8 ∷ 0 ∷ 0 ∷ 0 ∷ 0 ∷ 0 ∷ 0 ∷ 0 ∷ 0 ∷ 0 ∷ 0 ∷ 0 ∷ 10 ∷ 1 ∷ 0 ∷ 0 ∷ 0 ∷ 0 ∷ 0 ∷ 0 ∷ 0 ∷ 0 ∷ 5 ∷ 1 ∷ [])
+    same (numbers (answers (box L) cold p1))
+    (8 ∷ 0 ∷ 0 ∷ 0 ∷ 0 ∷ 0 ∷ 0 ∷ 0 ∷ 0 ∷ 0 ∷ 0 ∷ 0 ∷ 10 ∷ 1 ∷ 0 ∷ 0 ∷ 0 ∷ 0 ∷ 0 ∷ 0 ∷ 0 ∷ 0 ∷ 5 ∷ 1 ∷ [])
     -- P2: the cold panel
     ∷ same (image L cold) coldPanel
     -- P3: route 0 is released, the line secured, the block held in stage 1 (code 2)
