@@ -1,8 +1,7 @@
--- Branch T, computed: it loads and is sound, and less its last byte it is refused (section 8).
+-- Branch T, computed: it loads and is sound (section 8).
 use Prim.Native.Nat.{ℕ}
 use mathlib.Core.Path.{_≡_, refl}
 use mathlib.Core.Bool.{true}
-use lib.ListN.{take}
 use Rattle.laws.specs.Choice.{if_then_else_}
 use Rattle.laws.specs.Tests.{_and_, _or_, implies, every, all, any}
 use Rattle.laws.specs.Tables.{iter}
@@ -21,7 +20,7 @@ use Rattle.layout.specs.Layout.{counts, lineIn, routeIn, entryOf, conflict}
 use Rattle.layout.specs.Rules.{rule1, rule2, rule3, rule4, rule5, rule6, firstFailed, broken}
 use Rattle.layout.specs.Sound.{sectionsFit, fits, pairMirrors, rowMirrors, mirrored, sound}
 use Rattle.layout.specs.Load.{heading, countsOf, whole, refused, finished, load}
-use Rattle.layout_facts.specs.BranchT.{branchT}
+use Rattle.layout_facts.specs.BranchT.{branchT, layoutT}
 
 -- whoever unfolds this unfolds all that loading and soundness are made of
 unfoldable pub computed : ℕ
@@ -46,16 +45,6 @@ unfolding computed
 branchT-detail = refl
 
 -- T is sound
-pub branchT-sound : sound (load branchT .layout) ≡ true
+pub branchT-sound : sound layoutT ≡ true
 unfolding computed
 branchT-sound = refl
-
--- T less its last byte ends early
-pub branchT-short : load (take 48 branchT) .number ≡ 21
-unfolding computed
-branchT-short = refl
-
--- at its end
-pub branchT-short-at : load (take 48 branchT) .detail ≡ 48
-unfolding computed
-branchT-short-at = refl

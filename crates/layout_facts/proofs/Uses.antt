@@ -18,7 +18,7 @@ module _ (L : Layout) (S : Sound L) where
   block-below l i hl hi = omega (arith, S .ranges .lines l hl .blocks i hi)
 
   -- the block nearest an end is there
-  pub nearest-there : (l e : ℕ) → l < L .lines → nearestBlock L l e < lineIn L l .blocks
+  nearest-there : (l e : ℕ) → l < L .lines → nearestBlock L l e < lineIn L l .blocks
   unfolding nearestBlock nearest
   nearest-there l e hl = let few = S .ranges .lines l hl .blockCount in if-both (λ i. i < lineIn L l .blocks) _ (λ a. omega arith) (λ b. omega arith)
 
@@ -28,7 +28,7 @@ module _ (L : Layout) (S : Sound L) where
   entered-block r hr k = nearest-there (routeIn L r .line) (routeIn L r .end) (S .ranges .routes r hr .line (inr k) .0)
 
   -- rules 2 and 5: whoever starts at an entrance signal is an entrance route by that end of that line
-  pub entrance-route : (r l e : ℕ) → r < L .routes → l < L .lines → e ≤ 1 → routeIn L r .entry ≡ entranceSignal L l e
+  entrance-route : (r l e : ℕ) → r < L .routes → l < L .lines → e ≤ 1 → routeIn L r .entry ≡ entranceSignal L l e
       → (routeIn L r .kind ≡ 1) × (routeIn L r .line ≡ l) × (routeIn L r .end ≡ e)
   entrance-route r l e hr hl he q = go (ℕ-discrete (routeIn L r .kind) 1)
     where

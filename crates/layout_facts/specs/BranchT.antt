@@ -1,6 +1,8 @@
 -- Branch T, the layout of section 8.
 use Prim.Native.Nat.{ℕ}
 use mathlib.Core.List.{List, [], _∷_}
+use Rattle.layout.specs.declared.Layout.{Layout}
+use Rattle.layout.specs.Load.{load}
 
 -- its 49 bytes: version, sections, points, signals, the number of lines; the line; the number of routes; the three routes; the conflicts
 unfoldable pub branchT : List ℕ
@@ -13,3 +15,7 @@ branchT =
     ∷ 3 ∷ 2 ∷ 0 ∷ 1 ∷ 0 ∷ 1 ∷ 2 ∷ 0 ∷ 1 ∷ 0 ∷ 1
     ∷ 1 ∷ 1 ∷ 2
     ∷ []
+
+-- the layout that it loads
+abbrev pub layoutT : Layout
+layoutT = load branchT .layout

@@ -4,7 +4,7 @@ use mathlib.Core.Path.{_≡_}
 use mathlib.Core.Bool.{true}
 use mathlib.Core.Logic.{_≢_, _⊎_}
 use lib.ListN.{getD}
-use Rattle.track.specs.Codes.{innerRoute, entranceRoute, exitRoute, left, right}
+use Rattle.track.specs.Codes.{endA, endB, innerRoute, entranceRoute, exitRoute, left, right}
 use Rattle.track.specs.Objects.{inner, entrance, nearest}
 use Rattle.layout.specs.declared.Layout.{Layout}
 use Rattle.layout.specs.Layout.{lineIn, routeIn, entryOf, conflict}
@@ -61,8 +61,8 @@ routePosition L r i = getD (routeIn L r .position) i 0
 pub record LineRanges (L : Layout) (l : ℕ) : Type 0 where
   pub blockCount : (1 ≤ lineIn L l .blocks) × (lineIn L l .blocks ≤ 8)
   pub blocks : (i : ℕ) → i < lineIn L l .blocks → block L l i < L .sections
-  pub inners : (e : ℕ) → e ≤ 1 → innerSection L l e < L .sections
-  pub entrances : (e : ℕ) → e ≤ 1 → entranceSignal L l e < L .signals
+  pub inners : (e : ℕ) → e ≤ endB → innerSection L l e < L .sections
+  pub entrances : (e : ℕ) → e ≤ endB → entranceSignal L l e < L .signals
   pub pointCount : lineIn L l .points ≤ 8
   pub points : (i : ℕ) → i < lineIn L l .points → linePoint L l i < L .points
   pub positions : (i : ℕ) → i < lineIn L l .points → linePosition L l i ≡ left ⊎ linePosition L l i ≡ right
@@ -71,7 +71,7 @@ pub record LineRanges (L : Layout) (l : ℕ) : Type 0 where
 pub record RouteRanges (L : Layout) (r : ℕ) : Type 0 where
   pub entry : routeIn L r .entry < L .signals
   pub kind : routeIn L r .kind ≤ exitRoute
-  pub line : routeIn L r .kind ≡ entranceRoute ⊎ routeIn L r .kind ≡ exitRoute → (routeIn L r .line < L .lines) × (routeIn L r .end ≤ 1)
+  pub line : routeIn L r .kind ≡ entranceRoute ⊎ routeIn L r .kind ≡ exitRoute → (routeIn L r .line < L .lines) × (routeIn L r .end ≤ endB)
   pub diverging : routeIn L r .diverging ≤ 1
   pub pathCount : (1 ≤ routeIn L r .paths) × (routeIn L r .paths ≤ 8)
   pub paths : (j : ℕ) → j < routeIn L r .paths → path L r j < L .sections
@@ -107,12 +107,12 @@ pub record Rule1 (L : Layout) : Type 0 where
   pub once : (l i k j : ℕ) → l < L .lines → i < lineIn L l .blocks → k < L .lines → j < lineIn L k .blocks → block L l i ≡ block L k j
       → (l ≡ k) × (i ≡ j)
   pub noPath : (l i r j : ℕ) → l < L .lines → i < lineIn L l .blocks → r < L .routes → j < routeIn L r .paths → block L l i ≢ path L r j
-  pub noInner : (l i k e : ℕ) → l < L .lines → i < lineIn L l .blocks → k < L .lines → e ≤ 1 → block L l i ≢ innerSection L k e
+  pub noInner : (l i k e : ℕ) → l < L .lines → i < lineIn L l .blocks → k < L .lines → e ≤ endB → block L l i ≢ innerSection L k e
 
 -- rule 2: a line's two inner sections differ; all entrance signals differ
 pub record Rule2 (L : Layout) : Type 0 where
-  pub inners : (l : ℕ) → l < L .lines → innerSection L l 0 ≢ innerSection L l 1
-  pub entrances : (l e k f : ℕ) → l < L .lines → e ≤ 1 → k < L .lines → f ≤ 1 → entranceSignal L l e ≡ entranceSignal L k f → (l ≡ k) × (e ≡ f)
+  pub inners : (l : ℕ) → l < L .lines → innerSection L l endA ≢ innerSection L l endB
+  pub entrances : (l e k f : ℕ) → l < L .lines → e ≤ endB → k < L .lines → f ≤ endB → entranceSignal L l e ≡ entranceSignal L k f → (l ≡ k) × (e ≡ f)
 
 -- rule 3: the sections of a path differ; the points of a route or a line differ
 pub record Rule3 (L : Layout) : Type 0 where
@@ -131,7 +131,7 @@ pub record Rule5 (L : Layout) : Type 0 where
   pub first : (r : ℕ) → r < L .routes → routeIn L r .kind ≡ entranceRoute → path L r 0 ≡ innerSection L (routeIn L r .line) (routeIn L r .end)
   pub last : (r : ℕ) → r < L .routes → routeIn L r .kind ≡ exitRoute
       → path L r (routeIn L r .paths - 1) ≡ innerSection L (routeIn L r .line) (routeIn L r .end)
-  pub noEntrance : (r l e : ℕ) → r < L .routes → routeIn L r .kind ≡ innerRoute ⊎ routeIn L r .kind ≡ exitRoute → l < L .lines → e ≤ 1
+  pub noEntrance : (r l e : ℕ) → r < L .routes → routeIn L r .kind ≡ innerRoute ⊎ routeIn L r .kind ≡ exitRoute → l < L .lines → e ≤ endB
       → routeIn L r .entry ≢ entranceSignal L l e
 
 -- what two routes of rule 6 have: the same entry signal, a common path section, or a common point in different positions

@@ -1,41 +1,48 @@
 -- The panel shows the signals that a step goes by.
 use Prim.Native.Nat.{ℕ}
-use mathlib.Core.Path.{_≡_, refl, sym, ap, _∙_}
-use mathlib.Core.Bool.{Bool, true, false, not}
+use mathlib.Core.Path.{_≡_, refl, sym, _∙_}
+use mathlib.Core.Bool.{Bool, true, false}
 use mathlib.Core.List.{List}
-use lib.Dec.{eqb}
+use borrow.Author.Tests.{eq-eqb}
+use lib.Dec.{ltb}
 use Rattle.laws.specs.Choice.{if_then_else_}
 use Rattle.laws.specs.Tests.{_and_, any}
-use Rattle.laws.proofs.Choice.{if-both}
+use Rattle.laws.proofs.Choice.{if-true, if-false, if-both}
+use Rattle.laws.proofs.Tests.{and-both}
 use Rattle.laws.proofs.Searches.{lowest-some}
 use Rattle.track.specs.declared.Line.{Line}
 use Rattle.track.specs.declared.Route.{Route}
 use Rattle.track.specs.Objects.{line, route}
-use Rattle.signals.specs.Signals.{routeProceeds, mainProceeds, blockProceeds}
+use Rattle.signals.specs.Signals.{enterable, routeProceeds, mainProceeds, blockProceeds}
+use Rattle.tables.specs.Locks.{direction}
 use Rattle.panel.specs.Panel.{proceedByte, shownBy, byteOf, signalByte, hasSignal, lamp, blockSignal}
 
 -- ---- main signals
+
+-- a route at proceed shows 21 or 22
+proceed-shows : (a : Route) → ltb 20 (proceedByte a) ≡ true
+unfolding proceedByte
+proceed-shows a = if-both (λ b. ltb 20 b ≡ true) _ (λ t. refl) (λ f. refl)
 
 module _ (n : ℕ) (rs : List Route) (phases : List ℕ) (x : ℕ) where
   -- route r starts at it and is at proceed
   abbrev starts : ℕ → Bool
   starts r = routeProceeds phases r (route rs r) x
 
-  -- no route that puts it to proceed shows 20
-  no-stop : (a : Route) → eqb (proceedByte a) 20 ≡ false
-  unfolding proceedByte
-  no-stop a = if-both (λ b. eqb b 20 ≡ false) (eqb (a .diverging) 1) (λ t. refl) (λ f. refl)
-
   -- a main signal shows 21 or 22 just where a route that starts at it is at proceed
-  pub main-shows : not (eqb (signalByte n rs phases x) 20) ≡ mainProceeds n rs phases x
+  pub main-shows : ltb 20 (signalByte n rs phases x) ≡ mainProceeds n rs phases x
   unfolding signalByte shownBy byteOf mainProceeds
-  main-shows =
-      if-both (λ b. not (eqb b 20) ≡ any n starts) _ (λ t. ap not (no-stop _) ∙ sym t ∙ lowest-some n starts) (λ f. sym f ∙ lowest-some n starts)
+  main-shows = if-both (λ b. ltb 20 b ≡ any n starts) _ (λ t. proceed-shows _ ∙ sym t ∙ lowest-some n starts) (λ f. sym f ∙ lowest-some n starts)
+
+  -- else it shows 20
+  pub main-stops : mainProceeds n rs phases x ≡ false → signalByte n rs phases x ≡ 20
+  unfolding signalByte shownBy byteOf mainProceeds
+  main-stops f = sym (if-false _ _ 20 20 (lowest-some n starts ∙ f) refl)
 
 -- ---- block signals
 
 -- a lamp, by its cases
-lit-free : (a b c : Bool) → eqb (lamp (a and b) c) 22 ≡ b and (a and c)
+lit-free : (a b c : Bool) → ltb 20 (lamp (a and b) c) ≡ b and (a and c)
 unfolding lamp _and_ if_then_else_
 lit-free true true true = refl
 lit-free true true false = refl
@@ -43,9 +50,15 @@ lit-free true false c = refl
 lit-free false true c = refl
 lit-free false false c = refl
 
--- a block signal shows 22 just where there is one and it is at proceed
-pub block-shows : (ls : List Line) (directions points stages bars : List ℕ) (l i w : ℕ)
-    → eqb (blockSignal ls directions points stages bars l i w) 22
-    ≡ hasSignal (line ls l .blocks) i w and blockProceeds ls directions points stages bars l i w
-unfolding blockSignal blockProceeds
-block-shows ls directions points stages bars l i w = lit-free _ _ _
+module _ (ls : List Line) (directions points stages bars : List ℕ) (l i w : ℕ) where
+  -- a block signal shows 22 just where there is one and it is at proceed
+  pub block-shows : ltb 20 (blockSignal ls directions points stages bars l i w)
+      ≡ hasSignal (line ls l .blocks) i w and blockProceeds ls directions points stages bars l i w
+  unfolding blockSignal blockProceeds
+  block-shows = lit-free _ _ _
+
+  -- else one that is lit shows 20
+  pub block-stops : direction directions l ≡ w → hasSignal (line ls l .blocks) i w ≡ true → enterable ls points stages bars l i ≡ false
+      → blockSignal ls directions points stages bars l i w ≡ 20
+  unfolding blockSignal lamp
+  block-stops d u f = sym (if-true _ _ 0 20 (and-both _ _ (eq-eqb _ w d) u) (if-false _ 22 20 20 f refl))

@@ -5,23 +5,24 @@ use mathlib.Core.Logic.{_≢_}
 use mathlib.Core.Bool.{true}
 use native.Mathlib.Decide.{ℕ-discrete}
 use native.Mathlib.Omega.{arith}
-use borrow.Author.Tests.{eqb-true, eq-eqb, ne-eqb, ltb-true}
+use borrow.Author.Tests.{eqb-true, eq-eqb, ne-eqb, ltb-true, lt-ltb}
 use lib.Dec.{ltb}
 use Rattle.laws.proofs.Tests.{and-left, and-right, implied, every-at, any-some}
 use Rattle.track.specs.Objects.{nearest}
 use Rattle.tables.specs.Blocks.{isOpen}
 use Rattle.signals.specs.Signals.{enterableBy, enterable, letsOut, clear, routeProceeds, mainProceeds}
 use Rattle.layout.specs.declared.Layout.{Layout}
-use Rattle.layout.specs.Layout.{lineIn, routeIn}
+use Rattle.layout.specs.Layout.{lineIn, routeIn, conflict}
 use Rattle.layout_facts.specs.Plain.{block, nearestBlock, Sound, sameEntry}
 use Rattle.layout_facts.proofs.Uses.{same-exit}
 use Rattle.interlocking.specs.declared.State.{State}
 use Rattle.panel.specs.Panel.{hasSignal, routeByte}
-use Rattle.safety.specs.Shown.{Signal, main, into, Panel, routeShows, panel}
+use Rattle.panel_facts.proofs.Shows.{main-shows}
+use Rattle.safety.specs.Shown.{Signal, main, into, Panel, signalShows, routeShows, panel}
 use Rattle.safety.specs.History.{History, shown}
 use Rattle.safety.specs.Demand3.{Proceeds, Enters}
 use Rattle.safety.proofs.Entries.{phase, direction, stage, chosen, passed-over}
-use Rattle.safety.proofs.Signals.{main-shown, into-shown}
+use Rattle.safety.proofs.Signals.{into-shown}
 use Rattle.safety.proofs.Invariant.{Inv}
 
 -- no exit signal and block signal lead into one block the same way: a block signal stands behind another block
@@ -49,36 +50,28 @@ module _ (L : Layout) (S : Sound L) (s : State) (h : History) (I : Inv L s h) wh
 
   -- a main signal shows proceed for a route in phase 1 that starts at it
   pub main-for : (x : ℕ) → Proceeds (shown L h) (main x) → (r : ℕ) × (r < L .routes) × (phase s r ≡ 1) × (routeIn L r .entry ≡ x)
-  unfolding panel mainProceeds routeProceeds routeIn
+  unfolding panel signalShows mainProceeds routeProceeds routeIn
   main-for x p =
-      let (r, there, t) = any-some _ _ (main-shown L s x (rw (I .seen) at p)) in
+      let (r, there, t) = any-some _ _ (sym (main-shows _ _ _ x) ∙ lt-ltb 20 _ (rw (I .seen) at p)) in
       (r, there, eqb-true _ 1 (and-left _ _ t), eqb-true _ x (and-right _ _ t))
 
-  -- rule 6: two locked routes that start at one signal are one
-  one-entry : (r q : ℕ) → r < L .routes → q < L .routes → routeIn L r .entry ≡ routeIn L q .entry → phase s r ≢ 0 → phase s q ≢ 0 → r ≡ q
-  one-entry r q b c same x y = go (ℕ-discrete r q)
+  -- two locked routes that conflict if they are two are one
+  one-route : (r q : ℕ) → r < L .routes → q < L .routes → (r ≢ q → conflict L r q ≡ true) → phase s r ≢ 0 → phase s q ≢ 0 → r ≡ q
+  one-route r q b c clash x y = go (ℕ-discrete r q)
     where
       go : Dec (r ≡ q) → r ≡ q
       go (yes z) = z
-      go (no z) = absurd (I .apart r q b c (S .rule6 .listed r q b c z (sameEntry same)) x y)
+      go (no z) = absurd (I .apart r q b c (clash z) x y)
 
-  -- rules 5 and 6: two locked exit routes by one end of a line are one
-  one-exit : (r q : ℕ) → r < L .routes → q < L .routes → routeIn L r .kind ≡ 2 → routeIn L q .kind ≡ 2 → routeIn L r .line ≡ routeIn L q .line
-      → routeIn L r .end ≡ routeIn L q .end → phase s r ≢ 0 → phase s q ≢ 0 → r ≡ q
-  one-exit r q b c k j line end x y = go (ℕ-discrete r q)
-    where
-      go : Dec (r ≡ q) → r ≡ q
-      go (yes z) = z
-      go (no z) = absurd (I .apart r q b c (same-exit L S r q b c z k j line end) x y)
-
-  -- a signal that shows proceed into a block: the line is secured its way, and the block is open
+  -- a signal that shows proceed into a block: the line is secured its way, and the block is open. By rule 6 two locked routes that start at one signal
+  -- are one
   pub enters-open : (x : Signal) (l i w : ℕ) → Enters L (shown L h) x l i w → (direction s l ≡ w) × (stage s l i ≡ 0)
   unfolding panel clear letsOut enterable enterableBy isOpen nearest nearestBlock lineIn
   enters-open (main x) l i w E =
       let (r, out) = E .leads in
       let (q, there, one, starts) = main-for x (E .proceeds) in
       let locked = shown-locked r (out .locked) in
-      let same = one-entry q r there (out .there) (starts ∙ sym (out .starts)) (omega arith) locked in
+      let same = one-route q r there (out .there) (λ z. S .rule6 .listed q r there (out .there) z (sameEntry (starts ∙ sym (out .starts)))) (omega arith) locked in
       let c = I .lights r (out .there) (rw same at one) in
       let let-in = implied _ _ (every-at _ c 3) (eq-eqb _ 2 (out .isExit)) in (
         ap (direction s) (sym (out .ofLine)) ∙ I .exits r (out .there) (out .isExit) locked ∙ out .way,
@@ -99,13 +92,14 @@ module _ (L : Layout) (S : Sound L) (s : State) (h : History) (I : Inv L s h) wh
       (ap (λ n. nearestBlock L n (routeIn L r .end)) (q .0 ∙ sym (out .ofLine)) ∙ out .enters ∙ sym (q .1)) (out .way ∙ sym (q .2))
       (into-shown L s k j v (rw (I .seen) at (F .proceeds)) .0)
 
-  -- at most one signal shows proceed into a block in one direction
+  -- at most one signal shows proceed into a block in one direction. By rules 5 and 6 two locked exit routes by one end of a line are one
   one-signal : (x y : Signal) (l i w : ℕ) → Enters L (shown L h) x l i w → Enters L (shown L h) y l i w → y ≡ x
   one-signal (main x) (main y) l i w E F =
       let (r, out) = E .leads in
       let (q, off) = F .leads in
       let ways : routeIn L q .end + 1 ≡ routeIn L r .end + 1 = off .way ∙ sym (out .way) in
-      let same = one-exit q r (off .there) (out .there) (off .isExit) (out .isExit) (off .ofLine ∙ sym (out .ofLine)) (omega arith)
+      let same = one-route q r (off .there) (out .there)
+      (λ z. same-exit L S q r (off .there) (out .there) z (off .isExit) (out .isExit) (off .ofLine ∙ sym (out .ofLine)) (omega arith))
       (shown-locked q (off .locked)) (shown-locked r (out .locked)) in
       ap main (sym (off .starts) ∙ ap (λ k. routeIn L k .entry) same ∙ out .starts)
   one-signal (main x) (into k j v) l i w E F = absurd (either x k j v l i w E F)

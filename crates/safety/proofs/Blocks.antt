@@ -21,9 +21,10 @@ use Rattle.interlocking.specs.Own.{blockAt, ownStageAt, ownSection, ownSet, own
 use Rattle.interlocking.specs.Settle.{signals, farDropped, farReading, farMoved, farAfter, farSections, routesBy, routes, lineRelease, settle}
 use Rattle.interlocking.specs.Step.{meant, after}
 use Rattle.step_facts.specs.Run.{Event}
+use Rattle.step_facts.proofs.Refusals.{recorded-in}
 use Rattle.safety.specs.History.{says}
 use Rattle.safety.proofs.Entries.{direction, stage, place-line, place-block, read-block}
-use Rattle.safety.proofs.Within.{On, done, lit, end, Done, reads, sets, cancels, secures, opens, leaves, is-done, says-nothing, says-other, says-recorded, recorded-is, meant-reading}
+use Rattle.safety.proofs.Within.{On, done, lit, end, Done, reads, sets, cancels, secures, opens, leaves, is-done, says-nothing, says-other, says-recorded, meant-reading}
 
 -- ---- its own reading
 
@@ -78,7 +79,7 @@ module _ (L : Layout) (few : L .lines ≤ 8) (s : State) (e : Event) (l i : ℕ)
           if-both (OwnCase L e l i was) _
           (λ t. of-reading L e l i was _ k
           (says-recorded e _ k (sym (eqb-true _ _ (sym (block-at L l i (e .first) h h8) ∙ t))) ∙ sym (meant-reading e k))
-          (rw (meant-reading e k) (recorded-is (e .second))))
+          (rw (meant-reading e k) (recorded-in (e .second))))
           (λ f. unread (omega arith) (says-other e _ (λ z. eqb-false _ _ (sym (block-at L l i (e .first) h h8) ∙ f) (sym z))) refl)
 
       opened : e .kind ≡ 7 → OwnCase L e l i was (openAt (L .line) (e .first) (place l i) was)
@@ -103,7 +104,7 @@ pub data FarCase (L : Layout) (before s : State) (l i w was x : ℕ) : Type 0 wh
   loses : x ≡ 2 → was ≡ 3 → FarCase L before s l i w was x
 
 -- by the tests of a block's far section, one after the other
-pub far-case : (L : Layout) (before s : State) (l i was : ℕ) → i < 8
+far-case : (L : Layout) (before s : State) (l i was : ℕ) → i < 8
     → FarCase L before s l i (direction s l) was (farAfter L before s (place l i) was)
 unfolding farAfter farMoved farStage
 far-case L before s l i was b =

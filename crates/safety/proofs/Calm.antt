@@ -6,7 +6,7 @@ use mathlib.Core.Bool.{false}
 use mathlib.Core.List.{List}
 use native.Mathlib.Decide.{ℕ-discrete, decLt}
 use native.Mathlib.Omega.{arith}
-use borrow.Author.Tests.{eq-eqb, ne-eqb, le-leb, lt-ltb}
+use borrow.Author.Tests.{eqb-true, eq-eqb, ne-eqb, le-leb, lt-ltb}
 use Rattle.laws.specs.Choice.{if_then_else_}
 use Rattle.laws.specs.Tables.{read}
 use Rattle.laws.proofs.Choice.{if-both}
@@ -15,6 +15,7 @@ use Rattle.track.specs.declared.Line.{Line}
 use Rattle.track.specs.declared.Route.{Route}
 use Rattle.tables.specs.Readings.{recorded}
 use Rattle.tables.specs.Readings as readings
+use Rattle.tables.specs.Blocks.{isOpen}
 use Rattle.release.specs.declared.Gives.{Gives}
 use Rattle.release.specs.declared.Held.{Held}
 use Rattle.release.specs.Release.{stepAfter, secondsAfter, goes, heldAfter}
@@ -26,13 +27,12 @@ use Rattle.interlocking.specs.State.{withSections, withRoutes, withLines}
 use Rattle.interlocking.specs.Own.{ownSection, ownSet, ownCancel, ownSecure, ownManual}
 use Rattle.interlocking.specs.Settle.{signals, farSections, heldOf, routeAfter, unlessIdle, routesBy, routes, lineRelease, settle}
 use Rattle.interlocking.specs.Step.{gives, ownOf, own, after}
-use Rattle.step_facts.specs.Run.{Event}
-use Rattle.safety.specs.Cases.{ev}
+use Rattle.step_facts.specs.Run.{Event, event}
 use Rattle.safety.specs.History.{says}
-use Rattle.safety.proofs.Entries.{phase, direction, stage, chosen, passed-over, read-each, read-put}
+use Rattle.safety.proofs.Entries.{phase, direction, stage, chosen, passed-over, read-each, put-here, put-elsewhere}
 use Rattle.safety.proofs.Within.{done, lit, end, Done, reads, sets, cancels, secures, opens, leaves, is-done, says-other, says-recorded, section-done, fallen-else, phase-lit, phase-stays, released}
-use Rattle.safety.proofs.Blocks.{OwnCase, byHand, unread, frees, shuts, takes, own-case}
-use Rattle.safety.proofs.Routes.{still-open}
+use Rattle.safety.proofs.Blocks.{OwnCase, byHand, unread, frees, shuts, takes}
+use Rattle.safety.proofs.Routes.{own-of, open-same}
 
 -- ---- routes
 
@@ -53,8 +53,7 @@ module _ (L : Layout) (S : Sound L) (s : State) (e : Event) (r : ℕ) (b : r < L
       go : {t : State} → Done L s e t → phase t r ≡ phase s r
       go (reads k) = refl
       go (sets k) = absurd (d k)
-      go (cancels k) =
-          read-put 48 0 (s .phase) (e .first) 3 r (omega (arith, S .ranges .routeCount)) ∙ passed-over _ _ _ (ne-eqb r _ (λ z. other k (sym z)))
+      go (cancels k) = put-elsewhere 48 0 (s .phase) (e .first) 3 r (omega (arith, S .ranges .routeCount)) (λ z. other k (sym z))
       go (secures k) = refl
       go (opens k) = refl
       go (leaves f u) = rw (u .1)
@@ -77,7 +76,7 @@ module _ (L : Layout) (S : Sound L) (s : State) (e : Event) (r : ℕ) (b : r < L
   -- and so is one that it cancelled
   pub cancelled : e .kind ≡ 5 → e .first ≡ r → Calm (end L s e) r
   unfolding own ownOf ownCancel withRoutes if_then_else_
-  cancelled k q = calm-then (inr (rw (k, q) (read-put 48 0 (s .phase) r 3 r (omega (arith, S .ranges .routeCount)) ∙ chosen _ _ _ (eq-eqb r r refl))))
+  cancelled k q = calm-then (inr (rw (k, q) (put-here 48 0 (s .phase) r 3 r (omega (arith, S .ranges .routeCount)) refl)))
 
 -- in an event that gives a second a cancelling route goes, or counts it
 ticked : (ls : List Line) (sections : List ℕ) (a : Route) (g : Gives) (h : Held) → g .tick ≡ 1 → h .phase ≡ 3
@@ -99,12 +98,12 @@ ticked ls sections a g h tick three = if-both R _ (λ t. inl refl) (λ f. inr (t
 module _ (L : Layout) (S : Sound L) (s : State) (r : ℕ) (b : r < L .routes) (three : phase s r ≡ 3) where
   -- the state in which routes are let go
   far : State
-  far = farSections L s (lit L s (ev 10 0 0))
+  far = farSections L s (lit L s (event 10 0 0))
 
   -- its signal is not at proceed, so it does not fall
   still-three : phase far r ≡ 3
   unfolding far own ownOf if_then_else_ farSections withLines
-  still-three = phase-lit L (S .ranges .routeCount) s (ev 10 0 0) r b ∙ fallen-else L s r (phase s r) (omega arith) ∙ three
+  still-three = phase-lit L (S .ranges .routeCount) s (event 10 0 0) r b ∙ fallen-else L s r (phase s r) (omega arith) ∙ three
 
   -- a route that is not idle takes what becomes of it
   takes-what-becomes : (was x : ℕ) → unlessIdle far r was x ≡ x
@@ -112,11 +111,11 @@ module _ (L : Layout) (S : Sound L) (s : State) (r : ℕ) (b : r < L .routes) (t
   takes-what-becomes was x = passed-over _ _ _ (ne-eqb (phase far r) 0 (omega (arith, still-three)))
 
   -- so by the end of a second it goes, or has counted one more
-  pub second-on : (phase (end L s (ev 10 0 0)) r ≡ 0) ⊎ ((phase (end L s (ev 10 0 0)) r ≡ 3) × (second (end L s (ev 10 0 0)) r ≡ second s r + 1))
+  pub second-on : (phase (end L s (event 10 0 0)) r ≡ 0) ⊎ ((phase (end L s (event 10 0 0)) r ≡ 3) × (second (end L s (event 10 0 0)) r ≡ second s r + 1))
   unfolding far own ownOf gives if_then_else_ after settle lineRelease withLines routes routesBy withRoutes farSections signals routeAfter heldOf
   second-on =
       rw (
-        read-each 48 0 (L .routes) _ (lit L s (ev 10 0 0) .phase) r (omega (arith, S .ranges .routeCount)) b,
+        read-each 48 0 (L .routes) _ (lit L s (event 10 0 0) .phase) r (omega (arith, S .ranges .routeCount)) b,
         read-each 48 0 (L .routes) _ (s .second) r (omega (arith, S .ranges .routeCount)) b,
         takes-what-becomes (phase far r),
         takes-what-becomes (second s r),
@@ -139,34 +138,32 @@ module _ (L : Layout) (s : State) (e : Event) (g : ℕ) (b : g < 64) where
       section-done L s e g b ∙ passed-over _ _ _ (ne-eqb (says e g) 0 (omega arith)) ∙ told
 
 -- a free reading leaves what reads free
-pub free-on : (L : Layout) (s : State) (a g : ℕ) → g < 64 → readings.reading (s .section) g ≡ 1 → readings.reading (end L s (ev 1 a 1) .section) g ≡ 1
+pub free-on : (L : Layout) (s : State) (a g : ℕ) → g < 64 → readings.reading (s .section) g ≡ 1 → readings.reading (end L s (event 1 a 1) .section) g ≡ 1
 free-on L s a g b f = go (ℕ-discrete a g)
   where
-    go : Dec (a ≡ g) → readings.reading (end L s (ev 1 a 1) .section) g ≡ 1
-    go (yes q) = section-free L s (ev 1 a 1) g b refl refl q
-    go (no d) = section-kept L s (ev 1 a 1) g b (says-other (ev 1 a 1) g d) ∙ f
+    go : Dec (a ≡ g) → readings.reading (end L s (event 1 a 1) .section) g ≡ 1
+    go (yes q) = section-free L s (event 1 a 1) g b refl refl q
+    go (no d) = section-kept L s (event 1 a 1) g b (says-other (event 1 a 1) g d) ∙ f
 
 -- ---- lines and blocks
 
 module _ (L : Layout) (S : Sound L) (s : State) (l : ℕ) (k : ℕ) (b : k < L .lines) where
   -- a manual release makes its line neutral, and leaves neutral what is
-  pub neutral-on : (k ≡ l) ⊎ (direction s k ≡ 0) → direction (end L s (ev 7 l 1)) k ≡ 0
+  pub neutral-on : (k ≡ l) ⊎ (direction s k ≡ 0) → direction (end L s (event 7 l 1)) k ≡ 0
   unfolding own ownOf ownManual withLines if_then_else_
-  neutral-on c = ⊎-elim (λ q. q ∙ own-neutral c (ℕ-discrete k l)) (λ t. t .0) (released L (S .ranges .lineCount) s (ev 7 l 1) k b)
+  neutral-on c = ⊎-elim (λ q. q ∙ own-neutral c (ℕ-discrete k l)) (λ t. t .0) (released L (S .ranges .lineCount) s (event 7 l 1) k b)
     where
-      own-neutral : (k ≡ l) ⊎ (direction s k ≡ 0) → Dec (k ≡ l) → direction (done L s (ev 7 l 1)) k ≡ 0
-      own-neutral c (yes q) = read-put 8 0 (s .direction) l 0 k (omega (arith, S .ranges .lineCount)) ∙ chosen _ _ _ (eq-eqb k l q)
+      own-neutral : (k ≡ l) ⊎ (direction s k ≡ 0) → Dec (k ≡ l) → direction (done L s (event 7 l 1)) k ≡ 0
+      own-neutral c (yes q) = put-here 8 0 (s .direction) l 0 k (omega (arith, S .ranges .lineCount)) q
       own-neutral (inl q) (no d) = absurd (d q)
-      own-neutral (inr z) (no d) = read-put 8 0 (s .direction) l 0 k (omega (arith, S .ranges .lineCount)) ∙ passed-over _ _ _ (ne-eqb k l d) ∙ z
+      own-neutral (inr z) (no d) = put-elsewhere 8 0 (s .direction) l 0 k (omega (arith, S .ranges .lineCount)) d ∙ z
 
   -- it opens the line's blocks, and leaves open what is
-  pub open-on : (i : ℕ) → i < lineIn L k .blocks → (k ≡ l) ⊎ (stage s k i ≡ 0) → stage (end L s (ev 7 l 1)) k i ≡ 0
-  open-on i h c = still-open L S s (ev 7 l 1) k i b h (go own-of c)
+  pub open-on : (i : ℕ) → i < lineIn L k .blocks → (k ≡ l) ⊎ (stage s k i ≡ 0) → stage (end L s (event 7 l 1)) k i ≡ 0
+  unfolding isOpen
+  open-on i h c = eqb-true _ 0 (open-same L S s (event 7 l 1) k i b h ∙ eq-eqb _ 0 (go (own-of L S s (event 7 l 1) k i b h) c))
     where
-      own-of : OwnCase L (ev 7 l 1) k i (stage s k i) (stage (done L s (ev 7 l 1)) k i)
-      own-of = own-case L (S .ranges .lineCount) s (ev 7 l 1) k i b h (omega (arith, S .ranges .lines k b .blockCount))
-
-      go : OwnCase L (ev 7 l 1) k i (stage s k i) (stage (done L s (ev 7 l 1)) k i) → (k ≡ l) ⊎ (stage s k i ≡ 0) → stage (done L s (ev 7 l 1)) k i ≡ 0
+      go : OwnCase L (event 7 l 1) k i (stage s k i) (stage (done L s (event 7 l 1)) k i) → (k ≡ l) ⊎ (stage s k i ≡ 0) → stage (done L s (event 7 l 1)) k i ≡ 0
       go (byHand kind q x) c = x
       go (unread n q x) (inl z) = absurd (n (refl, sym z))
       go (unread n q x) (inr z) = x ∙ z

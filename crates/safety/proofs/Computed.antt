@@ -2,7 +2,7 @@
 use Prim.Native.Nat.{ℕ}
 use Rattle.laws.specs.Choice.{if_then_else_}
 use Rattle.laws.specs.Tests.{_and_, _or_, implies, every, all, any, lowestFrom, lowest}
-use Rattle.laws.specs.Tables.{iter, read, eachFrom, each, put}
+use Rattle.laws.specs.Tables.{iter, tableFrom, table, read, eachFrom, each, put}
 use Rattle.sets.specs.Sets.{holds, joined, union, addEntry, setOf}
 use Rattle.tables.specs.Readings.{recorded, reading, lies, allFree, inPosition, linePlaced, routePlaced}
 use Rattle.track.specs.Objects.{nearest, nearestSection}
@@ -22,7 +22,8 @@ use Rattle.interlocking.specs.State.{cold, codes, routesInRange, inRange, withS
 use Rattle.interlocking.specs.Own.{blockAt, ownStageAt, ownSection, ownPoint, throwReading, ownThrow, ownSet, ownCancel, ownSecure, openAt, ownManual, ownBar}
 use Rattle.interlocking.specs.Settle.{fallenAt, signals, stationProceeds, farProceeds, farDropped, farReading, farMoved, farAfter, farSections, heldOf, routeAfter, unlessIdle, routesBy, routes, lastBlock, passable, wasPassed, ends, directionAfter, lineRelease, settle}
 use Rattle.interlocking.specs.Step.{orderRefusal, refusal, meant, gives, ownOf, own, after, refusedBy, answer, stepWhere, step, stepInRun}
-use Rattle.panel_facts.proofs.Cases.{panelComputed}
+use Rattle.panel.specs.Panel.{join, blocks, proceedByte, shownBy, byteOf, signalByte, routeByte, hasSignal, lamp, blockSignal, blockBytes, lineBytes, image, panelLength, drawn}
+use Rattle.panel.specs.Panel as panels
 use Rattle.step_facts.specs.Run.{box, boxInRun, stateAfter, answers, fromCold}
 use Rattle.safety.specs.Shown.{signalShows, routeShows, lineShows, panel}
 use Rattle.safety.specs.History.{says, shown, sinceSpell, untilSpell, moment, goesOn, history}
@@ -31,8 +32,8 @@ use Rattle.safety.specs.Demand3.{beyond}
 
 -- whoever unfolds this unfolds all that a run, its history and what shows in it are made of
 unfoldable pub runComputed : ℕ
-unfolding computed panelComputed
-    if_then_else_ _and_ _or_ implies every all any lowestFrom lowest iter read eachFrom each put holds joined union addEntry setOf
+unfolding computed
+    if_then_else_ _and_ _or_ implies every all any lowestFrom lowest iter tableFrom table read eachFrom each put holds joined union addEntry setOf
     recorded reading lies allFree inPosition linePlaced routePlaced place nearest nearestSection isOpen unbarred enterable enterableBy letsOut clear fallen routeProceeds mainProceeds blockProceeds
     ownStage arrival nextBlock farSection farStage
     given endBlock firstWatched secondWatched earlyStep stepFrom stepAfter toVacate vacated secondsAfter goes heldAfter
@@ -45,5 +46,6 @@ unfolding computed panelComputed
     fallenAt signals stationProceeds farProceeds farDropped farReading farMoved farAfter farSections heldOf routeAfter unlessIdle routesBy routes
     lastBlock passable wasPassed ends directionAfter lineRelease settle
     objects secondWrong eventRefusal orderRefusal refusal meant gives own ownOf after refusedBy answer stepWhere step stepInRun
+    join blocks proceedByte shownBy byteOf signalByte routeByte hasSignal lamp blockSignal blockBytes lineBytes image panelLength panels.refused panels.answer drawn
     box boxInRun stateAfter answers fromCold signalShows routeShows lineShows panel says told.reading shown sinceSpell untilSpell moment goesOn history beyond
 runComputed = 0

@@ -1,6 +1,6 @@
 -- Demand 3 holds: every event keeps the invariant, so every run has it, and it says what is demanded.
 use Prim.Native.Nat.{ℕ, _<_}
-use mathlib.Core.Path.{_≡_, refl, sym, ap, _∙_}
+use mathlib.Core.Path.{_≡_, refl, ap, _∙_}
 use mathlib.Core.Logic.{_≢_}
 use mathlib.Core.Bool.{true}
 use mathlib.Core.List.{List, [], _∷_}
@@ -31,7 +31,7 @@ use Rattle.safety.proofs.Held.{opened-then, entered-then}
 use Rattle.safety.proofs.Far.{passing-then}
 use Rattle.safety.proofs.Alone.{shown-locked, main-for, enters-open, alone}
 use Rattle.safety.proofs.Within.{end, says-of-one}
-use Rattle.safety.proofs.Granted.{reading-granted, step-end}
+use Rattle.safety.proofs.Granted.{reading-granted, step-granted}
 
 -- ---- the invariant says what is demanded
 
@@ -76,7 +76,7 @@ module _ (L : Layout) (ok : sound L ≡ true) (S : Sound L) (s : State) (h : His
   accepted : refusal (sound L and inRange s) L s (e .kind) (e .first) (e .second) .number ≡ 0 → Inv L (end L s e) (granted L s e ∷ h)
   unfolding shown
   accepted pass = record {
-    ranged = rw (sym (step-end L s e pass)) (step-in-range L s _ _ _ (I .ranged));
+    ranged = rw (step-granted L s e pass) at (step-in-range L s (e .kind) (e .first) (e .second) (I .ranged));
     seen = refl;
     reads = reads-on L S s h I e pass;
     apart = apart-on L S s h I e pass;
@@ -113,7 +113,7 @@ ran L ok S s h I [] = I
 ran L ok S s h I (e ∷ es) = ran L ok S _ _ (kept L ok S s h I e) es
 
 -- on any sound layout, loaded or assembled by hand
-pub safe-run : (L : Layout) → sound L ≡ true → (es : List Event) → Safe L (history L es)
+safe-run : (L : Layout) → sound L ≡ true → (es : List Event) → Safe L (history L es)
 unfolding history
 safe-run L ok es = let S = sound-says L ok in safe L S _ _ (ran L ok S cold [] (cold-has L S) es)
 

@@ -3,16 +3,18 @@ use Prim.Native.Nat.{ℕ, _+_, _*_, _/_, _%_, _<_, _≤_}
 use mathlib.Core.Path.{_≡_, refl, sym, ap, _∙_}
 use mathlib.Core.Bool.{Bool, true, false}
 use mathlib.Core.List.{List}
+use mathlib.Core.Logic.{_≢_}
 use native.Mathlib.Nat.{mul-comm}
 use native.Mathlib.Omega.{arith}
+use borrow.Author.Tests.{eq-eqb, ne-eqb}
 use lib.Arith.{digits-div, digits-mod}
-use lib.Dec.{eqb}
-use lib.ListN.{getD, replicate, getD-replicate}
+use lib.ListN.{replicate, getD-replicate}
 use Rattle.laws.specs.Choice.{if_then_else_}
 use Rattle.laws.specs.Tables.{read, each, put}
-use Rattle.laws.proofs.Choice.{if-lt}
+use Rattle.laws.proofs.Arrays.{read-at}
 use Rattle.laws.proofs.Each.{each-at}
 use Rattle.tables.specs.Blocks.{place}
+use Rattle.tables.specs.Locks as locks
 use Rattle.interlocking.specs.declared.State.{State}
 
 -- ---- a test, with what it said
@@ -27,8 +29,8 @@ pub which : (t : Bool) → Is t
 which true = holds refl
 which false = fails refl
 
--- a choice whose test is known
 module _ {A : Type 0} (t : Bool) (x y : A) where
+  -- a choice whose test is known to hold
   pub chosen : t ≡ true → (if t then x else y) ≡ x
   unfolding if_then_else_
   chosen e = rw e
@@ -40,19 +42,20 @@ module _ {A : Type 0} (t : Bool) (x y : A) where
 
 -- ---- tables
 
--- an entry that there is
-pub read-at : (n d : ℕ) (xs : List ℕ) (i : ℕ) → i < n → read n d xs i ≡ getD xs i 0
-unfolding read
-read-at n d xs i b = sym (if-lt i n _ _ _ b refl)
-
--- one that was made anew
+-- an entry that was made anew
 pub read-each : (n d m : ℕ) (f : ℕ → ℕ → ℕ) (xs : List ℕ) (i : ℕ) → i < n → i < m → read n d (each m f xs) i ≡ f i (read n d xs i)
 read-each n d m f xs i b c = read-at n d (each m f xs) i b ∙ each-at m f xs i c ∙ ap (f i) (sym (read-at n d xs i b))
 
--- one of a table with v at a
-pub read-put : (n d : ℕ) (xs : List ℕ) (a v i : ℕ) → i < n → read n d (put n xs a v) i ≡ if eqb i a then v else read n d xs i
-unfolding put
-read-put n d xs a v i b = read-each n d n _ xs i b b
+module _ (n d : ℕ) (xs : List ℕ) (a v i : ℕ) (b : i < n) where
+  -- the one that v was put at
+  pub put-here : i ≡ a → read n d (put n xs a v) i ≡ v
+  unfolding put
+  put-here q = read-each n d n _ xs i b b ∙ chosen _ _ _ (eq-eqb i a q)
+
+  -- and any other
+  pub put-elsewhere : i ≢ a → read n d (put n xs a v) i ≡ read n d xs i
+  unfolding put
+  put-elsewhere q = read-each n d n _ xs i b b ∙ passed-over _ _ _ (ne-eqb i a q)
 
 -- one of a table of one thing
 pub read-same : (n d v i : ℕ) → i < n → read n d (replicate n v) i ≡ v
@@ -81,11 +84,11 @@ module _ (l i : ℕ) (b : i < 8) where
 
 -- the phase of route r
 abbrev pub phase : State → ℕ → ℕ
-phase s r = read 48 0 (s .phase) r
+phase s r = locks.phase (s .phase) r
 
 -- the direction of line l
 abbrev pub direction : State → ℕ → ℕ
-direction s l = read 8 0 (s .direction) l
+direction s l = locks.direction (s .direction) l
 
 -- the stage of block i of line l
 abbrev pub stage : State → ℕ → ℕ → ℕ

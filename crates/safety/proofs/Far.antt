@@ -6,7 +6,7 @@ use mathlib.Core.Bool.{true, false}
 use mathlib.Core.List.{List, _∷_}
 use native.Mathlib.Decide.{ℕ-discrete}
 use native.Mathlib.Omega.{arith}
-use borrow.Author.Tests.{eqb-true, eq-eqb, ne-eqb, lt-ltb, not-true}
+use borrow.Author.Tests.{eqb-true, eq-eqb, ne-eqb, ltb-true, lt-ltb, not-true}
 use lib.ListN.{getD}
 use Rattle.laws.specs.Choice.{if_then_else_}
 use Rattle.laws.specs.Tests.{_and_}
@@ -27,7 +27,8 @@ use Rattle.interlocking.specs.Settle.{signals, farProceeds, farDropped, farRead
 use Rattle.interlocking.specs.Step.{refusal, after}
 use Rattle.step_facts.specs.Run.{Event}
 use Rattle.panel.specs.Panel.{hasSignal}
-use Rattle.safety.specs.Shown.{lineShows, panel}
+use Rattle.panel_facts.proofs.Shows.{main-shows, main-stops}
+use Rattle.safety.specs.Shown.{signalShows, lineShows, panel}
 use Rattle.safety.specs.History.{History, says, gave, reading, Since}
 use Rattle.safety.specs.Demand3.{Beyond, beyond, sectionAt, signalAt, farSection, Proceeds, Stops, Passage}
 use Rattle.safety.proofs.Entries.{phase, direction, stage, chosen, passed-over}
@@ -35,11 +36,11 @@ use Rattle.safety.proofs.Passed.{two-ways, secure-neutral}
 use Rattle.safety.proofs.Within.{On, done, lit, end, says-of-one, says-other, phase-kept, lit-clear, direction-same, direction-held}
 use Rattle.safety.proofs.Blocks.{OwnCase, byHand, unread, frees, shuts, takes, FarCase, keeps, proves, loses}
 use Rattle.safety.proofs.Beyond.{BeyondCase, aBlock, aStation, beyond-case, far-there, far-section, farUp, far-proceeds}
-use Rattle.safety.proofs.Signals.{main-lit, main-stops, into-lit, into-stops}
+use Rattle.safety.proofs.Signals.{into-lit, into-stops}
 use Rattle.safety.proofs.Told.{reading-kept, reading-given}
 use Rattle.safety.proofs.Invariant.{Inv}
-use Rattle.safety.proofs.Routes.{granted, still-open, was-enterable, reads-on}
-use Rattle.safety.proofs.Held.{own-of, far-of, opened-then}
+use Rattle.safety.proofs.Routes.{granted, own-of, far-of, open-same, enterable-same, reads-on}
+use Rattle.safety.proofs.Held.{opened-then}
 
 -- ---- the far section
 
@@ -54,16 +55,16 @@ module _ (L : Layout) (S : Sound L) (l i w : ℕ) (b : l < L .lines) (c : i < li
   far-other x (aBlock j h d n up down) q = d (S .rule1 .once l i l j b c b h q .1)
   far-other x (aStation e h a n) q = S .rule1 .noInner l i l e b c b h q
 
-  -- while the far signal shows proceed it reads free: the next block is open; or, rules 2 and 5, a route in from the line has the inner section first
-  -- in its path
-  far-free : (s : State) (h : History) → Inv L s h → (x : Beyond) → BeyondCase L l i w x → farUp L s l w x ≡ true
-      → readings.reading (s .section) (sectionAt L l x) ≡ 1
+  -- while the far signal is at proceed it reads free: the next block is open, and open blocks read free; or, rules 2 and 5, a route in from the line has
+  -- the inner section first in its path, and routes at proceed have their path free
+  far-free : (s : State) → ((j : ℕ) → j < lineIn L l .blocks → stage s l j ≡ 0 → readings.reading (s .section) (block L l j) ≡ 1)
+      → ((r : ℕ) → r < L .routes → phase s r ≡ 1 → clear (L .line) (s .section) (s .point) (s .stage) (s .bar) (routeIn L r) ≡ true)
+      → (x : Beyond) → BeyondCase L l i w x → farUp L s l w x ≡ true → readings.reading (s .section) (sectionAt L l x) ≡ 1
   unfolding blockProceeds enterable enterableBy isOpen mainProceeds routeProceeds clear path routeIn
-  far-free s h I x (aBlock j k d n up down) p =
-      I .reads _ (S .ranges .lines l b .blocks j k) ∙ I .opened l j b k (eqb-true _ 0 (every-at _ (and-right _ _ p) 0)) .isFree
-  far-free s h I x (aStation e k a n) p =
+  far-free s opens lights x (aBlock j k d n up down) p = opens j k (eqb-true _ 0 (every-at _ (and-right _ _ p) 0))
+  far-free s opens lights x (aStation e k a n) p =
       let (r, there, lit) = any-some _ _ p in
-      let free = I .lights r there (eqb-true _ 1 (and-left _ _ lit)) in
+      let free = lights r there (eqb-true _ 1 (and-left _ _ lit)) in
       let paths = S .ranges .routes r there .pathCount in
       ap (readings.reading (s .section)) (sym (entrance-path L S r l e there b k (eqb-true _ _ (and-right _ _ lit))))
       ∙ first-free _ _ _ (every-at _ free 0) (omega arith)
@@ -82,22 +83,22 @@ far-signal n w j up down = go (ℕ-discrete w 1)
 module _ (L : Layout) (S : Sound L) (s : State) (e : Event) (l i w : ℕ) (b : l < L .lines) where
   -- a signal at proceed shows so
   far-showed : (x : Beyond) → BeyondCase L l i w x → w ≢ 0 → direction s l ≤ 2 → farUp L s l w x ≡ true → Proceeds (panel L s) (signalAt L l w x)
-  unfolding panel blockProceeds
+  unfolding panel signalShows blockProceeds
   far-showed x (aBlock j h d n up down) z few p =
       let way = eqb-true (direction s l) w (and-left _ _ p) in
-      into-lit L s l j w z (omega arith) (far-signal _ w j up down) way (and-right _ _ p)
-  far-showed x (aStation k h a n) z few p = main-lit L s _ p
+      into-lit L s l j w z (omega arith) (far-signal _ w j up down) p
+  far-showed x (aStation k h a n) z few p = ltb-true 20 _ (main-shows _ _ _ _ ∙ p)
 
   -- one that fell within the event still shows stop at its end: phases never return to 1, and the far sections open no block
   far-stops : (x : Beyond) → BeyondCase L l i w x → w ≢ 0 → direction s l ≤ 2 → direction (done L s e) l ≡ w → direction (end L s e) l ≡ w
       → farUp L s l w x ≡ true → farUp L (lit L s e) l w x ≡ false → Stops (panel L (end L s e)) (signalAt L l w x)
-  unfolding panel blockProceeds mainProceeds routeProceeds signals withRoutes
+  unfolding panel signalShows blockProceeds mainProceeds routeProceeds signals withRoutes
   far-stops x (aBlock j h d n up down) z few own now p f =
       let way = eqb-true (direction s l) w (and-left _ _ p) in
       into-stops L (end L s e) l j w z (omega arith) (far-signal _ w j up down) now
-      (fails-from _ (λ t. not-both (and-both _ _ (eq-eqb _ w own) (was-enterable L S s e l j b h t)) f))
+      (fails-from _ (λ t. not-both (and-both _ _ (eq-eqb _ w own) (sym (enterable-same L S s e l j b h) ∙ t)) f))
   far-stops x (aStation k h a n) z few own now p f =
-      main-stops L (end L s e) _
+      main-stops (L .routes) (L .route) (end L s e .phase) _
       (fails-from _ (λ t.
       let (r, there, lit) = any-some _ _ t in
       let one = eqb-true (phase (end L s e) r) 1 (and-left _ _ lit) in
@@ -126,26 +127,23 @@ module _ (L : Layout) (S : Sound L) (s : State) (h : History) (I : Inv L s h) (e
   -- "to stop" follows from "from proceed" on a sound layout: within the event a far section that reads occupied holds its signal at stop. The next block
   -- would be open and read free; a route in from the line would have the inner section free in its path
   pub stop-follows : (w : ℕ) → farReading L (lit L s e) l i w ≡ 2 → farProceeds L (lit L s e) l i w ≡ false
-  unfolding blockProceeds enterable enterableBy isOpen mainProceeds routeProceeds clear path routeIn after settle lineRelease withLines routes routesBy
-      withRoutes farSections signals
-  stop-follows w taken = far-proceeds (lit L s e) few (there w) ∙ fails-from _ (λ t. let z = go _ (there w) t in omega (arith, far-reads w))
+  unfolding farReading lineIn isOpen after settle lineRelease withLines routes routesBy withRoutes farSections signals
+  stop-follows w taken =
+      far-proceeds (lit L s e) few (there w)
+      ∙ fails-from _ (λ t.
+      let free = far-free L S l i w b c (lit L s e) opens (lit-clear L (S .ranges .routeCount) s e) (beyond L l i w) (there w) t in
+      omega (arith, ap (readings.reading (lit L s e .section)) (far-section few (there w))))
     where
-      go : (x : Beyond) → BeyondCase L l i w x → farUp L (lit L s e) l w x ≡ true → reading (sectionAt L l x) (granted L s e ∷ h) ≡ 1
-      go x (aBlock j k d n up down) p =
-          opened-then L S s h I e pass l j b k (still-open L S s e l j b k (eqb-true _ 0 (every-at _ (and-right _ _ p) 0))) .isFree
-      go x (aStation m k a n) p =
-          let (r, at, lit) = any-some _ _ p in
-          let free = lit-clear L (S .ranges .routeCount) s e r at (eqb-true _ 1 (and-left _ _ lit)) in
-          let paths = S .ranges .routes r at .pathCount in
-          sym (reads-on L S s h I e pass _ (S .ranges .lines l b .inners m k))
-          ∙ ap (readings.reading (done L s e .section)) (sym (entrance-path L S r l m at b k (eqb-true _ _ (and-right _ _ lit))))
-          ∙ first-free _ _ _ (every-at _ free 0) (omega arith)
+      opens : (j : ℕ) → j < lineIn L l .blocks → stage (done L s e) l j ≡ 0 → readings.reading (done L s e .section) (block L l j) ≡ 1
+      opens j k z =
+          reads-on L S s h I e pass _ (S .ranges .lines l b .blocks j k)
+          ∙ opened-then L S s h I e pass l j b k (eqb-true _ 0 (open-same L S s e l j b k ∙ eq-eqb _ 0 z)) .isFree
 
   -- a block that was in stage 2 and stays there: the passage waits on
   waits-on : stage (done L s e) l i ≡ 3 → (direction (done L s e) l ≢ 0 → farReading L (lit L s e) l i (direction (done L s e) l) ≢ 3)
       → (direction (done L s e) l ≢ 0) × Passage L l i (direction (done L s e) l) (granted L s e ∷ h)
   unfolding Since
-  waits-on z far = go (own-of L S s h I e pass l i b c)
+  waits-on z far = go (own-of L S s e l i b c)
     where
       on : stage s l i ≡ 3 → ¬ On 7 e l → gave (granted L s e) (block L l i) ≢ 3 → gave (granted L s e) (block L l i) ≢ 1
           → (direction (done L s e) l ≢ 0) × Passage L l i (direction (done L s e) l) (granted L s e ∷ h)
@@ -169,20 +167,28 @@ module _ (L : Layout) (S : Sound L) (s : State) (h : History) (I : Inv L s h) (e
   -- this event gave it occupied, so it gave the block nothing: the block was entered by an event before
   module _ (w : ℕ) (own : direction (done L s e) l ≡ w) (z : stage (done L s e) l i ≡ 2) (d : w ≢ 0) (taken : farReading L (lit L s e) l i w ≡ 2)
       (up : farUp L s l w (beyond L l i w) ≡ true) where
+    -- the far section reads occupied then
     now : reading (farSection L l i w) (granted L s e ∷ h) ≡ 2
     now = sym (far-reads w) ∙ taken
 
+    -- before the event each open block read free
+    opens : (j : ℕ) → j < lineIn L l .blocks → stage s l j ≡ 0 → readings.reading (s .section) (block L l j) ≡ 1
+    opens j k z = I .reads _ (S .ranges .lines l b .blocks j k) ∙ I .opened l j b k z .isFree
+
+    -- so the far section read free, and this event says something of it
     of-far : says e (farSection L l i w) ≢ 0
     of-far q =
-        let was = sym (I .reads _ (far-there L S l i w b c)) ∙ far-free L S l i w b c s h I (beyond L l i w) (there w) up in
+        let was = sym (I .reads _ (far-there L S l i w b c)) ∙ far-free L S l i w b c s opens (I .lights) (beyond L l i w) (there w) up in
         let still = reading-kept (granted L s e) h _ q in
         omega (arith, now)
 
+    -- so it says nothing of the block, by rule 1 another section
     of-block : says e (block L l i) ≡ 0
     of-block = says-other e _ (λ q. far-other L S l i w b c (beyond L l i w) (there w) (sym q ∙ says-of-one e _ of-far .1))
 
+    -- so the block was in stage 1 or 2 before
     entered-before : 2 ≤ stage s l i
-    entered-before = go (own-of L S s h I e pass l i b c)
+    entered-before = go (own-of L S s e l i b c)
       where
         go : OwnCase L e l i (stage s l i) (stage (done L s e) l i) → 2 ≤ stage s l i
         go (byHand k q x) = absurd (omega arith)
@@ -201,7 +207,7 @@ module _ (L : Layout) (S : Sound L) (s : State) (h : History) (I : Inv L s h) (e
       let x : Beyond = beyond L l i w in
       let up : farUp L s l w x ≡ true = sym (far-proceeds s few (there w)) ∙ and-left _ _ fell in
       let down : farUp L (lit L s e) l w x ≡ false = sym (far-proceeds (lit L s e) few (there w)) ∙ not-true _ (and-right _ _ fell) in
-      let ways : direction s l ≤ 2 = two-ways L s e pass l (omega (arith, S .ranges .lineCount)) in
+      let ways : direction s l ≤ 2 = two-ways L s e pass l in
       inl (record {
         entered = I .entered l i b c (entered-before w refl z d taken up);
         stays = let quiet = of-block w refl z d taken up in (omega arith, omega arith);
@@ -213,7 +219,7 @@ module _ (L : Layout) (S : Sound L) (s : State) (h : History) (I : Inv L s h) (e
 
   -- a line with a held block keeps its direction through the event; then by what the far section did
   pub passing-then : stage (end L s e) l i ≡ 3 → (direction (end L s e) l ≢ 0) × Passage L l i (direction (end L s e) l) (granted L s e ∷ h)
-  passing-then z = rw unmoved (go (far-of L S s h I e pass l i b c))
+  passing-then z = rw unmoved (go (far-of L S s e l i b c))
     where
       unmoved : direction (end L s e) l ≡ direction (done L s e) l
       unmoved = direction-held L (S .ranges .lineCount) s e l b i c (omega arith)

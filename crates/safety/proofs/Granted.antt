@@ -27,7 +27,7 @@ use Rattle.refusals.specs.Orders.{cancelRefusal, manualRefusal}
 use Rattle.refusals.specs.Events.{objects, secondWrong, eventRefusal}
 use Rattle.interlocking.specs.declared.State.{State}
 use Rattle.interlocking.specs.State.{inRange}
-use Rattle.interlocking.specs.Step.{orderRefusal, refusal, refusedBy, answer, stepWhere, step}
+use Rattle.interlocking.specs.Step.{orderRefusal, refusal, answer, stepWhere, step}
 use Rattle.step_facts.specs.Run.{Event}
 use Rattle.safety.proofs.Entries.{phase, chosen, passed-over}
 use Rattle.safety.proofs.Within.{end}
@@ -104,12 +104,7 @@ module _ (L : Layout) (s : State) (ok : sound L ≡ true) (ranged : inRange s �
 
 -- an event that nothing refuses is done
 module _ (L : Layout) (s : State) (e : Event) (pass : refusal (sound L and inRange s) L s (e .kind) (e .first) (e .second) .number ≡ 0) where
-  -- it is answered by 0
-  pub step-granted : step L s (e .kind) (e .first) (e .second) .number ≡ 0
-  unfolding step stepWhere answer refusedBy
-  step-granted = rw (chosen _ _ _ (eq-eqb (refusal (sound L and inRange s) L s (e .kind) (e .first) (e .second) .number) 0 pass))
-
-  -- and leads to the end of what it does
-  pub step-end : step L s (e .kind) (e .first) (e .second) .next ≡ end L s e
-  unfolding step stepWhere answer refusedBy
-  step-end = rw (chosen _ _ _ (eq-eqb (refusal (sound L and inRange s) L s (e .kind) (e .first) (e .second) .number) 0 pass))
+  -- it is answered by 0, and leads to the end of what it does
+  pub step-granted : step L s (e .kind) (e .first) (e .second) ≡ record { number = 0; detail = 0; next = end L s e }
+  unfolding step stepWhere answer
+  step-granted = chosen _ _ _ (eq-eqb (refusal (sound L and inRange s) L s (e .kind) (e .first) (e .second) .number) 0 pass)

@@ -4,7 +4,9 @@ use mathlib.Core.Path.{_≡_, refl, sym, _∙_}
 use mathlib.Core.Logic.{inl, inr}
 use mathlib.Core.List.{_∷_}
 use native.Mathlib.Omega.{arith}
+use borrow.Author.Tests.{eqb-true, eq-eqb}
 use Rattle.laws.specs.Tests.{_and_}
+use Rattle.tables.specs.Blocks.{isOpen}
 use Rattle.layout.specs.declared.Layout.{Layout}
 use Rattle.layout.specs.Layout.{lineIn}
 use Rattle.layout.specs.Sound.{sound}
@@ -19,27 +21,20 @@ use Rattle.safety.specs.Demand3.{Entered}
 use Rattle.safety.proofs.Entries.{direction, stage}
 use Rattle.safety.proofs.Passed.{release-free}
 use Rattle.safety.proofs.Within.{done, lit, end, says-nothing}
-use Rattle.safety.proofs.Blocks.{OwnCase, byHand, unread, frees, shuts, takes, own-case, FarCase, keeps, proves, loses, stage-end}
+use Rattle.safety.proofs.Blocks.{OwnCase, byHand, unread, frees, shuts, takes, FarCase, keeps, proves, loses}
 use Rattle.safety.proofs.Told.{entered-reads, Opened, opened-on, opened-by-hand, opened-by-passage}
 use Rattle.safety.proofs.Invariant.{Inv}
-use Rattle.safety.proofs.Routes.{granted, was-open}
+use Rattle.safety.proofs.Routes.{granted, own-of, far-of, open-same}
 
 module _ (L : Layout) (S : Sound L) (s : State) (h : History) (I : Inv L s h) (e : Event)
     (pass : refusal (sound L and inRange s) L s (e .kind) (e .first) (e .second) .number ≡ 0) (l i : ℕ) (b : l < L .lines) (c : i < lineIn L l .blocks) where
-  -- what the event does to the block itself
-  pub own-of : OwnCase L e l i (stage s l i) (stage (done L s e) l i)
-  own-of = own-case L (S .ranges .lineCount) s e l i b c (omega (arith, S .ranges .lines l b .blockCount))
-
-  -- what its far section does to it
-  pub far-of : FarCase L s (lit L s e) l i (direction (done L s e) l) (stage (done L s e) l i) (stage (end L s e) l i)
-  far-of = stage-end L (S .ranges .lineCount) s e l i b (omega (arith, S .ranges .lines l b .blockCount))
-
   -- a block is opened by hand where it reads free, or by the free reading that closes its passage; else it was open and nothing took it
   pub opened-then : stage (end L s e) l i ≡ 0 → Opened L l i (granted L s e ∷ h)
-  opened-then z = go own-of
+  unfolding isOpen
+  opened-then z = go (own-of L S s e l i b c)
     where
       opens : stage (done L s e) l i ≡ 0
-      opens = was-open L S s e l i b c z
+      opens = eqb-true _ 0 (sym (open-same L S s e l i b c) ∙ eq-eqb _ 0 z)
 
       go : OwnCase L e l i (stage s l i) (stage (done L s e) l i) → Opened L l i (granted L s e ∷ h)
       go (byHand k q x) =
@@ -56,7 +51,7 @@ module _ (L : Layout) (S : Sound L) (s : State) (h : History) (I : Inv L s h) (e
   -- a block in stage 1 or 2 was given occupied by this event, or by one before, and since then neither none nor free
   pub entered-then : 2 ≤ stage (end L s e) l i → Entered (block L l i) (granted L s e ∷ h)
   unfolding Since
-  entered-then z = go own-of
+  entered-then z = go (own-of L S s e l i b c)
     where
       held : FarCase L s (lit L s e) l i (direction (done L s e) l) (stage (done L s e) l i) (stage (end L s e) l i) → 2 ≤ stage (done L s e) l i
       held (keeps x f) = omega arith
@@ -64,8 +59,8 @@ module _ (L : Layout) (S : Sound L) (s : State) (h : History) (I : Inv L s h) (e
       held (loses x was) = omega arith
 
       go : OwnCase L e l i (stage s l i) (stage (done L s e) l i) → Entered (block L l i) (granted L s e ∷ h)
-      go (byHand k q x) = absurd (omega (arith, held far-of))
-      go (unread n q x) = inr ((omega arith, omega arith), I .entered l i b c (omega (arith, held far-of)))
-      go (frees k q was x) = absurd (omega (arith, held far-of))
-      go (shuts k x) = absurd (omega (arith, held far-of))
+      go (byHand k q x) = absurd (omega (arith, held (far-of L S s e l i b c)))
+      go (unread n q x) = inr ((omega arith, omega arith), I .entered l i b c (omega (arith, held (far-of L S s e l i b c))))
+      go (frees k q was x) = absurd (omega (arith, held (far-of L S s e l i b c)))
+      go (shuts k x) = absurd (omega (arith, held (far-of L S s e l i b c)))
       go (takes k q x y) = inl q

@@ -5,8 +5,11 @@ use mathlib.Core.Bool.{true}
 use mathlib.Core.List.{List}
 use native.Mathlib.Nat.{le-refl}
 use native.Mathlib.Omega.{arith}
+use borrow.Author.Tests.{eq-eqb}
 use lib.ListN.{length, length-append}
 use Rattle.laws.proofs.Choice.{if-both}
+use Rattle.track.specs.Codes.{openBlock}
+use Rattle.tables.specs.Blocks.{isOpen}
 use Rattle.layout.specs.declared.Layout.{Layout}
 use Rattle.layout.specs.Sound.{sound}
 use Rattle.layout_facts.specs.Plain.{Sound}
@@ -62,8 +65,8 @@ way-short L S s =
 -- ---- where it leads
 
 -- from any state in range
-pub leads-out : (L : Layout) → sound L ≡ true → (s : State) → inRange s ≡ true → WayOut L s
-unfolding wayOut
+leads-out : (L : Layout) → sound L ≡ true → (s : State) → inRange s ≡ true → WayOut L s
+unfolding wayOut isOpen
 leads-out L ok s ranged =
     let S = sound-says L ok in
     let G = after-that (cancel-all L ok S (L .routes) s (le-refl _) ranged (λ r b c. absurd (omega arith)))
@@ -74,9 +77,9 @@ leads-out L ok s ranged =
       granted = G .granted;
       short = way-short L S s;
       rest = record {
-        idle = G .ends .0;
-        neutral = λ l b. G .ends .2 l (omega arith) b .0;
-        isOpen = λ l i b c. G .ends .2 l (omega arith) b .1 i c;
+        routes = G .ends .0;
+        lines = λ l b. G .ends .2 l (omega arith) b .0;
+        blocks = λ l i b c. eq-eqb _ openBlock (G .ends .2 l (omega arith) b .1 i c);
       };
     }
 

@@ -3,19 +3,17 @@ use Prim.Native.Nat.{ℕ, _+_, _<_, _≤_}
 use mathlib.Core.Path.{_≡_, refl, _∙_}
 use mathlib.Core.Logic.{_≢_}
 use mathlib.Core.Bool.{Bool, true, false}
-use mathlib.Core.List.{List, [], _∷_}
+use mathlib.Core.List.{List}
 use native.Mathlib.Omega.{arith}
-use borrow.Author.Tests.{eqb-true, eqb-false, eq-eqb, leb-true, not-true, not-false}
-use lib.Dec.{eqb, ltb}
+use borrow.Author.Tests.{eqb-true, eqb-false, eq-eqb, not-true, not-false}
+use lib.Dec.{ltb}
 use Rattle.laws.specs.Choice.{if_then_else_}
 use Rattle.laws.specs.Tests.{_and_, lowest}
 use Rattle.laws.proofs.Choice.{if-both}
 use Rattle.laws.proofs.Searches.{lowest-none}
-use Rattle.laws.proofs.Tests.{and-right, and-both, not-both, fails-from, every-at, all-at, any-at}
+use Rattle.laws.proofs.Tests.{and-right, and-both, not-both, fails-from, any-at}
 use Rattle.sets.specs.Sets as sets
 use Rattle.sets.proofs.Sets.{holds-setOf}
-use Rattle.track.specs.Lists.{between}
-use Rattle.track.specs.Objects.{line}
 use Rattle.tables.specs.Readings.{reading}
 use Rattle.layout.specs.declared.Layout.{Layout}
 use Rattle.layout.specs.Layout.{lineIn, routeIn, conflict}
@@ -30,10 +28,11 @@ use Rattle.refusals.specs.Orders.{exitRefusal, routeRefusal, setRefusal, cancel
 use Rattle.refusals.specs.Events.{eventRefusal}
 use Rattle.refusals.proofs.Granted.{granted-at, when-granted}
 use Rattle.interlocking.specs.declared.State.{State}
-use Rattle.interlocking.specs.State.{codes, routesInRange, inRange}
+use Rattle.interlocking.specs.State.{inRange}
 use Rattle.interlocking.specs.Step.{orderRefusal, refusal}
 use Rattle.step_facts.specs.Run.{Event}
-use Rattle.safety.proofs.Entries.{phase, direction, holds, read-at}
+use Rattle.step_facts.proofs.Range.{inRange-means, read-within}
+use Rattle.safety.proofs.Entries.{phase, direction}
 
 -- ---- reasons that there were not
 
@@ -68,11 +67,8 @@ module _ (L : Layout) (s : State) (e : Event) (pass : refusal (sound L and inRan
   in-range = and-right _ _ (not-false _ (when-granted _ 18 0 (omega arith) (granted-at _ (granted-at _ pass 0) 0)))
 
   -- a line is neutral or secured one of the two ways
-  pub two-ways : (l : ℕ) → l < 8 → direction s l ≤ 2
-  unfolding inRange routesInRange codes between
-  two-ways l b =
-      rw (read-at 8 0 (s .direction) l b)
-      (leb-true _ 2 (and-right _ _ (all-at _ _ (every-at _ (every-at _ in-range 3) 3) l b)))
+  pub two-ways : (l : ℕ) → direction s l ≤ 2
+  two-ways l = read-within (inRange-means s .0 in-range .direction) 0 l (omega arith) .1
 
   -- none of the reasons of its kind
   order-granted : (k : ℕ) → e .kind ≡ k → orderRefusal L s k (e .first) .number ≡ 0

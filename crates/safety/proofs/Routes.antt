@@ -5,7 +5,7 @@ use mathlib.Core.Logic.{_≢_, _⊎_, inl, inr}
 use mathlib.Core.Bool.{true}
 use mathlib.Core.List.{_∷_}
 use native.Mathlib.Omega.{arith}
-use borrow.Author.Tests.{eqb-true, eq-eqb}
+use borrow.Author.Tests.{eqb-true}
 use lib.Dec.{eqb}
 use Rattle.laws.specs.Choice.{if_then_else_}
 use Rattle.laws.specs.Tests.{_and_}
@@ -29,48 +29,39 @@ use Rattle.safety.specs.History.{Moment, History, says, reading}
 use Rattle.safety.proofs.Entries.{phase, direction, stage}
 use Rattle.safety.proofs.Passed.{set-alone, set-secured, cancel-locked, secure-neutral, release-unlocked}
 use Rattle.safety.proofs.Within.{On, done, lit, end, section-done, phase-clear, was-locked, direction-same, direction-locked}
-use Rattle.safety.proofs.Blocks.{FarCase, keeps, proves, loses, stage-end}
+use Rattle.safety.proofs.Blocks.{OwnCase, own-case, FarCase, keeps, proves, loses, stage-end}
 use Rattle.safety.proofs.Invariant.{Inv}
 
 -- the moment of an accepted event
 abbrev pub granted : Layout → State → Event → Moment
 granted L s e = record { event = e; number = 0; shows = panel L (end L s e) }
 
-module _ (L : Layout) (S : Sound L) (s : State) (e : Event) where
-  -- a block is open at the end of an event if its own reading left it open
-  module _ (l i : ℕ) (b : l < L .lines) (h : i < lineIn L l .blocks) where
-    far-of : FarCase L s (lit L s e) l i (direction (done L s e) l) (stage (done L s e) l i) (stage (end L s e) l i)
-    far-of = stage-end L (S .ranges .lineCount) s e l i b (omega (arith, S .ranges .lines l b .blockCount))
+-- block i of line l within an event
+module _ (L : Layout) (S : Sound L) (s : State) (e : Event) (l i : ℕ) (b : l < L .lines) (h : i < lineIn L l .blocks) where
+  -- what the event does to it itself
+  pub own-of : OwnCase L e l i (stage s l i) (stage (done L s e) l i)
+  own-of = own-case L (S .ranges .lineCount) s e l i b h (omega (arith, S .ranges .lines l b .blockCount))
 
-    pub still-open : stage (done L s e) l i ≡ 0 → stage (end L s e) l i ≡ 0
-    still-open z = go far-of
-      where
-        go : FarCase L s (lit L s e) l i (direction (done L s e) l) (stage (done L s e) l i) (stage (end L s e) l i) → stage (end L s e) l i ≡ 0
-        go (keeps x f) = x ∙ z
-        go (proves x was d o p) = absurd (omega arith)
-        go (loses x was) = absurd (omega arith)
+  -- what its far section does to it
+  pub far-of : FarCase L s (lit L s e) l i (direction (done L s e) l) (stage (done L s e) l i) (stage (end L s e) l i)
+  far-of = stage-end L (S .ranges .lineCount) s e l i b (omega (arith, S .ranges .lines l b .blockCount))
 
-    -- and only then
-    pub was-open : stage (end L s e) l i ≡ 0 → stage (done L s e) l i ≡ 0
-    was-open z = go far-of
-      where
-        go : FarCase L s (lit L s e) l i (direction (done L s e) l) (stage (done L s e) l i) (stage (end L s e) l i) → stage (done L s e) l i ≡ 0
-        go (keeps x f) = sym x ∙ z
-        go (proves x was d o p) = absurd (omega arith)
-        go (loses x was) = absurd (omega arith)
+  -- it is open at the end of the event just where the event itself left it open: far sections neither open a block nor shut one
+  pub open-same : isOpen (end L s e .stage) l i ≡ isOpen (done L s e .stage) l i
+  unfolding isOpen
+  open-same = go far-of
+    where
+      go : FarCase L s (lit L s e) l i (direction (done L s e) l) (stage (done L s e) l i) (stage (end L s e) l i)
+          → eqb (stage (end L s e) l i) 0 ≡ eqb (stage (done L s e) l i) 0
+      go (keeps x f) = ap (λ n. eqb n 0) x
+      go (proves x was d o p) = rw (x, was)
+      go (loses x was) = rw (x, was)
 
-    -- so a train may be let into it at the end just where it may after the event's own reading
-    pub still-enterable : enterable (L .line) (done L s e .point) (done L s e .stage) (done L s e .bar) l i ≡ true
-        → enterable (L .line) (end L s e .point) (end L s e .stage) (end L s e .bar) l i ≡ true
-    unfolding enterable enterableBy isOpen after settle lineRelease withLines routes routesBy withRoutes farSections signals
-    still-enterable t =
-        every-more _ _ _ (eq-eqb _ 0 (still-open (eqb-true _ 0 (every-at _ t 0)))) (every-more _ _ _ (every-at _ t 1) (every-one _ (every-at _ t 2)))
-
-    pub was-enterable : enterable (L .line) (end L s e .point) (end L s e .stage) (end L s e .bar) l i ≡ true
-        → enterable (L .line) (done L s e .point) (done L s e .stage) (done L s e .bar) l i ≡ true
-    unfolding enterable enterableBy isOpen after settle lineRelease withLines routes routesBy withRoutes farSections signals
-    was-enterable t =
-        every-more _ _ _ (eq-eqb _ 0 (was-open (eqb-true _ 0 (every-at _ t 0)))) (every-more _ _ _ (every-at _ t 1) (every-one _ (every-at _ t 2)))
+  -- so a train may be let into it at the end just where it may after what the event does itself
+  pub enterable-same : enterable (L .line) (end L s e .point) (end L s e .stage) (end L s e .bar) l i
+      ≡ enterable (L .line) (done L s e .point) (done L s e .stage) (done L s e .bar) l i
+  unfolding enterable enterableBy after settle lineRelease withLines routes routesBy withRoutes farSections signals
+  enterable-same = rw open-same
 
 module _ (L : Layout) (S : Sound L) (s : State) (h : History) (I : Inv L s h) (e : Event)
     (pass : refusal (sound L and inRange s) L s (e .kind) (e .first) (e .second) .number ≡ 0) where
@@ -101,7 +92,7 @@ module _ (L : Layout) (S : Sound L) (s : State) (h : History) (I : Inv L s h) (e
       let c = phase-clear L (S .ranges .routeCount) s e r b p in
       every-more _ _ _ (every-at _ c 0) (every-more _ _ _ (every-at _ c 1) (every-more _ _ _ (every-at _ c 2) (every-one _ (implies-from _ _ (λ k.
       let x = eqb-true (routeIn L r .kind) 2 k in
-      still-enterable L S s e _ _ (S .ranges .routes r b .line (inr x) .0) (entered-block L S r b x) (implied _ _ (every-at _ c 3) k))))))
+      enterable-same L S s e _ _ (S .ranges .routes r b .line (inr x) .0) (entered-block L S r b x) ∙ implied _ _ (every-at _ c 3) k)))))
 
   -- the line of a locked exit route stays secured its way
   pub exits-on : (r : ℕ) → r < L .routes → routeIn L r .kind ≡ 2 → phase (end L s e) r ≢ 0 → direction (end L s e) (routeIn L r .line) ≡ routeIn L r .end + 1

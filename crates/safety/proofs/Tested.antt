@@ -8,6 +8,7 @@ use borrow.Author.Tests.{eqb-true, eqb-false, eq-eqb, ne-eqb, lt-ltb, ltb-true, 
 use lib.Dec.{eqb, ltb}
 use Rattle.laws.specs.Tests.{_and_, _or_, every, any}
 use Rattle.laws.proofs.Tests.{and-left, and-right, and-both, or-left, or-right, not-both, every-at, every-one, every-more, any-some}
+use Rattle.track.specs.Codes.{free, none}
 use Rattle.layout.specs.declared.Layout.{Layout}
 use Rattle.layout.specs.Layout.{lineIn, routeIn}
 use Rattle.layout_facts.specs.Plain.{block, nearestBlock}
@@ -36,7 +37,7 @@ since-tested began kept b k (m ∷ h) (inr x) = or-right _ _ (and-both _ _ (k m 
 
 -- neither none nor free was given to section g
 abbrev staysTest : ℕ → Moment → Bool
-staysTest g m = not (eqb (gave m g) 3) and not (eqb (gave m g) 1)
+staysTest g m = not (eqb (gave m g) none) and not (eqb (gave m g) free)
 
 -- section g was entered
 abbrev enteredTest : ℕ → History → Bool
@@ -73,24 +74,25 @@ abbrev clearedTest : Layout → ℕ → ℕ → History → Bool
 clearedTest L l i h =
     wayTest l (λ w. passageTest L l i w (untilSpell (block L l i) h)) (untilSpell (block L l i) h) or releasedTest l (sinceSpell (block L l i) h)
 
+-- an event that gave a section neither
+stays-tested : (g : ℕ) (m : Moment) → (gave m g ≢ none) × (gave m g ≢ free) → staysTest g m ≡ true
+stays-tested g m k = and-both _ _ (ap not (ne-eqb _ none (k .0))) (ap not (ne-eqb _ free (k .1)))
+
 module _ (L : Layout) (l i w : ℕ) where
   -- each of what the drop of a passage is
   drops-tested : (m : Moment) (h : History) → Drops L l i w m h → dropsTest L l i w m h ≡ true
   drops-tested m h d =
-      every-more _ _ _ (entered h (d .entered)) (every-more _ _ _ (stays m (d .stays)) (every-more _ _ _ (eq-eqb _ w (d .secured .0))
+      every-more _ _ _ (entered h (d .entered)) (every-more _ _ _ (stays-tested _ m (d .stays)) (every-more _ _ _ (eq-eqb _ w (d .secured .0))
       (every-more _ _ _ (ap not (ne-eqb w 0 (d .secured .1))) (every-more _ _ _ (eq-eqb _ 2 (d .taken)) (every-more _ _ _ (lt-ltb 20 _ (d .fromProceed))
       (every-one _ (eq-eqb _ 20 (d .toStop))))))))
     where
-      stays : (m : Moment) → (gave m (block L l i) ≢ 3) × (gave m (block L l i) ≢ 1) → staysTest (block L l i) m ≡ true
-      stays m k = and-both _ _ (ap not (ne-eqb _ 3 (k .0))) (ap not (ne-eqb _ 1 (k .1)))
-
       entered : (h : History) → Entered (block L l i) h → enteredTest (block L l i) h ≡ true
-      entered = since-tested _ _ (λ m h q. eq-eqb _ 2 q) stays
+      entered = since-tested _ _ (λ m h q. eq-eqb _ 2 q) (stays-tested (block L l i))
 
   -- so of a passage
   passage-tested : (h : History) → Passage L l i w h → passageTest L l i w h ≡ true
   passage-tested =
-      since-tested _ _ drops-tested (λ m k. and-both _ _ (and-both _ _ (ap not (ne-eqb _ 3 (k .0))) (ap not (ne-eqb _ 1 (k .1)))) (ap not (ne-eqb _ 3 (k .2))))
+      since-tested _ _ drops-tested (λ m k. and-both _ _ (stays-tested _ m (k .0, k .1)) (ap not (ne-eqb _ none (k .2))))
 
   -- its direction was shown
   way-tested : (p : ℕ → Bool) → p w ≡ true → (h : History) → Passage L l i w h → wayTest l p h ≡ true
@@ -136,6 +138,7 @@ unmetTest alone L h r =
 unmetTest isFree L h r = not (eqb (reading (block L (routeIn L r .line) (entry L r)) h) 1)
 unmetTest cleared L h r = not (clearedTest L (routeIn L r .line) (entry L r) h)
 
+-- both, of some exit route
 abbrev pub brokenTest : Asked → Layout → History → Bool
 brokenTest what L h = any (L .routes) (λ r. letsTest L (shown L h) r and unmetTest what L h r)
 

@@ -37,7 +37,7 @@ module _ (m : Moment) (h : History) (g : ℕ) where
   reading-given v q d = passed-over _ _ _ (ne-eqb (gave m g) 0 (omega arith)) ∙ q
 
   -- one that gives it neither of the other readings leaves the one that it has
-  pub reading-stays : (v : ℕ) → (gave m g ≢ nothing → gave m g ≡ v) → v ≢ nothing → reading g h ≡ v → reading g (m ∷ h) ≡ v
+  reading-stays : (v : ℕ) → (gave m g ≢ nothing → gave m g ≡ v) → v ≢ nothing → reading g h ≡ v → reading g (m ∷ h) ≡ v
   reading-stays v f d r = go (ℕ-discrete (gave m g) 0)
     where
       go : Dec (gave m g ≡ 0) → reading g (m ∷ h) ≡ v

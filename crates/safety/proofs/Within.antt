@@ -28,21 +28,25 @@ use Rattle.tables.specs.Locks.{locked, lockedExitBy, lockedExit}
 use Rattle.interlocking.specs.Settle.{fallenAt, signals, farSections, heldOf, routeAfter, unlessIdle, routesBy, routes, passable, ends, directionAfter, lineRelease, settle}
 use Rattle.interlocking.specs.Step.{meant, gives, ownOf, own, after}
 use Rattle.step_facts.specs.Run.{Event}
+use Rattle.step_facts.proofs.Refusals.{recorded-in}
 use Rattle.safety.specs.History.{says}
-use Rattle.safety.proofs.Entries.{phase, direction, stage, chosen, passed-over, read-each, read-put}
+use Rattle.safety.proofs.Entries.{phase, direction, stage, chosen, passed-over, read-each, put-here, put-elsewhere}
 
 -- ---- the states within one event
 
--- after what it does itself; after the signals; after far sections and routes; at its end
+-- after what it does itself
 abbrev pub done : Layout → State → Event → State
 done L s e = own L s (e .kind) (e .first) (meant (e .kind) (e .second))
 
+-- after the signals
 abbrev pub lit : Layout → State → Event → State
 lit L s e = signals L (done L s e)
 
+-- after far sections and routes
 abbrev pub moved : Layout → State → Event → State
 moved L s e = routes L (farSections L s (lit L s e)) (gives (e .kind) (e .first) (meant (e .kind) (e .second)))
 
+-- at its end
 abbrev pub end : Layout → State → Event → State
 end L s e = after L s (e .kind) (e .first) (meant (e .kind) (e .second))
 
@@ -52,7 +56,7 @@ end L s e = after L s (e .kind) (e .first) (meant (e .kind) (e .second))
 abbrev pub On : ℕ → Event → ℕ → Type 0
 On k e a = (e .kind ≡ k) × (e .first ≡ a)
 
--- the other kinds leave sections, phases, directions and stages as they are
+-- the state that it leaves, by its kind; the other kinds leave sections, phases, directions and stages as they are
 pub data Done (L : Layout) (s : State) (e : Event) : State → Type 0 where
   reads : e .kind ≡ 1 → Done L s e (ownSection (L .line) (L .lines) s (e .first) (meant (e .kind) (e .second)))
   sets : e .kind ≡ 4 → Done L s e (ownSet s (e .first))
@@ -62,6 +66,7 @@ pub data Done (L : Layout) (s : State) (e : Event) : State → Type 0 where
   leaves : {t : State} → (e .kind ≢ 1) × (e .kind ≢ 4) × (e .kind ≢ 5) × (e .kind ≢ 6) × (e .kind ≢ 7)
       → (t .section ≡ s .section) × (t .phase ≡ s .phase) × (t .direction ≡ s .direction) × (t .stage ≡ s .stage) → Done L s e t
 
+-- by the tests of its kind, one after the other
 pub is-done : (L : Layout) (s : State) (e : Event) → Done L s e (done L s e)
 unfolding own ownOf ownPoint ownThrow ownBar withPoints withBars
 is-done L s e =
@@ -84,31 +89,28 @@ is-done L s e =
 
 -- ---- sections
 
--- what an event says of a section: nothing, unless it is a reading of that section; then what is recorded of its code
+-- an event that is no reading says nothing of any section
 pub says-nothing : (e : Event) (g : ℕ) → e .kind ≢ 1 → says e g ≡ 0
 unfolding says _and_
 says-nothing e g d = passed-over _ _ 0 (rw (ne-eqb _ 1 d))
 
+-- one that says something of a section is a reading of that section
 pub says-of-one : (e : Event) (g : ℕ) → says e g ≢ 0 → (e .kind ≡ 1) × (e .first ≡ g)
 unfolding says
 says-of-one e g =
     if-both (λ n. n ≢ 0 → (e .kind ≡ 1) × (e .first ≡ g)) _ (λ t d. (eqb-true _ 1 (and-left _ _ t), eqb-true _ g (and-right _ _ t))) (λ f d. absurd (d refl))
 
+-- one that names another section says nothing of this one
 pub says-other : (e : Event) (g : ℕ) → e .first ≢ g → says e g ≡ 0
 unfolding says
 says-other e g d = passed-over _ _ 0 (fails-from _ (λ t. d (eqb-true _ g (and-right _ _ t))))
 
+-- a reading says of its section what is recorded of its code
 pub says-recorded : (e : Event) (g : ℕ) → e .kind ≡ 1 → e .first ≡ g → says e g ≡ recorded (e .second)
 unfolding says recorded _and_
 says-recorded e g k f = chosen _ _ 0 (rw (eq-eqb _ 1 k, eq-eqb _ g f))
 
-pub recorded-is : (b : ℕ) → (1 ≤ recorded b) × (recorded b ≤ 3)
-unfolding recorded
-recorded-is b = if-both R (eqb b 1) (λ t. omega arith) (λ f. if-both R (eqb b 2) (λ t. omega arith) (λ g. omega arith))
-  where
-    R : ℕ → Type 0
-    R n = (1 ≤ n) × (n ≤ 3)
-
+-- and that is what its second number means to the step
 pub meant-reading : (e : Event) → e .kind ≡ 1 → meant (e .kind) (e .second) ≡ recorded (e .second)
 unfolding meant
 meant-reading e k = chosen _ _ _ (le-leb (e .kind) 2 (omega arith))
@@ -123,17 +125,17 @@ section-done L s e g b = go (is-done L s e)
     kept d = sym (chosen _ _ _ (eq-eqb _ 0 (says-nothing e g d)))
 
     at : e .kind ≡ 1 → Dec (g ≡ e .first)
-        → (if eqb g (e .first) then meant (e .kind) (e .second) else read 64 3 (s .section) g)
+        → read 64 3 (put 64 (s .section) (e .first) (meant (e .kind) (e .second))) g
         ≡ if eqb (says e g) 0 then read 64 3 (s .section) g else says e g
     at k (yes q) =
         let told = says-recorded e g k (sym q) in
-        let some = recorded-is (e .second) in
-        chosen _ _ _ (eq-eqb _ _ q) ∙ meant-reading e k ∙ sym told ∙ sym (passed-over _ _ _ (ne-eqb (says e g) 0 (omega arith)))
-    at k (no d) = passed-over _ _ _ (ne-eqb _ _ d) ∙ sym (chosen _ _ _ (eq-eqb _ 0 (says-other e g (λ q. d (sym q)))))
+        let some = recorded-in (e .second) in
+        put-here 64 3 (s .section) _ _ g b q ∙ meant-reading e k ∙ sym told ∙ sym (passed-over _ _ _ (ne-eqb (says e g) 0 (omega arith)))
+    at k (no d) = put-elsewhere 64 3 (s .section) _ _ g b d ∙ sym (chosen _ _ _ (eq-eqb _ 0 (says-other e g (λ q. d (sym q)))))
 
     go : {t : State} → Done L s e t
         → read 64 3 (t .section) g ≡ if eqb (says e g) 0 then read 64 3 (s .section) g else says e g
-    go (reads k) = read-put 64 3 (s .section) (e .first) _ g b ∙ at k (ℕ-discrete g (e .first))
+    go (reads k) = at k (ℕ-discrete g (e .first))
     go (sets k) = kept (omega arith)
     go (cancels k) = kept (omega arith)
     go (secures k) = kept (omega arith)
@@ -142,12 +144,13 @@ section-done L s e g b = go (is-done L s e)
 
 -- ---- routes
 
--- only a signal at proceed can fall, and one that still shows proceed had all that keeps it there
 module _ (L : Layout) (s : State) (r was : ℕ) where
+  -- only a signal at proceed can fall
   pub fallen-else : was ≢ 1 → fallenAt (L .line) (L .route) s r was ≡ was
   unfolding fallenAt fallen
   fallen-else d = passed-over _ _ _ (ne-eqb was 1 d)
 
+  -- one that is still at proceed has all that keeps it there
   fallen-not : fallenAt (L .line) (L .route) s r was ≡ 1 → clear (L .line) (s .section) (s .point) (s .stage) (s .bar) (routeIn L r) ≡ true
   unfolding fallenAt fallen routeIn
   fallen-not = if-both R (eqb was 1) (λ t. if-both R _ (λ c z. c) (λ c z. absurd (omega arith))) (λ f z. absurd (eqb-false _ _ f z))
@@ -164,6 +167,7 @@ let-go L s g r =
     (λ f. if-both (λ (h : Held). h .phase ≢ 0 → h .phase ≡ phase s r) _ (λ t d. absurd (d refl)) (λ t d. refl))
 
 module _ (L : Layout) (few : L .routes ≤ 48) (s : State) (e : Event) (r : ℕ) (b : r < L .routes) where
+  -- the signals go route by route
   pub phase-lit : phase (lit L s e) r ≡ fallenAt (L .line) (L .route) (done L s e) r (phase (done L s e) r)
   unfolding signals withRoutes
   phase-lit = read-each 48 0 (L .routes) _ _ r (omega arith) b
@@ -204,7 +208,7 @@ module _ (L : Layout) (few : L .routes ≤ 48) (s : State) (e : Event) (r : ℕ)
       stored : (v : ℕ) → (e .first ≡ r → On 4 e r ⊎ (phase s r ≢ 0)) → Dec (r ≡ e .first)
           → read 48 0 (put 48 (s .phase) (e .first) v) r ≢ 0 → On 4 e r ⊎ (phase s r ≢ 0)
       stored v here (yes q) x = here (sym q)
-      stored v here (no q) x = inr (λ z. x (read-put 48 0 (s .phase) (e .first) v r (omega arith) ∙ passed-over _ _ _ (ne-eqb r _ q) ∙ z))
+      stored v here (no q) x = inr (λ z. x (put-elsewhere 48 0 (s .phase) (e .first) v r (omega arith) q ∙ z))
 
       go : {t : State} → Done L s e t → phase t r ≢ 0
           → On 4 e r ⊎ (phase s r ≢ 0)
@@ -224,7 +228,7 @@ module _ (L : Layout) (few : L .lines ≤ 8) (s : State) (e : Event) (l : ℕ) (
   direction-same n m = go (is-done L s e)
     where
       elsewhere : (v : ℕ) → (e .first ≡ l → ⊥) → read 8 0 (put 8 (s .direction) (e .first) v) l ≡ direction s l
-      elsewhere v d = read-put 8 0 (s .direction) (e .first) v l (omega arith) ∙ passed-over _ _ _ (ne-eqb l _ (λ z. d (sym z)))
+      elsewhere v d = put-elsewhere 8 0 (s .direction) (e .first) v l (omega arith) (λ z. d (sym z))
 
       go : {t : State} → Done L s e t → direction t l ≡ direction s l
       go (reads k) = refl

@@ -7,13 +7,14 @@ use mathlib.Core.List.{List, [], _∷_}
 use borrow.Author.Tests.{eqb-false, eq-eqb, not-true}
 use lib.Dec.{lit<}
 use Rattle.laws.specs.Tests.{_and_}
-use Rattle.laws.proofs.Tests.{and-left, and-right, not-both}
+use Rattle.laws.proofs.Tests.{and-left, and-right, and-both, not-both}
 use Rattle.layout.specs.declared.Layout.{Layout}
 use Rattle.layout.specs.Load.{load, whole}
-use Rattle.panel_facts.specs.Cases.{same}
+use Rattle.layout_facts.specs.BranchT.{layoutT}
+use Rattle.safety.specs.Cases.{same}
 use Rattle.safety.specs.History.{History}
 use Rattle.safety.specs.Demand3.{Safe}
-use Rattle.safety.specs.WrongRuns.{T, twoBlocks, innerIsBlock, sharedBlock, innerPassedBy, kept, Asked, secured, alone, isFree, cleared, Broken, Run, told, Each, unsafe, together, showing, right, Differs, unlike}
+use Rattle.safety.specs.WrongRuns.{twoBlocks, innerIsBlock, sharedBlock, innerPassedBy, kept, Asked, secured, alone, isFree, cleared, Broken, Run, told, Each, unsafe, together, showing, right, Differs, unlike}
 use Rattle.safety.proofs.Computed.{runComputed}
 use Rattle.safety.proofs.Tested.{brokenTest, is-broken}
 
@@ -24,23 +25,25 @@ pub two-blocks-load : load twoBlocks .number ≡ 0
 unfolding runComputed
 two-blocks-load = refl
 
--- of the others each breaks one rule and keeps the rest
+-- these two break rule 1 and keep the rest
 pub rule-1-off : (kept (whole innerIsBlock .layout) ≡ false ∷ true ∷ true ∷ true ∷ true ∷ true ∷ [])
     × (kept (whole sharedBlock .layout) ≡ false ∷ true ∷ true ∷ true ∷ true ∷ true ∷ [])
 unfolding runComputed
 rule-1-off = (refl, refl)
 
+-- this one breaks rule 5 and keeps the rest
 pub rule-5-off : kept (whole innerPassedBy .layout) ≡ true ∷ true ∷ true ∷ true ∷ false ∷ true ∷ []
 unfolding runComputed
 rule-5-off = refl
 
--- for nothing else are they refused: 25 comes after all other faults
+-- for nothing else are the three refused: 25 comes after all other faults
 pub only-by-rules : (load innerIsBlock .number ≡ 25) × (load sharedBlock .number ≡ 25) × (load innerPassedBy .number ≡ 25)
 unfolding runComputed
 only-by-rules = (refl, refl, refl)
 
 -- ---- what is broken is refused by demand 3
 
+-- each of what is asked is a part of what guards a signal
 pub not-safe : (what : Asked) (L : Layout) (h : History) → Broken what L h → Safe L h → ⊥
 not-safe secured L h b S = b .unmet (S .guarded _ _ _ _ (b .enters) .secured)
 not-safe alone L h b S = b .unmet (S .guarded _ _ _ _ (b .enters) .alone)
@@ -72,7 +75,7 @@ pub wrong-boxes-break : (what : Asked) → Each (λ r. Broken what (r .layout) (
 wrong-boxes-break what = each-passes _ (λ r. is-broken (r .layout) (told r) what) (unsafe what) (tested what)
 
 -- routes 1 and 2 conflict, and both are locked
-pub conflict-locked : Safe T (told together) → ⊥
+pub conflict-locked : Safe layoutT (told together) → ⊥
 unfolding runComputed
 conflict-locked S = S .apart 1 2 (lit< tt) (lit< tt) refl (eqb-false _ 0 refl) (eqb-false _ 0 refl)
 
@@ -84,7 +87,7 @@ apart xs ys t q = not-both (ap (same xs) (sym q) ∙ is-same xs) (not-true _ t)
   where
     is-same : (zs : List ℕ) → same zs zs ≡ true
     is-same [] = refl
-    is-same (z ∷ zs) = rw (same, eq-eqb z z refl) (is-same zs)
+    is-same (z ∷ zs) = and-both _ _ (eq-eqb z z refl) (is-same zs)
 
 -- computed
 unlike-tested : passes (λ r. not (same (showing r) (right r))) unlike ≡ true

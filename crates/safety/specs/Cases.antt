@@ -1,20 +1,17 @@
 -- The proved cases of section 8 as one list: runs on branch T, with what each must give.
 use Prim.Native.Nat.{ℕ}
-use mathlib.Core.Bool.{Bool}
+use mathlib.Core.Bool.{Bool, true, false}
 use mathlib.Core.List.{List, [], _∷_, _++_}
-use lib.ListN.{getD, replicate, take}
+use lib.Dec.{eqb}
+use lib.ListN.{length, getD, replicate, take}
+use Rattle.laws.specs.Tests.{_and_}
 use Rattle.layout.specs.declared.Layout.{Layout}
 use Rattle.interlocking.specs.declared.State.{State}
 use Rattle.interlocking.specs.declared.Answer.{Answer}
 use Rattle.interlocking.specs.State.{cold}
 use Rattle.layout.specs.Load.{load}
-use Rattle.panel_facts.specs.Cases.{same}
-use Rattle.panel_facts.specs.Cases as panels
-use Rattle.step_facts.specs.Run.{Event, box, answers, fromCold}
-
--- an event by its numbers
-abbrev pub ev : ℕ → ℕ → ℕ → Event
-ev k a b = record { kind = k; first = a; second = b }
+use Rattle.panel.specs.Panel.{image, answer, drawn}
+use Rattle.step_facts.specs.Run.{Event, event, box, answers, fromCold}
 
 -- number and detail of each answer, one after the other
 abbrev pub numbers : List Answer → List ℕ
@@ -32,24 +29,48 @@ look s = getD (s .phase) 0 0 ∷ getD (s .direction) 0 0 ∷ getD (s .stage) 0 0
 
 -- P1: the events of section 8
 abbrev pub p1 : List Event
-p1 = ev 4 0 0 ∷ ev 1 0 1 ∷ ev 1 1 1 ∷ ev 1 2 1 ∷ ev 1 3 1 ∷ ev 2 0 1 ∷ ev 6 0 1 ∷ ev 7 0 1 ∷ ev 6 0 1 ∷ ev 4 1 0 ∷ ev 4 0 0 ∷ ev 4 2 0 ∷ []
+p1 =
+    event 4 0 0 ∷ event 1 0 1 ∷ event 1 1 1 ∷ event 1 2 1 ∷ event 1 3 1 ∷ event 2 0 1
+    ∷ event 6 0 1 ∷ event 7 0 1 ∷ event 6 0 1 ∷ event 4 1 0 ∷ event 4 0 0 ∷ event 4 2 0
+    ∷ []
 
--- P3, P4: a train leaves A, passes the block, arrives at B
+-- P3: a train leaves A for the block
 abbrev pub p3 : List Event
-p3 = ev 1 0 2 ∷ ev 1 1 2 ∷ ev 1 0 1 ∷ []
+p3 = event 1 0 2 ∷ event 1 1 2 ∷ event 1 0 1 ∷ []
 
+-- P4: it arrives at B
 abbrev pub p4 : List Event
-p4 = ev 1 2 2 ∷ ev 1 3 2 ∷ ev 1 1 1 ∷ []
+p4 = event 1 2 2 ∷ event 1 3 2 ∷ event 1 1 1 ∷ []
 
 -- P5: the block's wire dies before it reads free
 abbrev pub p5 : List Event
-p5 = ev 1 2 2 ∷ ev 1 3 2 ∷ ev 1 1 0 ∷ ev 1 1 1 ∷ []
+p5 = event 1 2 2 ∷ event 1 3 2 ∷ event 1 1 0 ∷ event 1 1 1 ∷ []
 
--- the runs computed on a layout, against what section 8 says
-abbrev pub runs : Layout → List Bool
-runs L =
+-- P2: the cold panel
+abbrev pub coldPanel : List ℕ
+coldPanel = 3 ∷ 3 ∷ 3 ∷ 3 ∷ 3 ∷ 20 ∷ 20 ∷ 20 ∷ 20 ∷ 0 ∷ 0 ∷ 0 ∷ 0 ∷ 1 ∷ 0 ∷ 0 ∷ []
+
+-- P7: number and length of the answer to a request for the cold panel with this buffer, then what the buffer holds
+abbrev pub outcome : Layout → List ℕ → List ℕ
+outcome L buffer = let r = answer L cold (length buffer) in r .number ∷ r .length ∷ drawn L cold buffer
+
+-- two lists are the same
+abbrev pub same : List ℕ → List ℕ → Bool
+same [] [] = true
+same [] (y ∷ ys) = false
+same (x ∷ xs) [] = false
+same (x ∷ xs) (y ∷ ys) = eqb x y and same xs ys
+
+-- each case computed on a layout file, against what section 8 says
+abbrev pub cases : List ℕ → List Bool
+cases bytes =
+    let L = load bytes .layout in
+    let less = load (take 48 bytes) in
     -- P1: the answers
-    same (numbers (answers (box L) cold p1)) (8 ∷ 0 ∷ 0 ∷ 0 ∷ 0 ∷ 0 ∷ 0 ∷ 0 ∷ 0 ∷ 0 ∷ 0 ∷ 0 ∷ 10 ∷ 1 ∷ 0 ∷ 0 ∷ 0 ∷ 0 ∷ 0 ∷ 0 ∷ 0 ∷ 0 ∷ 5 ∷ 1 ∷ [])
+    same (numbers (answers (box L) cold p1))
+    (8 ∷ 0 ∷ 0 ∷ 0 ∷ 0 ∷ 0 ∷ 0 ∷ 0 ∷ 0 ∷ 0 ∷ 0 ∷ 0 ∷ 10 ∷ 1 ∷ 0 ∷ 0 ∷ 0 ∷ 0 ∷ 0 ∷ 0 ∷ 0 ∷ 0 ∷ 5 ∷ 1 ∷ [])
+    -- P2: the cold panel
+    ∷ same (image L cold) coldPanel
     -- P3: route 0 is released, the line secured, the block held in stage 1 (code 2)
     ∷ same (look (fromCold L (p1 ++ p3))) (0 ∷ 1 ∷ 2 ∷ [])
     -- P4: the block opens and the line is neutral
@@ -57,13 +78,10 @@ runs L =
     -- P5: held in stage 0 (code 1), secured
     ∷ same (look (fromCold L (p1 ++ (p3 ++ p5)))) (0 ∷ 1 ∷ 1 ∷ [])
     -- P6: cancelling (phase 3) after 89 seconds, idle after 90
-    ∷ same (route0 (answers (box L) (fromCold L (p1 ++ (ev 5 0 0 ∷ []))) (replicate 90 (ev 10 0 0)))) (replicate 89 3 ++ (0 ∷ []))
+    ∷ same (route0 (answers (box L) (fromCold L (p1 ++ (event 5 0 0 ∷ []))) (replicate 90 (event 10 0 0)))) (replicate 89 3 ++ (0 ∷ []))
+    -- P7: a buffer of 15 bytes gets 27 and length 0 and stays as it was; one of 16 bytes gets the image
+    ∷ same (outcome L (replicate 15 9)) (27 ∷ 0 ∷ replicate 15 9)
+    ∷ same (outcome L (replicate 16 9)) (0 ∷ 16 ∷ coldPanel)
+    -- P8: the file less its last byte gets 21 at 48
+    ∷ same (less .number ∷ less .detail ∷ []) (21 ∷ 48 ∷ [])
     ∷ []
-
--- P8: the layout file less its last byte gets 21 at 48
-abbrev pub cut : List ℕ → List Bool
-cut bytes = let r = load (take 48 bytes) in same (r .number ∷ r .detail ∷ []) (21 ∷ 48 ∷ []) ∷ []
-
--- all of them on a layout file: P1 and P3 to P6, P2 and P7, P8
-abbrev pub cases : List ℕ → List Bool
-cases bytes = runs (load bytes .layout) ++ (panels.cases (load bytes .layout) ++ cut bytes)

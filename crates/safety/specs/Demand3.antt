@@ -12,13 +12,13 @@ use mathlib.Core.Bool.{true}
 use mathlib.Core.List.{List, _∷_}
 use lib.Dec.{eqb, ltb}
 use Rattle.laws.specs.Choice.{if_then_else_}
+use Rattle.track.specs.Codes.{free, occupied, none, endA, endB, exitRoute, neutral, aToB, leaving}
 use Rattle.layout.specs.declared.Layout.{Layout}
 use Rattle.layout.specs.Layout.{lineIn, routeIn, conflict}
 use Rattle.layout.specs.Load.{load}
 use Rattle.layout_facts.specs.Plain.{block, innerSection, entranceSignal, nearestBlock}
 use Rattle.step_facts.specs.Run.{Event}
-use Rattle.safety.specs.Shown.{Signal, main, into, Panel}
-use Rattle.track.specs.Codes.{free, occupied, none, endA, endB, exitRoute, neutral, aToB}
+use Rattle.safety.specs.Shown.{Signal, main, into, Panel, stop, showsIdle, showsLocked}
 use Rattle.safety.specs.History.{Moment, History, gave, reading, shown, Releases, Sometime, Since, sinceSpell, untilSpell, history}
 
 -- ---- far section and far signal (section 5)
@@ -33,28 +33,31 @@ unfoldable pub beyond : Layout → ℕ → ℕ → ℕ → Beyond
 beyond L l i w =
     if eqb w aToB then (if ltb (i + 1) (lineIn L l .blocks) then next (i + 1) else arrival endB) else if eqb i 0 then arrival endA else next (i - 1)
 
--- the section there, and the signal between
+-- the section there
 abbrev pub sectionAt : Layout → ℕ → Beyond → ℕ
 sectionAt L l (next j) = block L l j
 sectionAt L l (arrival e) = innerSection L l e
 
+-- the signal between
 abbrev pub signalAt : Layout → ℕ → ℕ → Beyond → Signal
 signalAt L l w (next j) = into l j w
 signalAt L l w (arrival e) = main (entranceSignal L l e)
 
--- the far section of block i of line l in direction w; its far signal
+-- the far section of block i of line l in direction w
 abbrev pub farSection : Layout → ℕ → ℕ → ℕ → ℕ
 farSection L l i w = sectionAt L l (beyond L l i w)
 
+-- its far signal
 abbrev pub farSignal : Layout → ℕ → ℕ → ℕ → Signal
 farSignal L l i w = signalAt L l w (beyond L l i w)
 
--- a signal shows proceed, 21 or 22; shows stop, 20
+-- signal x shows proceed, 21 or 22
 abbrev pub Proceeds : Panel → Signal → Type 0
-Proceeds p x = 20 < p .signal x
+Proceeds p x = stop < p .signal x
 
+-- it shows stop, 20
 abbrev pub Stops : Panel → Signal → Type 0
-Stops p x = p .signal x ≡ 20
+Stops p x = p .signal x ≡ stop
 
 -- ---- a passage, told from the history (section 5)
 
@@ -95,11 +98,11 @@ pub record LeadsOut (L : Layout) (p : Panel) (x l i w r : ℕ) : Type 0 where
   pub there : r < L .routes
   pub isExit : routeIn L r .kind ≡ exitRoute
   pub starts : routeIn L r .entry ≡ x
-  pub locked : p .route r ≢ 0
-  -- it enters the block of its line that is nearest its end: by end A, 0, in direction A to B, 1; by end B, 1, in direction B to A, 2
+  pub locked : p .route r ≢ showsIdle
+  -- it enters the block of its line that is nearest its end, in the direction in which that end is left
   pub ofLine : routeIn L r .line ≡ l
   pub enters : nearestBlock L (routeIn L r .line) (routeIn L r .end) ≡ i
-  pub way : routeIn L r .end + 1 ≡ w
+  pub way : leaving (routeIn L r .end) ≡ w
 
 -- signal x leads into block i of line l in direction w: a main signal by a locked exit route; a block signal belongs to the block it leads into
 abbrev pub Leads : Layout → Panel → Signal → ℕ → ℕ → ℕ → Type 0
@@ -129,9 +132,9 @@ pub record Guarded (L : Layout) (h : History) (x : Signal) (l i w : ℕ) : Type 
 -- what shows at the end of a history is safe
 pub record Safe (L : Layout) (h : History) : Type 0 where
   -- no two conflicting routes are locked
-  pub apart : (r q : ℕ) → r < L .routes → q < L .routes → conflict L r q ≡ true → shown L h .route r ≢ 0 → shown L h .route q ≢ 0 → ⊥
+  pub apart : (r q : ℕ) → r < L .routes → q < L .routes → conflict L r q ≡ true → shown L h .route r ≢ showsIdle → shown L h .route q ≢ showsIdle → ⊥
   -- a main signal shows proceed only for a locked route that starts at it
-  pub backed : (x : ℕ) → Proceeds (shown L h) (main x) → (r : ℕ) × (r < L .routes) × (routeIn L r .entry ≡ x) × (shown L h .route r ≡ 1)
+  pub backed : (x : ℕ) → Proceeds (shown L h) (main x) → (r : ℕ) × (r < L .routes) × (routeIn L r .entry ≡ x) × (shown L h .route r ≡ showsLocked)
   -- a signal shows proceed into a block only if all that is there
   pub guarded : (x : Signal) (l i w : ℕ) → Enters L (shown L h) x l i w → Guarded L h x l i w
 

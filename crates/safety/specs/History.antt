@@ -12,7 +12,7 @@ use Rattle.layout.specs.declared.Layout.{Layout}
 use Rattle.interlocking.specs.declared.State.{State}
 use Rattle.interlocking.specs.declared.Answer.{Answer}
 use Rattle.interlocking.specs.State.{cold}
-use Rattle.step_facts.specs.Run.{Event, box}
+use Rattle.step_facts.specs.Run.{Event, sectionReading, manualRelease, box}
 use Rattle.safety.specs.Shown.{Panel, panel}
 
 -- ---- moments
@@ -33,10 +33,10 @@ History = List Moment
 abbrev pub nothing : ℕ
 nothing = 0
 
--- what an event says of section g: kind 1 is a reading of the section that it names first; code 1 is free, 2 is occupied, every other code is none
+-- what an event says of section g: a reading is of the section that it names first; code 1 is free, 2 is occupied, every other code is none
 unfoldable pub says : Event → ℕ → ℕ
 says e g =
-    if eqb (e .kind) 1 and eqb (e .first) g then (if eqb (e .second) 1 then free else if eqb (e .second) 2 then occupied else none) else nothing
+    if eqb (e .kind) sectionReading and eqb (e .first) g then (if eqb (e .second) 1 then free else if eqb (e .second) 2 then occupied else none) else nothing
 
 -- what the event of a moment gave section g
 abbrev pub gave : Moment → ℕ → ℕ
@@ -56,7 +56,7 @@ shown L (m ∷ h) = m .shows
 
 -- a manual release of line l was accepted
 abbrev pub Releases : ℕ → Moment → Type 0
-Releases l m = (m .number ≡ 0) × (m .event .kind ≡ 7) × (m .event .first ≡ l)
+Releases l m = (m .number ≡ 0) × (m .event .kind ≡ manualRelease) × (m .event .first ≡ l)
 
 -- ---- earlier and later
 

@@ -14,7 +14,21 @@ pub data Signal : Type 0 where
   main : ℕ → Signal
   into : ℕ → ℕ → ℕ → Signal
 
--- of a signal 20 stop, 21 and 22 proceed, 0 dark or absent; of a route 0 idle, 1 locked, 2 cancelling; of a line 0 neutral, 1 A to B, 2 B to A
+-- ---- section 7: what a signal shows, dark or absent, stop, and above it 21 and 22, proceed; what a route shows
+
+abbrev pub dark : ℕ
+dark = 0
+
+abbrev pub stop : ℕ
+stop = 20
+
+abbrev pub showsIdle : ℕ
+showsIdle = 0
+
+abbrev pub showsLocked : ℕ
+showsLocked = 1
+
+-- what shows of each signal, of each route, of each line (its direction)
 pub record Panel : Type 0 where
   pub signal : Signal → ℕ
   pub route : ℕ → ℕ
@@ -24,7 +38,7 @@ pub record Panel : Type 0 where
 unfoldable pub signalShows : Layout → State → Signal → ℕ
 signalShows L s (main x) = signalByte (L .routes) (L .route) (s .phase) x
 signalShows L s (into l i w) =
-    if eqb w aToB or eqb w bToA then blockSignal (L .line) (s .direction) (s .point) (s .stage) (s .bar) l i w else 0
+    if eqb w aToB or eqb w bToA then blockSignal (L .line) (s .direction) (s .point) (s .stage) (s .bar) l i w else dark
 
 -- the byte of a route
 unfoldable pub routeShows : State → ℕ → ℕ

@@ -1,51 +1,52 @@
 -- No dead end: a way out of every state that a run can reach. Beside the demands of document 01.
 use Prim.Native.Nat.{ℕ, zero, suc, _+_, _*_, _<_, _≤_}
 use mathlib.Core.Path.{_≡_}
-use mathlib.Core.Bool.{Bool, not}
+use mathlib.Core.Bool.{Bool, true, not}
 use mathlib.Core.List.{List, [], _∷_, _++_}
 use lib.Dec.{eqb}
 use lib.ListN.{length, replicate}
 use Rattle.laws.specs.Choice.{if_then_else_}
 use Rattle.laws.specs.Tests.{_and_}
-use Rattle.laws.specs.Tables.{read}
-use Rattle.tables.specs.Blocks.{place}
+use Rattle.track.specs.Codes.{free, neutral, idle, cancelling}
+use Rattle.tables.specs.Blocks.{isOpen}
+use Rattle.tables.specs.Locks.{direction, phase, locked}
 use Rattle.layout.specs.declared.Layout.{Layout}
 use Rattle.layout.specs.Layout.{lineIn}
 use Rattle.layout.specs.Load.{load}
 use Rattle.layout_facts.specs.Plain.{block}
 use Rattle.interlocking.specs.declared.State.{State}
 use Rattle.interlocking.specs.Step.{step}
-use Rattle.step_facts.specs.Run.{Event, box, stateAfter, fromCold}
-use Rattle.safety.specs.Cases.{ev}
+use Rattle.step_facts.specs.Run.{Event, event, sectionReading, cancelRoute, manualRelease, oneSecond, box, stateAfter, fromCold}
 
 -- ---- the way out
 
 -- route r is locked and not cancelling
 unfoldable pub standing : State → ℕ → Bool
-standing s r = not (eqb (read 48 0 (s .phase) r) 0) and not (eqb (read 48 0 (s .phase) r) 3)
+standing s r = locked (s .phase) r and not (eqb (phase (s .phase) r) cancelling)
 
--- cancel each of n routes that is locked and not cancelling when its turn comes
+-- cancel each of the first n routes that is locked and not cancelling when its turn comes
 unfoldable pub cancels : Layout → ℕ → State → List Event
 cancels L zero s = []
-cancels L (suc r) s = if standing s r then ev 5 r 0 ∷ cancels L r (step L s 5 r 0 .next) else cancels L r s
+cancels L (suc r) s = if standing s r then event cancelRoute r 0 ∷ cancels L r (step L s cancelRoute r 0 .next) else cancels L r s
 
 -- ninety seconds
 unfoldable pub ninetySeconds : List Event
-ninetySeconds = replicate 90 (ev 10 0 0)
+ninetySeconds = replicate 90 (event oneSecond 0 0)
 
--- i blocks of line l read free; then those of n lines
+-- the first i blocks of line l read free
 unfoldable pub readFree : Layout → ℕ → ℕ → List Event
 readFree L l zero = []
-readFree L l (suc i) = ev 1 (block L l i) 1 ∷ readFree L l i
+readFree L l (suc i) = event sectionReading (block L l i) free ∷ readFree L l i
 
+-- all blocks of the first n lines do
 unfoldable pub allReadFree : Layout → ℕ → List Event
 allReadFree L zero = []
 allReadFree L (suc l) = readFree L l (lineIn L l .blocks) ++ allReadFree L l
 
--- release each of n lines by hand
+-- release each of the first n lines by hand, the train not having left
 unfoldable pub releases : ℕ → List Event
 releases zero = []
-releases (suc l) = ev 7 l 1 ∷ releases l
+releases (suc l) = event manualRelease l 1 ∷ releases l
 
 -- one after the other
 unfoldable pub wayOut : Layout → State → List Event
@@ -60,9 +61,9 @@ Granted L s (e ∷ es) = (step L s (e .kind) (e .first) (e .second) .number ≡ 
 
 -- every route is idle, every line neutral, every block open
 pub record AtRest (L : Layout) (s : State) : Type 0 where
-  pub idle : (r : ℕ) → r < L .routes → read 48 0 (s .phase) r ≡ 0
-  pub neutral : (l : ℕ) → l < L .lines → read 8 0 (s .direction) l ≡ 0
-  pub isOpen : (l i : ℕ) → l < L .lines → i < lineIn L l .blocks → read 64 1 (s .stage) (place l i) ≡ 0
+  pub routes : (r : ℕ) → r < L .routes → phase (s .phase) r ≡ idle
+  pub lines : (l : ℕ) → l < L .lines → direction (s .direction) l ≡ neutral
+  pub blocks : (l i : ℕ) → l < L .lines → i < lineIn L l .blocks → isOpen (s .stage) l i ≡ true
 
 -- the way out is granted, no longer than the layout allows, and ends at rest
 pub record WayOut (L : Layout) (s : State) : Type 0 where

@@ -1,5 +1,6 @@
--- Boxes that are wrong in one thing: the step of a run with one of its parts done another way, as an error that looks reasonable would (section 9), or
--- with one guard left out. `proofs/WrongBoxes` proves that with the step's own parts they are the step of a run, so each differs from it in that alone.
+-- Boxes that are wrong in one thing, for demand 3 to refuse: the step of a run with one of its parts done another way, as an error that looks reasonable
+-- would (section 9), or with one guard left out. `proofs/WrongBoxes` proves that with the step's own parts they are the step of a run, so each differs from
+-- it in that alone; `WrongRuns` has a run of each that shows it.
 use Prim.Native.Nat.{ℕ, _*_, _/_, _%_}
 use mathlib.Core.Bool.{Bool, true, false, not}
 use mathlib.Core.List.{[], _∷_}
@@ -29,7 +30,7 @@ use Rattle.interlocking.specs.Own.{blockAt}
 use Rattle.interlocking.specs.Settle.{signals, farProceeds, farDropped, farReading, farSections, routes, passable, wasPassed, lineRelease}
 use Rattle.interlocking.specs.Settle as settling
 use Rattle.interlocking.specs.Step.{refusal, meant, gives, own, refusedBy}
-use Rattle.step_facts.specs.Run.{Event}
+use Rattle.step_facts.specs.Run.{Event, sectionReading, setRoute, cancelRoute, manualRelease, unbar}
 
 -- ---- a step from its parts: what is refused; what the event does itself; then signals, far sections, routes, line release (section 5)
 
@@ -48,13 +49,15 @@ stepBy refuse act light move free end L s e =
     }
     else refusedBy (refuse L s e) s
 
--- what is refused, soundness being asked before the first event; what an event does itself
+-- soundness is asked before the first event: what is asked of the layout at each one
 abbrev pub asked : Layout → Bool
 asked L = leb (L .lines) 8 and leb (L .routes) 48
 
+-- what is refused
 abbrev pub refuses : Layout → State → Event → Refusal
 refuses L s e = refusal (asked L) L s (e .kind) (e .first) (e .second)
 
+-- what an event does itself
 abbrev pub does : Layout → State → Event → State
 does L s e = own L s (e .kind) (e .first) (meant (e .kind) (e .second))
 
@@ -62,40 +65,43 @@ does L s e = own L s (e .kind) (e .first) (meant (e .kind) (e .second))
 
 -- section 9: code 0 is refused, and the stored reading kept
 abbrev pub refusesNone : Box
-refusesNone = stepBy (λ L s e. firstOf (when (eqb (e .kind) 1 and eqb (e .second) 0) 3 0 ∷ refuses L s e ∷ [])) does signals farSections routes lineRelease
+refusesNone = stepBy (λ L s e. firstOf (when (eqb (e .kind) sectionReading and eqb (e .second) 0) 3 0 ∷ refuses L s e ∷ [])) does signals farSections routes lineRelease
 
--- an order of kind k is refused by this
+-- what is refused, where an order of kind k is refused by this
 abbrev pub refuseBy : ℕ → (Layout → State → ℕ → Refusal) → Layout → State → Event → Refusal
 refuseBy k refuse L s e =
     if eqb (e .kind) k then firstOf (eventRefusal (asked L) L (e .kind) (e .first) (e .second) ∷ refuse L s (e .first) ∷ []) else refuses L s e
 
+-- the box that refuses so
 abbrev refusesBy : ℕ → (Layout → State → ℕ → Refusal) → Box
 refusesBy k refuse = stepBy (refuseBy k refuse) does signals farSections routes lineRelease
 
--- section 3: 17 is not asked of a manual release; 7 and 8 are not
+-- section 3: 17 is not asked of a manual release
 abbrev pub releasesLocked : Box
-releasesLocked = refusesBy 7 (λ L s l. notFree (s .section) (setOf (line (L .line) l .blocks) (line (L .line) l .block)))
+releasesLocked = refusesBy manualRelease (λ L s l. notFree (s .section) (setOf (line (L .line) l .blocks) (line (L .line) l .block)))
 
+-- section 3: 7 and 8 are not asked of it
 abbrev pub releasesTaken : Box
-releasesTaken = refusesBy 7 (λ L s l. exitLocked L (s .phase) l)
+releasesTaken = refusesBy manualRelease (λ L s l. exitLocked L (s .phase) l)
 
 -- section 3: 5 is not asked of a route that is set
 abbrev pub asksNoConflict : Box
 asksNoConflict =
-    refusesBy 4 (λ L s r. firstOf (
+    refusesBy setRoute (λ L s r. firstOf (
     when (locked (s .phase) r) 4 r
     ∷ routeRefusal (L .line) (s .section) (s .point) (s .direction) (s .stage) (s .bar) (route (L .route) r)
     ∷ []))
 
 -- ---- a block's own reading
 
--- a reading takes a block from stage to stage by this
+-- what an event does itself, where a reading takes a block from stage to stage by this
 abbrev pub readBy : (ℕ → ℕ → ℕ) → Layout → State → Event → State
 readBy stage L s e =
-    if eqb (e .kind) 1 then withSections (does L s e) (does L s e .section)
+    if eqb (e .kind) sectionReading then withSections (does L s e) (does L s e .section)
     (each (8 * L .lines) (λ k was. if blockAt (L .line) (e .first) k then stage (recorded (e .second)) was else was) (s .stage))
     else does L s e
 
+-- the box that reads so
 abbrev readsBy : (ℕ → ℕ → ℕ) → Box
 readsBy stage = stepBy refuses (readBy stage) signals farSections routes lineRelease
 
@@ -109,12 +115,13 @@ passesNone = readsBy (λ v was. if eqb v none then was else ownStage v was)
 
 -- ---- far sections (section 5)
 
--- a line has this direction, and in it the stage of its block i becomes that
+-- far sections, where a line has this direction, and in it the stage of its block i becomes that
 abbrev pub moveBy : (State → ℕ → ℕ) → (Layout → State → State → ℕ → ℕ → ℕ → ℕ → ℕ) → Layout → State → State → State
 moveBy way stage L before s =
     withLines s (s .direction)
     (each (8 * L .lines) (λ k was. if eqb (way s (k / 8)) neutral then was else stage L before s (k / 8) (k % 8) (way s (k / 8)) was) (s .stage))
 
+-- the box that moves its blocks so
 abbrev movesBy : (State → ℕ → ℕ) → (Layout → State → State → ℕ → ℕ → ℕ → ℕ → ℕ) → Box
 movesBy way stage = stepBy refuses does signals (moveBy way stage) routes lineRelease
 
@@ -152,28 +159,31 @@ movesInNeutral =
 
 -- ---- signals and seconds
 
--- section 9: a cleared bar brings back a fallen exit signal, where it has all that keeps it at proceed
+-- every fallen exit signal is at proceed again
 abbrev raised : Layout → State → State
 raised L s =
     withRoutes s (each (L .routes) (λ r was. if eqb was atStop and eqb (route (L .route) r .kind) exitRoute then atProceed else was) (s .phase)) (s .step) (s .second)
 
+-- section 9: a cleared bar brings back a fallen exit signal, where it has all that keeps it at proceed
 abbrev pub bringsBack : Box
-bringsBack = stepBy refuses (λ L s e. if eqb (e .kind) 9 then raised L (does L s e) else does L s e) signals farSections routes lineRelease
+bringsBack = stepBy refuses (λ L s e. if eqb (e .kind) unbar then raised L (does L s e) else does L s e) signals farSections routes lineRelease
 
--- section 9: the cancel wait ends at 89: the cancel counts as a second
+-- route r has waited one second
 abbrev counted : State → ℕ → State
 counted s r = withRoutes s (s .phase) (s .step) (put 48 (s .second) r 1)
 
+-- section 9: the cancel wait ends at 89: the cancel counts as a second
 abbrev pub waits89 : Box
-waits89 = stepBy refuses (λ L s e. if eqb (e .kind) 5 then counted (does L s e) (e .first) else does L s e) signals farSections routes lineRelease
+waits89 = stepBy refuses (λ L s e. if eqb (e .kind) cancelRoute then counted (does L s e) (e .first) else does L s e) signals farSections routes lineRelease
 
 -- ---- line release (section 5)
 
--- a secured line becomes neutral where this holds
+-- line release, where a secured line becomes neutral if this holds
 abbrev pub endBy : (Layout → State → State → ℕ → ℕ → Bool) → Layout → State → State → State
 endBy ended L before s =
     withLines s (each (L .lines) (λ l was. if eqb was neutral then was else if ended L before s l was then neutral else was) (s .direction)) (s .stage)
 
+-- the box that releases lines so
 abbrev endsWhere : (Layout → State → State → ℕ → ℕ → Bool) → Box
 endsWhere ended = stepBy refuses does signals farSections routes (endBy ended)
 
@@ -181,7 +191,7 @@ endsWhere ended = stepBy refuses does signals farSections routes (endBy ended)
 abbrev unlocked : Layout → State → ℕ → Bool
 unlocked L s l = not (any (L .routes) (lockedExit (L .route) (s .phase) l))
 
--- left out
+-- line release is left out
 abbrev pub neverEnds : Box
 neverEnds = endsWhere (λ L before s l w. false)
 
@@ -210,9 +220,10 @@ endsUnpassed = endsWhere (λ L before s l w. all (line (L .line) l .blocks) (pas
 
 -- ---- the cold start (sections 1 and 5)
 
--- blocks open; sections read free
+-- blocks are open
 abbrev pub coldOpen : State
 coldOpen = withLines cold (cold .direction) (replicate 64 openBlock)
 
+-- sections read free
 abbrev pub coldFree : State
 coldFree = withSections cold (replicate 64 free) (cold .stage)

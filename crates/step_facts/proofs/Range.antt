@@ -25,20 +25,14 @@ codes-means : (n low high : ℕ) (xs : List ℕ) → codes n low high xs ≡ tru
 unfolding codes
 codes-means n low high xs = Iff·trans (all-means (λ i l. between-means _ _ _)) (λ f. record { entry = f }, λ w. w .entry)
 
--- a state is in range by its nine tables
-ranged : {s : State} → Sections (s .section) → Points (s .point) → Orders (s .order) → Phases (s .phase) → Steps (s .step) → Seconds (s .second)
-    → Directions (s .direction) → Stages (s .stage) → Bars (s .bar) → InRange s
-ranged section point order phase step second direction stage bar = record {
-  section = section;
-  point = point;
-  order = order;
-  phase = phase;
-  step = step;
-  second = second;
-  direction = direction;
-  stage = stage;
-  bar = bar;
-}
+-- a state's nine tables, each in its range
+abbrev Ranged : State → Type 0
+Ranged s = Sections (s .section) × Points (s .point) × Orders (s .order) × Phases (s .phase) × Steps (s .step) × Seconds (s .second)
+    × Directions (s .direction) × Stages (s .stage) × Bars (s .bar)
+
+-- then it is in range
+ranged : {s : State} → Ranged s → InRange s
+ranged t = record { section = t .0; point = t .1; order = t .2; phase = t .3; step = t .4; second = t .5; direction = t .6; stage = t .7; bar = t .8 }
 
 -- each table of a state
 pub inRange-means : (s : State) → inRange s ≡ true ↔ InRange s
@@ -48,7 +42,8 @@ inRange-means s =
     codes-means _ _ _ _ also codes-means _ _ _ _ also codes-means _ _ _ _ also lastly (every-means (
     codes-means _ _ _ _ also codes-means _ _ _ _ also codes-means _ _ _ _ also codes-means _ _ _ _ also codes-means _ _ _ _
     also lastly (codes-means _ _ _ _))))) (
-      λ (section, (point, (order, (phase, (step, (second, (direction, (stage, bar)))))))). ranged section point order phase step second direction stage bar,
+      λ (section, (point, (order, (phase, (step, (second, (direction, (stage, bar)))))))).
+          ranged (section, point, order, phase, step, second, direction, stage, bar),
       λ r. r .section & r .point & r .order & r .phase & r .step & r .second & r .direction & r .stage & r .bar,
     )
 
@@ -80,7 +75,7 @@ alike-within n low high v h = record { entry = λ i b. rw (getD-replicate n i v 
 -- ---- states
 
 -- everything reads none, nothing is ordered, locked, secured or barred, and each block is held in stage 0
-pub cold-ranges : InRange cold
+cold-ranges : InRange cold
 unfolding cold
 cold-ranges = record {
   section = alike-within 64 1 3 3 (omega arith);
@@ -98,24 +93,28 @@ cold-ranges = record {
 pub cold-in-range : inRange cold ≡ true
 cold-in-range = inRange-means cold .1 cold-ranges
 
--- a state with some of its tables made anew
 module _ {s : State} (R : InRange s) where
+  -- with its readings of sections and its stages made anew
   pub sections-range : {section stage : List ℕ} → Sections section → Stages stage → InRange (withSections s section stage)
   unfolding withSections
-  sections-range g k = ranged g (R .point) (R .order) (R .phase) (R .step) (R .second) (R .direction) k (R .bar)
+  sections-range g k = ranged (g, R .point, R .order, R .phase, R .step, R .second, R .direction, k, R .bar)
 
+  -- with its readings of points and its orders made anew
   pub points-range : {point order : List ℕ} → Points point → Orders order → InRange (withPoints s point order)
   unfolding withPoints
-  points-range p o = ranged (R .section) p o (R .phase) (R .step) (R .second) (R .direction) (R .stage) (R .bar)
+  points-range p o = ranged (R .section, p, o, R .phase, R .step, R .second, R .direction, R .stage, R .bar)
 
+  -- with what it holds of routes made anew
   pub routes-range : {phase step second : List ℕ} → Phases phase → Steps step → Seconds second → InRange (withRoutes s phase step second)
   unfolding withRoutes
-  routes-range p t c = ranged (R .section) (R .point) (R .order) p t c (R .direction) (R .stage) (R .bar)
+  routes-range p t c = ranged (R .section, R .point, R .order, p, t, c, R .direction, R .stage, R .bar)
 
+  -- with its directions and its stages made anew
   pub lines-range : {direction stage : List ℕ} → Directions direction → Stages stage → InRange (withLines s direction stage)
   unfolding withLines
-  lines-range d k = ranged (R .section) (R .point) (R .order) (R .phase) (R .step) (R .second) d k (R .bar)
+  lines-range d k = ranged (R .section, R .point, R .order, R .phase, R .step, R .second, d, k, R .bar)
 
+  -- with its bars made anew
   pub bars-range : {bar : List ℕ} → Bars bar → InRange (withBars s bar)
   unfolding withBars
-  bars-range b = ranged (R .section) (R .point) (R .order) (R .phase) (R .step) (R .second) (R .direction) (R .stage) b
+  bars-range b = ranged (R .section, R .point, R .order, R .phase, R .step, R .second, R .direction, R .stage, b)

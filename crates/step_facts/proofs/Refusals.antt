@@ -33,7 +33,7 @@ unfolding refusal
 second-right isSound L s k a b p = granted-second isSound L k a b (granted-at _ p 0)
 
 -- what is recorded of a reading is free, occupied or none
-recorded-in : (code : ℕ) → In 1 3 (recorded code)
+pub recorded-in : (code : ℕ) → In 1 3 (recorded code)
 unfolding recorded
 recorded-in code = if-both (In 1 3) _ (λ t. omega arith) (λ t. if-both (In 1 3) _ (λ u. omega arith) (λ u. omega arith))
 
@@ -81,17 +81,19 @@ unfolding notFree refused noRefusal
 not-free-order sections set =
     if-both (λ (f : Refusal). f .number ≤ 17) _ (λ t. if-both (λ n. n ≤ 17) _ (λ u. omega arith) (λ u. omega arith)) (λ t. omega arith)
 
--- each order's, kind by kind
+-- throw: 15, 16, then 7 and 8
 throw-order : (L : Layout) (sections phases directions : List ℕ) (p : ℕ) → throwRefusal L sections phases directions p .number ≤ 17
 unfolding throwRefusal byRoute byLine
 throw-order L sections phases directions p =
     first-order (found-order 15 _ _ (omega arith) then found-order 16 _ _ (omega arith) then not-free-order _ _ then no-more)
 
+-- set route, where it is an exit route: 9, 6, 11, 10
 exit-order : (ls : List Line) (points directions stages bars : List ℕ) (a : Route) → exitRefusal ls points directions stages bars a .number ≤ 17
 unfolding exitRefusal notPlaced
 exit-order ls points directions stages bars a =
     first-order (when-order _ 9 _ (omega arith) then found-order 6 _ _ (omega arith) then when-order _ 11 _ (omega arith) then when-order _ 10 _ (omega arith) then no-more)
 
+-- what is asked of the route by itself: 6, 7 and 8, then as an exit route
 route-order : (ls : List Line) (sections points directions stages bars : List ℕ) (a : Route)
     → routeRefusal ls sections points directions stages bars a .number ≤ 17
 unfolding routeRefusal notPlaced noRefusal refused
@@ -99,25 +101,30 @@ route-order ls sections points directions stages bars a =
     first-order (found-order 6 _ _ (omega arith) then not-free-order _ _
     then if-both (λ (f : Refusal). f .number ≤ 17) _ (λ t. exit-order ls points directions stages bars a) (λ t. omega arith) then no-more)
 
+-- set route: 4, 5, then these
 set-order : (L : Layout) (sections points phases directions stages bars : List ℕ) (r : ℕ)
     → setRefusal L sections points phases directions stages bars r .number ≤ 17
 unfolding setRefusal conflicting
 set-order L sections points phases directions stages bars r =
     first-order (when-order _ 4 _ (omega arith) then found-order 5 _ _ (omega arith) then route-order _ _ _ _ _ _ _ then no-more)
 
+-- cancel: 13, 14
 cancel-order : (phases : List ℕ) (r : ℕ) → cancelRefusal phases r .number ≤ 17
 unfolding cancelRefusal
 cancel-order phases r = first-order (when-order _ 13 _ (omega arith) then when-order _ 14 _ (omega arith) then no-more)
 
+-- secure: 12, 11, 6, 10
 secure-order : (ls : List Line) (points directions stages bars : List ℕ) (l : ℕ) → secureRefusal ls points directions stages bars l .number ≤ 17
 unfolding secureRefusal notPlaced blockBarred blockHeld
 secure-order ls points directions stages bars l =
     first-order (when-order _ 12 _ (omega arith) then found-order 11 _ _ (omega arith) then found-order 6 _ _ (omega arith) then found-order 10 _ _ (omega arith) then no-more)
 
+-- manual release: 17, then 7 and 8
 manual-order : (L : Layout) (sections phases : List ℕ) (l : ℕ) → manualRefusal L sections phases l .number ≤ 17
 unfolding manualRefusal exitLocked
 manual-order L sections phases l = first-order (found-order 17 _ _ (omega arith) then not-free-order _ _ then no-more)
 
+-- an order of any kind
 order-order : (L : Layout) (s : State) (k a : ℕ) → orderRefusal L s k a .number ≤ 17
 unfolding orderRefusal noRefusal refused
 order-order L s k a =

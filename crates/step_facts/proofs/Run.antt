@@ -2,7 +2,7 @@
 use Prim.Native.Nat.{ℕ}
 use mathlib.Core.Path.{_≡_, refl, ap}
 use mathlib.Core.Bool.{true}
-use mathlib.Core.List.{List, [], _∷_, _++_}
+use mathlib.Core.List.{List, [], _∷_}
 use native.Mathlib.Omega.{arith}
 use Rattle.laws.specs.Tests.{_and_}
 use Rattle.layout.specs.declared.Layout.{Layout}
@@ -33,7 +33,7 @@ cold-run-in-range L es = run-in-range L cold es cold-in-range
 -- ---- no 18
 
 -- so on a sound layout no event after any run from the cold start gets 18
-pub no-18 : (L : Layout) (es : List Event) (k a b : ℕ) → sound L ≡ true → step L (fromCold L es) k a b .number ≡ 18 → ⊥
+no-18 : (L : Layout) (es : List Event) (k a b : ℕ) → sound L ≡ true → step L (fromCold L es) k a b .number ≡ 18 → ⊥
 no-18 L es k a b h p = omega (arith, sound-numbers L (fromCold L es) k a b h (cold-run-in-range L es))
 
 -- nor on a layout that was loaded
@@ -57,31 +57,6 @@ module _ (L : Layout) (h : sound L ≡ true) where
   same-answers s (e ∷ es) g =
       rw (run-step-same L s (e .kind) (e .first) (e .second) h g) (ap (λ (rs : List Answer). box L s e ∷ rs) (same-answers _ es (step-in-range L s _ _ _ g)))
 
-  -- and so is the state
-  same-state : (s : State) (es : List Event) → inRange s ≡ true → stateAfter (boxInRun L) s es ≡ stateAfter (box L) s es
-  unfolding stateAfter box boxInRun
-  same-state s [] g = refl
-  same-state s (e ∷ es) g = rw (run-step-same L s (e .kind) (e .first) (e .second) h g) (same-state _ es (step-in-range L s _ _ _ g))
-
   -- from the cold start it is enough to ask soundness once: every answer, with the state that it leaves, is the same
   pub asked-once : (es : List Event) → answers (boxInRun L) cold es ≡ answers (box L) cold es
   asked-once es = same-answers cold es cold-in-range
-
-  -- and the state after the run is
-  pub asked-once-state : (es : List Event) → stateAfter (boxInRun L) cold es ≡ fromCold L es
-  unfolding fromCold
-  asked-once-state es = same-state cold es cold-in-range
-
--- ---- nothing but layout, state and event: `step L s k a b` has no more to go by, and the contract of State::step is an equation with it
-
--- so a run goes on from a state as if it began there: what came before counts by that state alone
-pub goes-on : (f : State → Event → Answer) (s : State) (es ds : List Event) → answers f s (es ++ ds) ≡ answers f s es ++ answers f (stateAfter f s es) ds
-unfolding answers stateAfter
-goes-on f s [] ds = refl
-goes-on f s (e ∷ es) ds = ap (λ (rs : List Answer). f s e ∷ rs) (goes-on f (f s e .next) es ds)
-
--- and the state that it comes to is the one from there
-pub goes-on-state : (f : State → Event → Answer) (s : State) (es ds : List Event) → stateAfter f s (es ++ ds) ≡ stateAfter f (stateAfter f s es) ds
-unfolding stateAfter
-goes-on-state f s [] ds = refl
-goes-on-state f s (e ∷ es) ds = goes-on-state f (f s e .next) es ds

@@ -2,7 +2,7 @@
 use Prim.Native.Nat.{ℕ, _<_, _≤_}
 use mathlib.Core.List.{List}
 use lib.ListN.{getD}
-use Rattle.track.specs.Codes.{free, left, none, neutral, bToA, openBlock, stage2, idle, cancelling}
+use Rattle.track.specs.Codes.{free, left, right, none, neutral, bToA, openBlock, stage2, idle, cancelling}
 use Rattle.interlocking.specs.declared.State.{State}
 
 -- x lies in low .. high
@@ -13,34 +13,39 @@ In low high x = (low ≤ x) × (x ≤ high)
 pub record Within (n low high : ℕ) (xs : List ℕ) : Type 0 where
   pub entry : (i : ℕ) → i < n → In low high (getD xs i 0)
 
--- what sections read; what points read
+-- what sections read (section 1)
 abbrev pub Sections : List ℕ → Type 0
 Sections xs = Within 64 free none xs
 
+-- what points read (section 1)
 abbrev pub Points : List ℕ → Type 0
 Points xs = Within 32 left none xs
 
--- orders: 0 for none, 1 or 2
+-- orders: 0 for none, left, right (section 3)
 abbrev pub Orders : List ℕ → Type 0
-Orders xs = Within 32 0 2 xs
+Orders xs = Within 32 0 right xs
 
--- phases of routes; the steps done, 0..3; the seconds of cancelling, 0..89
+-- phases of routes (sections 4 and 6)
 abbrev pub Phases : List ℕ → Type 0
 Phases xs = Within 48 idle cancelling xs
 
+-- the steps done of letting a route go, 0..3 (section 6)
 abbrev pub Steps : List ℕ → Type 0
 Steps xs = Within 48 0 3 xs
 
+-- the seconds of cancelling, 0..89 (section 6)
 abbrev pub Seconds : List ℕ → Type 0
 Seconds xs = Within 48 0 89 xs
 
--- directions of lines; stages of blocks; bars, 0 or 1
+-- directions of lines (section 5)
 abbrev pub Directions : List ℕ → Type 0
 Directions xs = Within 8 neutral bToA xs
 
+-- stages of blocks (section 5)
 abbrev pub Stages : List ℕ → Type 0
 Stages xs = Within 64 openBlock stage2 xs
 
+-- bars, 0 or 1 (section 3)
 abbrev pub Bars : List ℕ → Type 0
 Bars xs = Within 64 0 1 xs
 
