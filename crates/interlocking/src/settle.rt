@@ -12,7 +12,9 @@ ghost use Rattle.laws.specs.Tables.{each, read};
 ghost use Rattle.track.specs.Objects.{entrance};
 ghost use Rattle.tables.specs.Readings.{reading};
 ghost use Rattle.passage.specs.Passage.{arrival, farSection};
-ghost use Rattle.interlocking.specs.Far.{entryShows, mainShows, blockShows, farShows, farDrops, farStageAt};
+ghost use Rattle.signals.specs.Signals.{blockProceeds};
+ghost use Rattle.interlocking.specs.Entries.{entryShows, mainShows};
+ghost use Rattle.interlocking.specs.Settle.{farProceedsBy, farDroppedBy, farReadingBy, farAfter};
 
 // The signal at which route r starts, 0 where there is no such route.
 fn entry_of(entries: &[u8; 48], r: u8) -> u8
@@ -47,9 +49,9 @@ fn main_proceeds<'a>(n: u8, entries: &'a [u8; 48], phases: &'a [u8; 48], x: u8) 
     false
 }
 
-// The block signal into block i of line l, of which the record is b, for direction w shows proceed.
+// The block signal into block i of line l for direction w shows proceed.
 fn block_proceeds<'a>(
-    b: Line,
+    ls: [Line; 8],
     directions: &'a [u8; 8],
     points: &'a [u8; 32],
     stages: &'a [u8; 64],
@@ -58,12 +60,12 @@ fn block_proceeds<'a>(
     i: u8,
     w: u8,
 ) -> bool
-    ensures { λ x. ⌜ x ≡ blockShows b (now (directions .entry)) (now (points .entry)) (now (stages .entry)) (now (bars .entry)) l i w ⌝ }
+    ensures { λ x. ⌜ x ≡ blockProceeds ls (now (directions .entry)) (now (points .entry)) (now (stages .entry)) (now (bars .entry)) l i w ⌝ }
 {
     if direction_of(directions, l) != w {
         return false;
     }
-    signals::may_enter_line(b, points, stages, bars, l, i)
+    signals::may_enter(ls, points, stages, bars, l, i)
 }
 
 // The entrance signal of a line's arrival end shows proceed.
@@ -75,9 +77,9 @@ fn station_proceeds<'a>(b: Line, n: u8, entries: &'a [u8; 48], phases: &'a [u8; 
     main_proceeds(n, entries, phases, x)
 }
 
-// The far signal of block i of line l, of which the record is b, in direction w shows proceed.
+// The far signal of block i of line l in direction w shows proceed.
 fn far_proceeds<'a>(
-    b: Line,
+    ls: [Line; 8],
     n: u8,
     entries: &'a [u8; 48],
     phases: &'a [u8; 48],
@@ -89,18 +91,19 @@ fn far_proceeds<'a>(
     i: u8,
     w: u8,
 ) -> bool
-    ensures { λ x. ⌜ x ≡ farShows b n (now (entries .entry)) (record { phases = now (phases .entry); directions = now (directions .entry); points = now (points .entry); stages = now (stages .entry); bars = now (bars .entry) }) l i w ⌝ }
+    ensures { λ x. ⌜ x ≡ farProceedsBy ls (record { main = mainShows n (now (entries .entry)) (now (phases .entry)); block = blockProceeds ls (now (directions .entry)) (now (points .entry)) (now (stages .entry)) (now (bars .entry)) }) l i w ⌝ }
 {
+    let b = track::line_at(ls, l);
     let j = passage::next_block(b, w, i);
     if j == 8 {
         return station_proceeds(b, n, entries, phases, w);
     }
-    block_proceeds(b, directions, points, stages, bars, l, j, w)
+    block_proceeds(ls, directions, points, stages, bars, l, j, w)
 }
 
 // It went from proceed to stop; what it shows now is asked only where it showed proceed.
 fn far_dropped<'a>(
-    b: Line,
+    ls: [Line; 8],
     n: u8,
     entries: &'a [u8; 48],
     old_phases: &'a [u8; 48],
@@ -117,10 +120,10 @@ fn far_dropped<'a>(
     i: u8,
     w: u8,
 ) -> bool
-    ensures { λ x. ⌜ x ≡ farDrops b n (now (entries .entry)) (record { phases = now («old_phases» .entry); directions = now («old_directions» .entry); points = now («old_points» .entry); stages = now («old_stages» .entry); bars = now («old_bars» .entry) }) (record { phases = now (phases .entry); directions = now (directions .entry); points = now (points .entry); stages = now (stages .entry); bars = now (bars .entry) }) l i w ⌝ }
+    ensures { λ x. ⌜ x ≡ farDroppedBy ls (record { main = mainShows n (now (entries .entry)) (now («old_phases» .entry)); block = blockProceeds ls (now («old_directions» .entry)) (now («old_points» .entry)) (now («old_stages» .entry)) (now («old_bars» .entry)) }) (record { main = mainShows n (now (entries .entry)) (now (phases .entry)); block = blockProceeds ls (now (directions .entry)) (now (points .entry)) (now (stages .entry)) (now (bars .entry)) }) l i w ⌝ }
 {
     let was = far_proceeds(
-        b,
+        ls,
         n,
         entries,
         old_phases,
@@ -136,7 +139,7 @@ fn far_dropped<'a>(
         return false;
     }
     let is = far_proceeds(
-        b,
+        ls,
         n,
         entries,
         phases,
@@ -180,7 +183,7 @@ pub fn far_stages<'a>(
     bars: &'a [u8; 64],
 ) -> [u8; 64]
     requires { ⌜ m ≤ 64 ⌝ }
-    ensures { λ x. ⌜ x ≡ each m (farStageAt ls n (now (entries .entry)) (now (sections .entry)) (record { phases = now («old_phases» .entry); directions = now («old_directions» .entry); points = now («old_points» .entry); stages = now («old_stages» .entry); bars = now («old_bars» .entry) }) (record { phases = now (phases .entry); directions = now (directions .entry); points = now (points .entry); stages = now (stages .entry); bars = now (bars .entry) })) «now_stages» ⌝ }
+    ensures { λ x. ⌜ x ≡ each m (farAfter (now (directions .entry)) (farReadingBy ls (now (sections .entry))) (farDroppedBy ls (record { main = mainShows n (now (entries .entry)) (now («old_phases» .entry)); block = blockProceeds ls (now («old_directions» .entry)) (now («old_points» .entry)) (now («old_stages» .entry)) (now («old_bars» .entry)) }) (record { main = mainShows n (now (entries .entry)) (now (phases .entry)); block = blockProceeds ls (now (directions .entry)) (now (points .entry)) (now (stages .entry)) (now (bars .entry)) }))) «now_stages» ⌝ }
 {
     let mut stage = now_stages;
     let mut k: u8 = 0;
@@ -199,7 +202,7 @@ pub fn far_stages<'a>(
         let far = far_reading(b, sections, k % 8, w);
         if (was == STAGE_1) & (far == OCCUPIED) {
             let dropped = far_dropped(
-                b,
+                ls,
                 n,
                 entries,
                 old_phases,

@@ -187,13 +187,13 @@ neverEnds = endsWhere (λ L before s l w. false)
 
 -- a locked exit route is not asked
 abbrev pub endsLocked : Box
-endsLocked = endsWhere (λ L before s l w. wasPassed before (line (L .line) l) l w and all (line (L .line) l .blocks) (passable s l))
+endsLocked = endsWhere (λ L before s l w. wasPassed (before .stage) (line (L .line) l) l w and all (line (L .line) l .blocks) (passable (s .stage) (s .bar) l))
 
 -- a held block is not asked, but for the last in travel
 abbrev pub endsHeld : Box
 endsHeld =
     endsWhere (λ L before s l w. every (
-    wasPassed before (line (L .line) l) l w
+    wasPassed (before .stage) (line (L .line) l) l w
     ∷ isOpen (s .stage) l (settling.lastBlock (line (L .line) l) w)
     ∷ all (line (L .line) l .blocks) (unbarred (s .bar) l)
     ∷ unlocked L s l
@@ -202,11 +202,11 @@ endsHeld =
 -- a bar is not asked
 abbrev pub endsBarred : Box
 endsBarred =
-    endsWhere (λ L before s l w. every (wasPassed before (line (L .line) l) l w ∷ all (line (L .line) l .blocks) (isOpen (s .stage) l) ∷ unlocked L s l ∷ []))
+    endsWhere (λ L before s l w. every (wasPassed (before .stage) (line (L .line) l) l w ∷ all (line (L .line) l .blocks) (isOpen (s .stage) l) ∷ unlocked L s l ∷ []))
 
 -- it is not asked that the last block in travel went from stage 2 to open
 abbrev pub endsUnpassed : Box
-endsUnpassed = endsWhere (λ L before s l w. all (line (L .line) l .blocks) (passable s l) and unlocked L s l)
+endsUnpassed = endsWhere (λ L before s l w. all (line (L .line) l .blocks) (passable (s .stage) (s .bar) l) and unlocked L s l)
 
 -- ---- the cold start (sections 1 and 5)
 
