@@ -1,5 +1,5 @@
 -- Far sections and line release by cases, each from the facts that choose it.
-use Prim.Native.Nat.{ℕ, _-_, _/_, _%_, _<_, _≤_}
+use Prim.Native.Nat.{ℕ, _/_, _%_, _<_, _≤_}
 use mathlib.Core.Path.{_≡_, refl, sym, ap, ap₂, _∙_}
 use mathlib.Core.Bool.{Bool, true, false, not, _&&_}
 use mathlib.Core.List.{List}
@@ -20,7 +20,7 @@ use Rattle.tables.specs.Readings.{reading}
 use Rattle.tables.specs.Locks.{lockedExitBy, lockedExit}
 use Rattle.signals.specs.Signals.{enterable, blockProceeds}
 use Rattle.passage.specs.Passage.{arrival, nextBlock, farSection, farStage}
-use Rattle.interlocking.specs.Settle.{Proceeds, farProceedsBy, farDroppedBy, farReadingBy, farMoved, farAfter, lastBlock, passable, wasPassed, endsBy, directionAfter}
+use Rattle.interlocking.specs.Settle.{Proceeds, farProceedsBy, farDroppedBy, farReadingBy, farMoved, farAfter, passable, wasPassed, endsBy, directionAfter}
 
 -- ---- a route and a line of the table, as the code reads them
 
@@ -113,19 +113,6 @@ far-idle directions far dropped k was h =
     (λ f. if-ne was 2 _ _ was (omega arith) (if-ne was 3 _ _ was (omega arith) refl))
 
 -- ---- line release
-
-module _ (b : Line) (w r : ℕ) where
-  pub last-first : (w ≡ 1 → ⊥) → r ≡ 0 → r ≡ lastBlock b w
-  unfolding lastBlock
-  last-first h q = if-ne w 1 _ _ r h q
-
-  pub last-none : w ≡ 1 → b .blocks ≡ 0 → r ≡ 0 → r ≡ lastBlock b w
-  unfolding lastBlock
-  last-none h n q = if-eq w 1 _ _ r h (omega arith)
-
-  pub last-there : w ≡ 1 → r ≡ b .blocks - 1 → r ≡ lastBlock b w
-  unfolding lastBlock
-  last-there h q = if-eq w 1 _ _ r h q
 
 pub exit-at : (rs : List Route) (phases : List ℕ) (k r n : ℕ) (d : Route) {v : Bool} → length rs ≡ 48 → r < n → n ≤ 48
     → v ≡ lockedExitBy phases (getD rs r d) k r → v ≡ lockedExit rs phases k r

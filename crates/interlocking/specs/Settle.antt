@@ -1,5 +1,5 @@
 -- What follows an event: signals, far sections, routes, line release, in that order (sections 4 to 6).
-use Prim.Native.Nat.{ℕ, _*_, _/_, _%_, _-_}
+use Prim.Native.Nat.{ℕ, _*_, _/_, _%_}
 use mathlib.Core.Bool.{Bool, not}
 use mathlib.Core.List.{List, [], _∷_}
 use lib.Dec.{eqb}
@@ -8,8 +8,8 @@ use Rattle.laws.specs.Tests.{_and_, every, all, any}
 use Rattle.laws.specs.Tables.{each, read}
 use Rattle.track.specs.declared.Line.{Line}
 use Rattle.track.specs.declared.Route.{Route}
-use Rattle.track.specs.Codes.{neutral, aToB, stage0, stage2, idle}
-use Rattle.track.specs.Objects.{line, route, entrance}
+use Rattle.track.specs.Codes.{neutral, stage0, stage2, idle}
+use Rattle.track.specs.Objects.{line, route, entrance, nearest}
 use Rattle.tables.specs.Readings.{reading}
 use Rattle.tables.specs.Blocks.{place, isOpen, unbarred}
 use Rattle.tables.specs.Locks.{direction, phase, lockedExit}
@@ -109,9 +109,9 @@ routes L s e = routesBy (L .line) (L .route) (L .routes) s e
 
 -- ---- line release (section 5)
 
--- the last block in travel
+-- the last block in travel: the one nearest the arrival end
 unfoldable pub lastBlock : Line → ℕ → ℕ
-lastBlock b w = if eqb w aToB then b .blocks - 1 else 0
+lastBlock b w = nearest b (arrival w)
 
 -- block i of line l is open and not barred
 unfoldable pub passable : List ℕ → List ℕ → ℕ → ℕ → Bool

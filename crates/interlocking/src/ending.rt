@@ -2,7 +2,6 @@
 use tables::is_locked_exit;
 use track::Line;
 use track::Route;
-use track::codes::A_TO_B;
 use track::codes::NEUTRAL;
 use track::codes::STAGE_2;
 ghost use mathlib.Core.Path.{_≡_};
@@ -11,20 +10,7 @@ ghost use Rattle.laws.specs.Tests.{all, any};
 ghost use Rattle.laws.specs.Tables.{each};
 ghost use Rattle.track.specs.Objects.{line};
 ghost use Rattle.tables.specs.Locks.{lockedExit};
-ghost use Rattle.interlocking.specs.Settle.{lastBlock, passable, wasPassed, endsBy, directionAfter};
-
-// The last block in travel.
-fn last_block(b: Line, w: u8) -> u8
-    ensures { λ i. ⌜ i ≡ lastBlock b w ⌝ }
-{
-    if w != A_TO_B {
-        return 0;
-    }
-    if b.blocks == 0 {
-        return 0;
-    }
-    b.blocks - 1
-}
+ghost use Rattle.interlocking.specs.Settle.{passable, wasPassed, endsBy, directionAfter};
 
 // Block i of line k is open and not barred.
 fn is_passable<'a>(stages: &'a [u8; 64], bars: &'a [u8; 64], k: u8, i: u8) -> bool
@@ -69,7 +55,8 @@ fn some_exit_locked(rs: [Route; 48], n: u8, phases: &[u8; 48], k: u8) -> bool
 fn was_in_stage_2(before: &[u8; 64], b: Line, k: u8, w: u8) -> bool
     ensures { λ x. ⌜ x ≡ wasPassed (now (before .entry)) b k w ⌝ }
 {
-    let i = last_block(b, w);
+    let e = passage::arrival_end(w);
+    let i = track::nearest_block(b, e);
     tables::held_at(before, k, i) == STAGE_2
 }
 
