@@ -18,7 +18,7 @@ use Rattle.track.specs.declared.Route.{Route}
 use Rattle.track.specs.Objects.{line, route, noLine, noRoute, entrance}
 use Rattle.tables.specs.Readings.{reading}
 use Rattle.tables.specs.Locks.{lockedExitBy, lockedExit}
-use Rattle.signals.specs.Signals.{enterable, blockProceeds}
+use Rattle.signals.specs.Signals.{enterableBy, enterable, blockProceeds}
 use Rattle.passage.specs.Passage.{arrival, nextBlock, farSection, farStage}
 use Rattle.interlocking.specs.Settle.{Proceeds, farProceedsBy, farDroppedBy, farReadingBy, farMoved, farAfter, passable, wasPassed, endsBy, directionAfter}
 
@@ -40,9 +40,10 @@ module _ (ls : List Line) (directions points stages bars : List ℕ) (l i w d : 
   unfolding blockProceeds _and_
   shows-other-way h = rw (ne-eqb (read 8 0 directions l) w (λ z. h (e ∙ z)))
 
-  pub shows-that-way : (r : Bool) → d ≡ w → r ≡ enterable ls points stages bars l i → r ≡ blockProceeds ls directions points stages bars l i w
-  unfolding blockProceeds _and_
-  shows-that-way r h q = rw (eq-eqb (read 8 0 directions l) w (sym e ∙ h)) q
+  pub shows-that-way : (r : Bool) (b : Line) → b ≡ line ls l → d ≡ w → r ≡ enterableBy b points stages bars l i
+      → r ≡ blockProceeds ls directions points stages bars l i w
+  unfolding blockProceeds enterable _and_
+  shows-that-way r b g h q = rw (eq-eqb (read 8 0 directions l) w (sym e ∙ h), ← g) q
 
 module _ (ls : List Line) (shown : Proceeds) (l i w j : ℕ) (v : Bool) (b : Line) (g : b ≡ line ls l) (f : j ≡ nextBlock b w i) where
   -- the station comes next
@@ -77,10 +78,10 @@ far-same far was d h = go (eqb was 2) (eqb far 2) h
     go false b p = refl
 
 -- what the far section reads, of a line of the table
-pub far-reads : (ls : List Line) (sections : List ℕ) (k m w x : ℕ) (d : Line) → length ls ≡ 8 → k < m → m ≤ 64
-    → x ≡ reading sections (farSection (getD ls (k / 8) d) w (k % 8)) → x ≡ farReadingBy ls sections (k / 8) (k % 8) w
+pub far-reads : (ls : List Line) (sections : List ℕ) (l i w x : ℕ) (b : Line) → b ≡ line ls l → x ≡ reading sections (farSection b w i)
+    → x ≡ farReadingBy ls sections l i w
 unfolding farReadingBy
-far-reads ls sections k m w x d q b few e = e ∙ ap (λ (y : Line). reading sections (farSection y w (k % 8))) (line-in ls k m d q b few)
+far-reads ls sections l i w x b g e = e ∙ ap (λ (y : Line). reading sections (farSection y w i)) g
 
 module _ (directions : List ℕ) (far : ℕ → ℕ → ℕ → ℕ) (dropped : ℕ → ℕ → ℕ → Bool) (k w was : ℕ) (e : w ≡ read 8 0 directions (k / 8)) where
   -- the line is neutral

@@ -7,9 +7,11 @@ use track::codes::NEUTRAL;
 use track::codes::OCCUPIED;
 use track::codes::STAGE_1;
 ghost use mathlib.Core.Path.{_≡_};
+ghost use mathlib.Core.List.{List};
 ghost use Prim.Native.Nat.{_≤_};
 ghost use Rattle.laws.specs.Tables.{each, read};
-ghost use Rattle.track.specs.Objects.{entrance};
+ghost use Rattle.track.specs.declared.Line.{Line};
+ghost use Rattle.track.specs.Objects.{line, entrance};
 ghost use Rattle.tables.specs.Readings.{reading};
 ghost use Rattle.passage.specs.Passage.{arrival, farSection};
 ghost use Rattle.signals.specs.Signals.{blockProceeds};
@@ -49,9 +51,9 @@ fn main_proceeds<'a>(n: u8, entries: &'a [u8; 48], phases: &'a [u8; 48], x: u8) 
     false
 }
 
-// The block signal into block i of line l for direction w shows proceed.
+// The block signal into block i of line l, of which the record is b, for direction w shows proceed.
 fn block_proceeds<'a>(
-    ls: [Line; 8],
+    b: Line,
     directions: &'a [u8; 8],
     points: &'a [u8; 32],
     stages: &'a [u8; 64],
@@ -60,12 +62,12 @@ fn block_proceeds<'a>(
     i: u8,
     w: u8,
 ) -> bool
-    ensures { λ x. ⌜ x ≡ blockProceeds ls (now (directions .entry)) (now (points .entry)) (now (stages .entry)) (now (bars .entry)) l i w ⌝ }
+    ensures { λ x. ⌜ ((ls : List Line) → b ≡ line ls l → x ≡ blockProceeds ls (now (directions .entry)) (now (points .entry)) (now (stages .entry)) (now (bars .entry)) l i w) ⌝ }
 {
     if direction_of(directions, l) != w {
         return false;
     }
-    signals::may_enter(ls, points, stages, bars, l, i)
+    signals::may_enter_line(b, points, stages, bars, l, i)
 }
 
 // The entrance signal of a line's arrival end shows proceed.
@@ -77,9 +79,9 @@ fn station_proceeds<'a>(b: Line, n: u8, entries: &'a [u8; 48], phases: &'a [u8; 
     main_proceeds(n, entries, phases, x)
 }
 
-// The far signal of block i of line l in direction w shows proceed.
+// The far signal of block i of line l, of which the record is b, in direction w shows proceed.
 fn far_proceeds<'a>(
-    ls: [Line; 8],
+    b: Line,
     n: u8,
     entries: &'a [u8; 48],
     phases: &'a [u8; 48],
@@ -91,19 +93,18 @@ fn far_proceeds<'a>(
     i: u8,
     w: u8,
 ) -> bool
-    ensures { λ x. ⌜ x ≡ farProceedsBy ls (record { main = mainShows n (now (entries .entry)) (now (phases .entry)); block = blockProceeds ls (now (directions .entry)) (now (points .entry)) (now (stages .entry)) (now (bars .entry)) }) l i w ⌝ }
+    ensures { λ x. ⌜ ((ls : List Line) → b ≡ line ls l → x ≡ farProceedsBy ls (record { main = mainShows n (now (entries .entry)) (now (phases .entry)); block = blockProceeds ls (now (directions .entry)) (now (points .entry)) (now (stages .entry)) (now (bars .entry)) }) l i w) ⌝ }
 {
-    let b = track::line_at(ls, l);
     let j = passage::next_block(b, w, i);
     if j == 8 {
         return station_proceeds(b, n, entries, phases, w);
     }
-    block_proceeds(ls, directions, points, stages, bars, l, j, w)
+    block_proceeds(b, directions, points, stages, bars, l, j, w)
 }
 
 // It went from proceed to stop; what it shows now is asked only where it showed proceed.
 fn far_dropped<'a>(
-    ls: [Line; 8],
+    b: Line,
     n: u8,
     entries: &'a [u8; 48],
     old_phases: &'a [u8; 48],
@@ -120,10 +121,10 @@ fn far_dropped<'a>(
     i: u8,
     w: u8,
 ) -> bool
-    ensures { λ x. ⌜ x ≡ farDroppedBy ls (record { main = mainShows n (now (entries .entry)) (now («old_phases» .entry)); block = blockProceeds ls (now («old_directions» .entry)) (now («old_points» .entry)) (now («old_stages» .entry)) (now («old_bars» .entry)) }) (record { main = mainShows n (now (entries .entry)) (now (phases .entry)); block = blockProceeds ls (now (directions .entry)) (now (points .entry)) (now (stages .entry)) (now (bars .entry)) }) l i w ⌝ }
+    ensures { λ x. ⌜ ((ls : List Line) → b ≡ line ls l → x ≡ farDroppedBy ls (record { main = mainShows n (now (entries .entry)) (now («old_phases» .entry)); block = blockProceeds ls (now («old_directions» .entry)) (now («old_points» .entry)) (now («old_stages» .entry)) (now («old_bars» .entry)) }) (record { main = mainShows n (now (entries .entry)) (now (phases .entry)); block = blockProceeds ls (now (directions .entry)) (now (points .entry)) (now (stages .entry)) (now (bars .entry)) }) l i w) ⌝ }
 {
     let was = far_proceeds(
-        ls,
+        b,
         n,
         entries,
         old_phases,
@@ -139,7 +140,7 @@ fn far_dropped<'a>(
         return false;
     }
     let is = far_proceeds(
-        ls,
+        b,
         n,
         entries,
         phases,
@@ -202,7 +203,7 @@ pub fn far_stages<'a>(
         let far = far_reading(b, sections, k % 8, w);
         if (was == STAGE_1) & (far == OCCUPIED) {
             let dropped = far_dropped(
-                ls,
+                b,
                 n,
                 entries,
                 old_phases,

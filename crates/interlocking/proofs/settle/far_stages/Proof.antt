@@ -8,7 +8,7 @@ use Rattle.laws.proofs.Each.{Redone, redo-start, redo-on, redo-skip, redoes}
 use Rattle.signals.specs.Signals.{blockProceeds}
 use Rattle.interlocking.specs.Entries.{mainShows}
 use Rattle.interlocking.specs.Settle.{farDroppedBy, farReadingBy, farAfter}
-use Rattle.interlocking.proofs.FarSections.{far-reads, far-idle, far-neutral, far-asked, far-moot}
+use Rattle.interlocking.proofs.FarSections.{line-in, far-reads, far-idle, far-neutral, far-asked, far-moot}
 use Rattle.interlocking.proofs.settle.far_stages.Statement.{statement}
 use Rattle.interlocking.proofs.settle.far_stages.Tie as tie
 
@@ -39,11 +39,12 @@ asked : tie.Need-loop-again-3 Inv-loop μ-loop
 asked c =
     let r = c .before .before .before in
     let w = r .before .before in
-    let j = w .before .before .before .before .loop .inv in (
+    let j = w .before .before .before .before .loop .inv in
+    let there = line-in _ _ _ _ (j .0) (w .before .before .before .loop-test .taken) (w .before .before .before .before .before .pre) in (
       j .0,
       redo-on _ _ _ _ _ _ _ (j .1) (search needs)
           (far-asked _ _ _ _ _ _ (w .before .direction-of .ensures) _ _ (w .if2 .left)
-          (far-reads _ _ _ _ _ _ _ (j .0) (search needs) (w .before .before .before .before .before .pre) (r .far-reading .ensures)) _ (c .before .far-dropped .ensures) (c .far-stage .ensures)),
+          (far-reads _ _ _ _ _ _ _ there (r .far-reading .ensures)) _ (c .before .far-dropped .ensures _ there) (c .far-stage .ensures)),
     )
 
 -- or does not matter
@@ -51,11 +52,12 @@ moot : tie.Need-loop-again-4 Inv-loop μ-loop
 moot c =
     let r = c .before .before in
     let w = r .before .before in
-    let j = w .before .before .before .before .loop .inv in (
+    let j = w .before .before .before .before .loop .inv in
+    let there = line-in _ _ _ _ (j .0) (w .before .before .before .loop-test .taken) (w .before .before .before .before .before .pre) in (
       j .0,
       redo-on _ _ _ _ _ _ _ (j .1) (search needs)
           (far-moot _ _ _ _ _ _ (w .before .direction-of .ensures) _ _ (w .if2 .left)
-          (far-reads _ _ _ _ _ _ _ (j .0) (search needs) (w .before .before .before .before .before .pre) (r .far-reading .ensures)) (c .before .if3 .left) (c .far-stage2 .ensures)),
+          (far-reads _ _ _ _ _ _ _ there (r .far-reading .ensures)) (c .before .if3 .left) (c .far-stage2 .ensures)),
     )
 
 pub far-stages-spec : {M : Type 1} → statement M
