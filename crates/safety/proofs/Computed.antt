@@ -21,7 +21,7 @@ use Rattle.refusals.specs.Events.{objects, secondWrong, eventRefusal}
 use Rattle.interlocking.specs.State.{cold, codes, routesInRange, inRange, withSections, withPoints, withRoutes, withLines, withBars}
 use Rattle.interlocking.specs.Own.{blockAt, ownStageAt, ownSection, ownPoint, throwReading, ownThrow, ownSet, ownCancel, ownSecure, openAt, ownManual, ownBar}
 use Rattle.interlocking.specs.Settle.{fallenAt, signals, proceedsIn, farProceedsBy, farDroppedBy, farReadingBy, farProceeds, farDropped, farReading, farMoved, farAfter, farSections, heldOf, routeAfter, unlessIdle, routesBy, routes, lastBlock, passable, wasPassed, endsBy, ends, directionAfter, lineRelease, settle}
-use Rattle.interlocking.specs.Step.{orderRefusal, refusal, meant, gives, ownOf, own, after, refusedBy, answer, stepWhere, step, stepInRun}
+use Rattle.interlocking.specs.Step.{orderRefusal, refusal, meant, gives, ownOf, own, after, refusedBy, answer, stepWhere, step, askedInRun, stepInRun}
 use Rattle.panel_facts.proofs.Cases.{panelComputed}
 use Rattle.step_facts.specs.Run.{box, boxInRun, stateAfter, answers, fromCold}
 use Rattle.safety.specs.Shown.{signalShows, routeShows, lineShows, panel}
@@ -44,6 +44,6 @@ unfolding computed panelComputed
     blockAt ownStageAt ownSection ownPoint throwReading ownThrow ownSet ownCancel ownSecure openAt ownManual ownBar
     fallenAt signals proceedsIn farProceedsBy farDroppedBy farReadingBy farProceeds farDropped farReading farMoved farAfter farSections heldOf routeAfter unlessIdle routesBy routes
     lastBlock passable wasPassed endsBy ends directionAfter lineRelease settle
-    objects secondWrong eventRefusal orderRefusal refusal meant gives own ownOf after refusedBy answer stepWhere step stepInRun
+    objects secondWrong eventRefusal orderRefusal refusal meant gives own ownOf after refusedBy answer stepWhere step askedInRun stepInRun
     box boxInRun stateAfter answers fromCold signalShows routeShows lineShows panel says told.reading shown sinceSpell untilSpell moment goesOn history beyond
 runComputed = 0

@@ -3,7 +3,7 @@
 use Prim.Native.Nat.{ℕ, _*_, _/_, _%_}
 use mathlib.Core.Bool.{Bool, true, false, not}
 use mathlib.Core.List.{[], _∷_}
-use lib.Dec.{eqb, leb}
+use lib.Dec.{eqb}
 use lib.ListN.{replicate}
 use Rattle.laws.specs.Choice.{if_then_else_}
 use Rattle.laws.specs.Tests.{_and_, every, all, any}
@@ -28,7 +28,7 @@ use Rattle.interlocking.specs.State.{cold, withSections, withRoutes, withLines}
 use Rattle.interlocking.specs.Own.{blockAt}
 use Rattle.interlocking.specs.Settle.{signals, farProceeds, farDropped, farReading, farSections, routes, passable, wasPassed, lineRelease}
 use Rattle.interlocking.specs.Settle as settling
-use Rattle.interlocking.specs.Step.{refusal, meant, gives, own, refusedBy}
+use Rattle.interlocking.specs.Step.{refusal, meant, gives, own, refusedBy, askedInRun}
 use Rattle.step_facts.specs.Run.{Event}
 
 -- ---- a step from its parts: what is refused; what the event does itself; then signals, far sections, routes, line release (section 5)
@@ -49,11 +49,8 @@ stepBy refuse act light move free end L s e =
     else refusedBy (refuse L s e) s
 
 -- what is refused, soundness being asked before the first event; what an event does itself
-abbrev pub asked : Layout → Bool
-asked L = leb (L .lines) 8 and leb (L .routes) 48
-
 abbrev pub refuses : Layout → State → Event → Refusal
-refuses L s e = refusal (asked L) L s (e .kind) (e .first) (e .second)
+refuses L s e = refusal (askedInRun L) L s (e .kind) (e .first) (e .second)
 
 abbrev pub does : Layout → State → Event → State
 does L s e = own L s (e .kind) (e .first) (meant (e .kind) (e .second))
@@ -67,7 +64,7 @@ refusesNone = stepBy (λ L s e. firstOf (when (eqb (e .kind) 1 and eqb (e .secon
 -- an order of kind k is refused by this
 abbrev pub refuseBy : ℕ → (Layout → State → ℕ → Refusal) → Layout → State → Event → Refusal
 refuseBy k refuse L s e =
-    if eqb (e .kind) k then firstOf (eventRefusal (asked L) L (e .kind) (e .first) (e .second) ∷ refuse L s (e .first) ∷ []) else refuses L s e
+    if eqb (e .kind) k then firstOf (eventRefusal (askedInRun L) L (e .kind) (e .first) (e .second) ∷ refuse L s (e .first) ∷ []) else refuses L s e
 
 abbrev refusesBy : ℕ → (Layout → State → ℕ → Refusal) → Box
 refusesBy k refuse = stepBy (refuseBy k refuse) does signals farSections routes lineRelease
