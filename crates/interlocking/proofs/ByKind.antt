@@ -1,13 +1,13 @@
 -- What an event does and what is refused of it, kind by kind: each case from the fact that chooses it.
 use Prim.Native.Nat.{ℕ, _≤_}
 use mathlib.Core.Path.{_≡_, refl, sym, ap, _∙_}
-use mathlib.Core.Bool.{Bool, true, false, not}
+use mathlib.Core.Bool.{false, not}
 use mathlib.Core.List.{List}
 use borrow.Author.Tests.{leb-true, not-false}
-use lib.Dec.{eqb, leb}
+use lib.Dec.{leb}
 use Rattle.laws.specs.Choice.{if_then_else_}
 use Rattle.laws.specs.Tests.{_and_, _or_}
-use Rattle.laws.proofs.Choice.{if-eq, if-ne}
+use Rattle.laws.proofs.Choice.{if-ne}
 use Rattle.laws.proofs.Tests.{and-right}
 use Rattle.track.specs.declared.Line.{Line}
 use Rattle.track.specs.Lists.{between}

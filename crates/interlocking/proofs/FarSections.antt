@@ -1,14 +1,14 @@
 -- Far sections and line release by cases, each from the facts that choose it.
-use Prim.Native.Nat.{ℕ, _-_, _/_, _%_, _<_, _≤_}
+use Prim.Native.Nat.{ℕ, _/_, _%_, _<_, _≤_}
 use mathlib.Core.Path.{_≡_, refl, sym, ap, ap₂, _∙_}
 use mathlib.Core.Bool.{Bool, true, false, not, _&&_}
-use mathlib.Core.List.{List, [], _∷_}
+use mathlib.Core.List.{List}
 use native.Mathlib.Omega.{arith}
 use borrow.Author.Tests.{eq-eqb, ne-eqb, not-true, not-false}
 use lib.Dec.{eqb}
 use lib.ListN.{length, getD}
 use Rattle.laws.specs.Choice.{if_then_else_}
-use Rattle.laws.specs.Tests.{_and_, every, all, any}
+use Rattle.laws.specs.Tests.{_and_, all, any}
 use Rattle.laws.specs.Tables.{read}
 use Rattle.laws.proofs.Choice.{if-eq, if-ne, if-both}
 use Rattle.laws.proofs.Tests.{every-stops, every-passes, every-last}
@@ -16,13 +16,11 @@ use Rattle.laws.proofs.Arrays.{read-in}
 use Rattle.track.specs.declared.Line.{Line}
 use Rattle.track.specs.declared.Route.{Route}
 use Rattle.track.specs.Objects.{line, route, noLine, noRoute, entrance}
-use Rattle.tables.specs.Readings.{reading, linePlaced}
-use Rattle.tables.specs.Blocks.{place, isOpen, unbarred}
+use Rattle.tables.specs.Readings.{reading}
 use Rattle.tables.specs.Locks.{lockedExitBy, lockedExit}
-use Rattle.signals.specs.Signals.{enterableBy}
+use Rattle.signals.specs.Signals.{enterableBy, enterable, blockProceeds}
 use Rattle.passage.specs.Passage.{arrival, nextBlock, farSection, farStage}
-use Rattle.interlocking.specs.Settle.{lastBlock}
-use Rattle.interlocking.specs.Far.{Tables, mainShows, blockShows, farShows, farDrops, farTo, farStageAt, passes, endsBy, directionBy}
+use Rattle.interlocking.specs.Settle.{Proceeds, farProceedsBy, farDroppedBy, farReadingBy, farMoved, farAfter, passable, wasPassed, endsBy, directionAfter}
 
 -- ---- a route and a line of the table, as the code reads them
 
@@ -37,36 +35,35 @@ line-in ls k m d q b few = read-in ls (k / 8) 8 d noLine q (omega arith)
 -- ---- far sections
 
 -- the block signal: of a line that is not secured that way it shows stop; else the block decides
-module _ (directions points stages bars : List ℕ) (b : Line) (l i w d : ℕ) (e : d ≡ read 8 0 directions l) where
-  pub shows-other-way : (d ≡ w → ⊥) → false ≡ blockShows b directions points stages bars l i w
-  unfolding blockShows _and_
+module _ (ls : List Line) (directions points stages bars : List ℕ) (l i w d : ℕ) (e : d ≡ read 8 0 directions l) where
+  pub shows-other-way : (d ≡ w → ⊥) → false ≡ blockProceeds ls directions points stages bars l i w
+  unfolding blockProceeds _and_
   shows-other-way h = rw (ne-eqb (read 8 0 directions l) w (λ z. h (e ∙ z)))
 
-  pub shows-that-way : (r : Bool) → d ≡ w → r ≡ enterableBy b points stages bars l i
-      → r ≡ blockShows b directions points stages bars l i w
-  unfolding blockShows _and_
-  shows-that-way r h q = rw (eq-eqb (read 8 0 directions l) w (sym e ∙ h)) q
+  pub shows-that-way : (r : Bool) (b : Line) → b ≡ line ls l → d ≡ w → r ≡ enterableBy b points stages bars l i
+      → r ≡ blockProceeds ls directions points stages bars l i w
+  unfolding blockProceeds enterable _and_
+  shows-that-way r b g h q = rw (eq-eqb (read 8 0 directions l) w (sym e ∙ h), ← g) q
 
-module _ (b : Line) (n : ℕ) (entries : List ℕ) (t : Tables) (l i w j : ℕ) (v : Bool) (f : j ≡ nextBlock b w i) where
+module _ (ls : List Line) (shown : Proceeds) (l i w j : ℕ) (v : Bool) (b : Line) (g : b ≡ line ls l) (f : j ≡ nextBlock b w i) where
   -- the station comes next
-  pub far-station : j ≡ 8 → v ≡ mainShows n entries (t .phases) (entrance b (arrival w)) → v ≡ farShows b n entries t l i w
-  unfolding farShows
-  far-station h q = if-eq (nextBlock b w i) 8 _ _ v (sym f ∙ h) q
+  pub far-station : j ≡ 8 → v ≡ (shown .main) (entrance b (arrival w)) → v ≡ farProceedsBy ls shown l i w
+  unfolding farProceedsBy
+  far-station h q = rw (← g) (if-eq (nextBlock b w i) 8 _ _ v (sym f ∙ h) q)
 
   -- another block does
-  pub far-next : (j ≡ 8 → ⊥) → v ≡ blockShows b (t .directions) (t .points) (t .stages) (t .bars) l j w → v ≡ farShows b n entries t l i w
-  unfolding farShows
-  far-next h q =
-      if-ne (nextBlock b w i) 8 _ _ v (λ z. h (f ∙ z)) (q ∙ ap (λ x. blockShows b (t .directions) (t .points) (t .stages) (t .bars) l x w) f)
+  pub far-next : (j ≡ 8 → ⊥) → v ≡ (shown .block) l j w → v ≡ farProceedsBy ls shown l i w
+  unfolding farProceedsBy
+  far-next h q = rw (← g) (if-ne (nextBlock b w i) 8 _ _ v (λ z. h (f ∙ z)) (q ∙ ap (λ x. (shown .block) l x w) f))
 
 -- the far signal showed stop before, or it is asked again
-module _ (b : Line) (n : ℕ) (entries : List ℕ) (before t : Tables) (l i w : ℕ) (v : Bool) (e : v ≡ farShows b n entries before l i w) where
-  pub dropped-stop : not v ≡ true → false ≡ farDrops b n entries before t l i w
-  unfolding farDrops _and_
+module _ (ls : List Line) (before shown : Proceeds) (l i w : ℕ) (v : Bool) (e : v ≡ farProceedsBy ls before l i w) where
+  pub dropped-stop : not v ≡ true → false ≡ farDroppedBy ls before shown l i w
+  unfolding farDroppedBy _and_
   dropped-stop h = rw (← e, not-true v h)
 
-  pub dropped-now : (u : Bool) → not v ≡ false → u ≡ farShows b n entries t l i w → not u ≡ farDrops b n entries before t l i w
-  unfolding farDrops _and_
+  pub dropped-now : (u : Bool) → not v ≡ false → u ≡ farProceedsBy ls shown l i w → not u ≡ farDroppedBy ls before shown l i w
+  unfolding farDroppedBy _and_
   dropped-now u h q = rw (← e, not-false v h, q)
 
 -- the far signal matters only to a block in stage 1 whose far section reads occupied
@@ -80,56 +77,43 @@ far-same far was d h = go (eqb was 2) (eqb far 2) h
     go true false p = refl
     go false b p = refl
 
-module _ (ls : List Line) (n : ℕ) (entries sections : List ℕ) (before t : Tables) (k w was : ℕ) (e : w ≡ read 8 0 (t .directions) (k / 8)) where
+-- what the far section reads, of a line of the table
+pub far-reads : (ls : List Line) (sections : List ℕ) (l i w x : ℕ) (b : Line) → b ≡ line ls l → x ≡ reading sections (farSection b w i)
+    → x ≡ farReadingBy ls sections l i w
+unfolding farReadingBy
+far-reads ls sections l i w x b g e = e ∙ ap (λ (y : Line). reading sections (farSection y w i)) g
+
+module _ (directions : List ℕ) (far : ℕ → ℕ → ℕ → ℕ) (dropped : ℕ → ℕ → ℕ → Bool) (k w was : ℕ) (e : w ≡ read 8 0 directions (k / 8)) where
   -- the line is neutral
-  pub far-neutral : w ≡ 0 → was ≡ farStageAt ls n entries sections before t k was
-  unfolding farStageAt
+  pub far-neutral : w ≡ 0 → was ≡ farAfter directions far dropped k was
+  unfolding farAfter
   far-neutral h = if-eq _ 0 _ _ was (sym e ∙ h) refl
 
-  module _ (m : ℕ) (d : Line) (far v : ℕ) (len : length ls ≡ 8) (b : k < m) (few : m ≤ 64) (h : w ≡ 0 → ⊥)
-      (f : far ≡ reading sections (farSection (getD ls (k / 8) d) w (k % 8))) where
-    moved : v ≡ farTo (getD ls (k / 8) d) n entries sections before t k w was → v ≡ farStageAt ls n entries sections before t k was
-    unfolding farStageAt
-    moved q =
-        if-ne _ 0 _ _ v (λ z. h (e ∙ z))
-        (q ∙ ap (λ (x : Line). farTo x n entries sections before t k w was) (line-in ls k m d len b few)
-        ∙ ap (λ x. farTo (line ls (k / 8)) n entries sections before t k x was) e)
+  module _ (x v : ℕ) (h : w ≡ 0 → ⊥) (f : x ≡ far (k / 8) (k % 8) w) where
+    -- the line is secured, so the far section decides
+    moved : v ≡ farMoved far dropped k w was → v ≡ farAfter directions far dropped k was
+    unfolding farAfter
+    moved q = if-ne _ 0 _ _ v (λ z. h (e ∙ z)) (q ∙ ap (λ y. farMoved far dropped k y was) e)
 
     -- the far signal is asked
-    pub far-asked : (x : Bool) → x ≡ farDrops (getD ls (k / 8) d) n entries before t (k / 8) (k % 8) w → v ≡ farStage far x was
-        → v ≡ farStageAt ls n entries sections before t k was
-    unfolding farTo
-    far-asked x p q = moved (q ∙ ap₂ (λ (y : ℕ) (z : Bool). farStage y z was) f p)
+    pub far-asked : (y : Bool) → y ≡ dropped (k / 8) (k % 8) w → v ≡ farStage x y was → v ≡ farAfter directions far dropped k was
+    unfolding farMoved
+    far-asked y p q = moved (q ∙ ap₂ (λ (a : ℕ) (z : Bool). farStage a z was) f p)
 
     -- or does not matter
-    pub far-moot : eqb was 2 && eqb far 2 ≡ false → v ≡ farStage far false was → v ≡ farStageAt ls n entries sections before t k was
-    unfolding farTo
-    far-moot g q =
-        let x : Bool = farDrops (getD ls (k / 8) d) n entries before t (k / 8) (k % 8) w in
-        moved (q ∙ far-same far was x g ∙ ap (λ y. farStage y x was) f)
+    pub far-moot : eqb was 2 && eqb x 2 ≡ false → v ≡ farStage x false was → v ≡ farAfter directions far dropped k was
+    unfolding farMoved
+    far-moot g q = moved (q ∙ far-same x was (dropped (k / 8) (k % 8) w) g ∙ ap (λ a. farStage a (dropped (k / 8) (k % 8) w) was) f)
 
 -- an open block, and one held in stage 0, stay as they are
-pub far-idle : (ls : List Line) (n : ℕ) (entries sections : List ℕ) (before t : Tables) (k was : ℕ) → was < 2
-    → was ≡ farStageAt ls n entries sections before t k was
-unfolding farStageAt farTo farStage
-far-idle ls n entries sections before t k was h =
-    if-both (λ x. was ≡ x) (eqb (read 8 0 (t .directions) (k / 8)) 0) (λ t. refl)
+pub far-idle : (directions : List ℕ) (far : ℕ → ℕ → ℕ → ℕ) (dropped : ℕ → ℕ → ℕ → Bool) (k was : ℕ) → was < 2
+    → was ≡ farAfter directions far dropped k was
+unfolding farAfter farMoved farStage
+far-idle directions far dropped k was h =
+    if-both (λ x. was ≡ x) (eqb (read 8 0 directions (k / 8)) 0) (λ t. refl)
     (λ f. if-ne was 2 _ _ was (omega arith) (if-ne was 3 _ _ was (omega arith) refl))
 
 -- ---- line release
-
-module _ (b : Line) (w r : ℕ) where
-  pub last-first : (w ≡ 1 → ⊥) → r ≡ 0 → r ≡ lastBlock b w
-  unfolding lastBlock
-  last-first h q = if-ne w 1 _ _ r h q
-
-  pub last-none : w ≡ 1 → b .blocks ≡ 0 → r ≡ 0 → r ≡ lastBlock b w
-  unfolding lastBlock
-  last-none h n q = if-eq w 1 _ _ r h (omega arith)
-
-  pub last-there : w ≡ 1 → r ≡ b .blocks - 1 → r ≡ lastBlock b w
-  unfolding lastBlock
-  last-there h q = if-eq w 1 _ _ r h q
 
 pub exit-at : (rs : List Route) (phases : List ℕ) (k r n : ℕ) (d : Route) {v : Bool} → length rs ≡ 48 → r < n → n ≤ 48
     → v ≡ lockedExitBy phases (getD rs r d) k r → v ≡ lockedExit rs phases k r
@@ -138,12 +122,12 @@ exit-at rs phases k r n d q b few e = e ∙ ap (λ (a : Route). lockedExitBy pha
 
 -- by the test at which it fails
 module _ (b : Line) (n : ℕ) (rs : List Route) (before stages bars phases : List ℕ) (k w : ℕ) (v : Bool)
-    (p : v ≡ eqb (read 64 1 before (place k (lastBlock b w))) 3) where
+    (p : v ≡ wasPassed before b k w) where
   pub ends-unpassed : not v ≡ true → false ≡ endsBy b n rs before stages bars phases k w
   unfolding endsBy
   ends-unpassed h = every-stops _ _ v p h
 
-  module _ (u : Bool) (q : u ≡ all (b .blocks) (passes stages bars k)) (h : not v ≡ false) where
+  module _ (u : Bool) (q : u ≡ all (b .blocks) (passable stages bars k)) (h : not v ≡ false) where
     pub ends-held : not u ≡ true → false ≡ endsBy b n rs before stages bars phases k w
     unfolding endsBy
     ends-held g = every-passes _ _ v _ false p h (every-stops _ _ u q g)
@@ -154,7 +138,7 @@ module _ (b : Line) (n : ℕ) (rs : List Route) (before stages bars phases : Lis
 
 -- the direction of a line of the table
 pub direction-at : (ls : List Line) (n : ℕ) (rs : List Route) (before stages bars phases : List ℕ) (k m was v : ℕ) (d : Line) → length ls ≡ 8 → k < m → m ≤ 8
-    → v ≡ directionBy (getD ls k d) n rs before stages bars phases k was → v ≡ directionBy (line ls k) n rs before stages bars phases k was
+    → v ≡ directionAfter (endsBy (getD ls k d) n rs before stages bars phases) k was → v ≡ directionAfter (endsBy (line ls k) n rs before stages bars phases) k was
 unfolding line
 direction-at ls n rs before stages bars phases k m was v d q b few e =
-    e ∙ ap (λ (x : Line). directionBy x n rs before stages bars phases k was) (read-in ls k 8 d noLine q (omega arith))
+    e ∙ ap (λ (x : Line). directionAfter (endsBy x n rs before stages bars phases) k was) (read-in ls k 8 d noLine q (omega arith))

@@ -1,25 +1,23 @@
 -- What follows an event, from the tables that one walk over the routes makes: signals fall and routes are let go in the same turn, since far
 -- sections move no route, and line release looks at both.
-use Prim.Native.Nat.{ℕ, _*_, _/_, _%_, _<_, _≤_}
+use Prim.Native.Nat.{ℕ, _*_, _<_, _≤_}
 use mathlib.Core.Path.{_≡_, refl, sym, ap, ap₂, _∙_, fun-ext}
-use mathlib.Core.Bool.{Bool, true, false, not}
-use mathlib.Core.List.{List, [], _∷_}
+use mathlib.Core.Bool.{Bool}
+use mathlib.Core.List.{List}
 use native.Mathlib.Decide.{ℕ-discrete}
 use native.Mathlib.Omega.{arith}
 use lib.Dec.{eqb}
 use lib.ListN.{length, getD}
 use Rattle.laws.specs.Choice.{if_then_else_}
-use Rattle.laws.specs.Tests.{_and_, any}
+use Rattle.laws.specs.Tests.{_and_}
 use Rattle.laws.specs.Tables.{each, read}
 use Rattle.laws.proofs.Choice.{if-eq, if-ne, if-lt, if-both}
 use Rattle.laws.proofs.Tests.{any-same}
 use Rattle.laws.proofs.Each.{Redone, each-at, each-past, length-each, each-over}
 use Rattle.track.specs.declared.Line.{Line}
 use Rattle.track.specs.declared.Route.{Route}
-use Rattle.track.specs.Objects.{line, route, entrance}
-use Rattle.tables.specs.Readings.{reading}
-use Rattle.signals.specs.Signals.{clear, fallen, enterable, routeProceeds, mainProceeds, blockProceeds}
-use Rattle.passage.specs.Passage.{arrival, nextBlock, farSection, farStage}
+use Rattle.track.specs.Objects.{line, route}
+use Rattle.signals.specs.Signals.{clear, fallen, routeProceeds, mainProceeds, blockProceeds}
 use Rattle.release.specs.declared.Gives.{Gives}
 use Rattle.release.specs.declared.Held.{Held}
 use Rattle.release.specs.declared.Settled.{Settled}
@@ -27,8 +25,8 @@ use Rattle.release.specs.Release.{heldAfter, settledFrom, settled}
 use Rattle.layout.specs.declared.Layout.{Layout}
 use Rattle.interlocking.specs.declared.State.{State}
 use Rattle.interlocking.specs.State.{withRoutes, withLines}
-use Rattle.interlocking.specs.Settle.{fallenAt, signals, stationProceeds, farProceeds, farDropped, farReading, farMoved, farAfter, farSections, heldOf, routeAfter, unlessIdle, routesBy, routes, passable, wasPassed, ends, directionAfter, lineRelease, settle}
-use Rattle.interlocking.specs.Far.{Tables, entryShows, mainShows, blockShows, farShows, farDrops, farTo, farStageAt, passes, endsBy, directionBy}
+use Rattle.interlocking.specs.Entries.{entryShows, mainShows}
+use Rattle.interlocking.specs.Settle.{fallenAt, signals, proceedsIn, farDroppedBy, farReadingBy, farDropped, farReading, farAfter, farSections, heldOf, routeAfter, unlessIdle, routesBy, routes, endsBy, ends, directionAfter, lineRelease, settle}
 use Rattle.interlocking.proofs.FarSections.{route-in}
 
 -- ---- one turn of the walk
@@ -140,29 +138,6 @@ unfolding mainShows entryShows mainProceeds routeProceeds
 main-same n rs zeros phases x few =
     any-same n _ _ (λ r b. ap (λ m. eqb (read 48 0 phases r) 1 and eqb m x) (sym (read-entry _ r (omega arith)) ∙ each-at n (λ r was. route rs r .entry) zeros r b))
 
--- the tables of a state that signals go by
-unfoldable pub tablesOf : State → Tables
-tablesOf s = record { phases = s .phase; directions = s .direction; points = s .point; stages = s .stage; bars = s .bar }
-
--- the far signal and the far section, by the tables
-module _ (L : Layout) (before s : State) (zeros : List ℕ) (few : L .routes ≤ 48) where
-  entries : List ℕ
-  entries = each (L .routes) (λ r was. route (L .route) r .entry) zeros
-
-  shows-same : (t : State) (l i w : ℕ) → farShows (line (L .line) l) (L .routes) entries (tablesOf t) l i w ≡ farProceeds L t l i w
-  unfolding farShows farProceeds stationProceeds blockProceeds enterable blockShows tablesOf entries
-  shows-same t l i w =
-      ap (λ (v : Bool). if eqb (nextBlock (line (L .line) l) w i) 8 then v
-      else blockProceeds (L .line) (t .direction) (t .point) (t .stage) (t .bar) l (nextBlock (line (L .line) l) w i) w)
-      (main-same (L .routes) (L .route) zeros (t .phase) (entrance (line (L .line) l) (arrival w)) few)
-
-  far-stage-same : (k was : ℕ) → farStageAt (L .line) (L .routes) entries (s .section) (tablesOf before) (tablesOf s) k was ≡ farAfter L before s k was
-  unfolding farStageAt farTo farDrops farAfter farMoved farReading farDropped tablesOf
-  far-stage-same k was =
-      let w : ℕ = read 8 0 (s .direction) (k / 8) in
-      ap₂ (λ (u v : Bool). if eqb w 0 then was else farStage (reading (s .section) (farSection (line (L .line) (k / 8)) w (k % 8))) (u and not v) was)
-      (shows-same before (k / 8) (k % 8) w) (shows-same s (k / 8) (k % 8) w)
-
 module _ (L : Layout) (before s : State) (e : Gives) (few : L .routes ≤ 48) (len : length (s .phase) ≡ 48) where
   abbrev after-fall : State
   after-fall = fell (L .line) (L .route) (L .routes) s
@@ -197,23 +172,29 @@ module _ (L : Layout) (before s : State) (e : Gives) (few : L .routes ≤ 48) (l
       (e₃ : phase ≡ each (L .routes) (λ r was. unlessIdle after-fall r was (routeAfter (L .line) (L .route) after-fall e r .phase)) (s .phase))
       (e₄ : step ≡ each (L .routes) (λ r was. unlessIdle after-fall r was (routeAfter (L .line) (L .route) after-fall e r .step)) (s .step))
       (e₅ : second ≡ each (L .routes) (λ r was. unlessIdle after-fall r was (routeAfter (L .line) (L .route) after-fall e r .second)) (s .second))
-      (e₆ : stage ≡ each (8 * L .lines) (farStageAt (L .line) (L .routes) entry (s .section) (tablesOf before)
-      (record { phases = fallen; directions = s .direction; points = s .point; stages = s .stage; bars = s .bar })) (s .stage))
-      (e₇ : direction ≡ each (L .lines) (λ l. directionBy (line (L .line) l) (L .routes) (L .route) (before .stage) stage (s .bar) phase l) (s .direction)) where
-    stages-moved : stage ≡ each (8 * L .lines) (farAfter L before after-fall) (s .stage)
-    unfolding fell withRoutes tablesOf entries
+      (e₆ : stage ≡ each (8 * L .lines) (farAfter (s .direction) (farReadingBy (L .line) (s .section)) (farDroppedBy (L .line)
+      (record { main = mainShows (L .routes) entry (before .phase); block = blockProceeds (L .line) (before .direction) (before .point) (before .stage) (before .bar) })
+      (record { main = mainShows (L .routes) entry fallen; block = blockProceeds (L .line) (s .direction) (s .point) (s .stage) (s .bar) }))) (s .stage))
+      (e₇ : direction ≡ each (L .lines) (λ l. directionAfter (endsBy (line (L .line) l) (L .routes) (L .route) (before .stage) stage (s .bar) phase) l) (s .direction)) where
+    -- by that table a main signal shows what it shows by the routes
+    mains-same : (phases : List ℕ) → mainShows (L .routes) entry phases ≡ mainProceeds (L .routes) (L .route) phases
+    mains-same phases = ap (λ xs. mainShows (L .routes) xs phases) e₁ ∙ fun-ext (λ x. main-same (L .routes) (L .route) zeros phases x few)
+
+    stages-moved : stage ≡ each (8 * L .lines) (farAfter (s .direction) (farReading L after-fall) (farDropped L before after-fall)) (s .stage)
+    unfolding farReading farDropped proceedsIn fell withRoutes
     stages-moved =
-        e₆ ∙ ap₂ (λ (xs ys : List ℕ). each (8 * L .lines) (farStageAt (L .line) (L .routes) xs (s .section) (tablesOf before)
-        (record { phases = ys; directions = s .direction; points = s .point; stages = s .stage; bars = s .bar })) (s .stage)) e₁ e₂
-        ∙ ap (λ (f : ℕ → ℕ → ℕ). each (8 * L .lines) f (s .stage)) (fun-ext (λ k. fun-ext (λ was. far-stage-same L before after-fall zeros few k was)))
+        e₆ ∙ ap₂ (λ (f g : ℕ → Bool). each (8 * L .lines) (farAfter (s .direction) (farReadingBy (L .line) (s .section)) (farDroppedBy (L .line)
+        (record { main = f; block = blockProceeds (L .line) (before .direction) (before .point) (before .stage) (before .bar) })
+        (record { main = g; block = blockProceeds (L .line) (s .direction) (s .point) (s .stage) (s .bar) }))) (s .stage))
+        (mains-same (before .phase)) (mains-same fallen ∙ ap (mainProceeds (L .routes) (L .route)) e₂)
 
     phases-moved : phase ≡ each (L .routes) (λ r was. unlessIdle after-fall r was (routeAfter (L .line) (L .route) after-fall e r .phase)) (after-fall .phase)
     phases-moved = e₃ ∙ from-fallen (λ r. routeAfter (L .line) (L .route) after-fall e r .phase)
 
-    directions-moved : direction ≡ each (L .lines) (directionAfter L before (routes L (farSections L before (signals L s)) e)) (s .direction)
-    unfolding directionAfter ends passable wasPassed directionBy endsBy passes routes routesBy farSections signals withRoutes withLines fell unlessIdle routeAfter heldOf
+    directions-moved : direction ≡ each (L .lines) (directionAfter (ends L before (routes L (farSections L before (signals L s)) e))) (s .direction)
+    unfolding directionAfter ends routes routesBy farSections signals withRoutes withLines fell unlessIdle routeAfter heldOf
     directions-moved =
-        e₇ ∙ ap₂ (λ (xs ys : List ℕ). each (L .lines) (λ l. directionBy (line (L .line) l) (L .routes) (L .route) (before .stage) xs (s .bar) ys l) (s .direction))
+        e₇ ∙ ap₂ (λ (xs ys : List ℕ). each (L .lines) (λ l. directionAfter (endsBy (line (L .line) l) (L .routes) (L .route) (before .stage) xs (s .bar) ys) l) (s .direction))
         stages-moved phases-moved
 
     pub settled-made : record {

@@ -2,12 +2,11 @@
 use Prim.Native.Nat.{ℕ, _<_, _≤_}
 use mathlib.Core.Path.{_≡_, sym, ap, ap₂, _∙_}
 use mathlib.Core.Bool.{Bool, true, false, _&&_}
-use mathlib.Core.List.{[], _∷_}
+use mathlib.Core.List.{[]}
 use native.Mathlib.Decide.{ℕ-discrete}
 use native.Mathlib.Omega.{arith}
 use borrow.Author.Tests.{leb-true}
 use lib.Dec.{eqb, leb}
-use Rattle.laws.specs.Choice.{if_then_else_}
 use Rattle.laws.specs.Tests.{_and_}
 use Rattle.laws.proofs.Choice.{if-eq, if-ne, if-both}
 use Rattle.laws.proofs.Tests.{and-left, and-right, every-at}
@@ -94,9 +93,10 @@ sound-holds L x y e h =
     (leb-true (L .lines) 8 (every-at _ within 4), leb-true (L .routes) 48 (every-at _ within 6))
 
 -- so has one whose counts were looked at
-pub counts-hold : (n m : ℕ) → leb n 8 && leb m 48 ≡ true → (n ≤ 8) × (m ≤ 48)
+pub counts-hold : (n m : ℕ) (x : Bool) → leb n 8 && (leb m 48 && x) ≡ true → (n ≤ 8) × (m ≤ 48)
 unfolding _and_
-counts-hold n m h = (leb-true n 8 (and-left (leb n 8) (leb m 48) h), leb-true m 48 (and-right (leb n 8) (leb m 48) h))
+counts-hold n m x h =
+    (leb-true n 8 (and-left (leb n 8) (leb m 48 && x) h), leb-true m 48 (and-left (leb m 48) x (and-right (leb n 8) (leb m 48 && x) h)))
 
 -- the step, from the two answers to what 18 asks
 pub step-made : (L : Layout) (s : State) (k a b : ℕ) (x y : Bool) (r : Answer) → x ≡ sound L → y ≡ inRange s → r ≡ stepWhere (x && y) L s k a b → r ≡ step L s k a b

@@ -1,5 +1,5 @@
 pub mod State
 pub mod Own
-pub mod Far
+pub mod Entries
 pub mod Settle
 pub mod Step

@@ -1,5 +1,5 @@
 -- What follows an event: signals, far sections, routes, line release, in that order (sections 4 to 6).
-use Prim.Native.Nat.{ℕ, _*_, _/_, _%_, _-_}
+use Prim.Native.Nat.{ℕ, _*_, _/_, _%_}
 use mathlib.Core.Bool.{Bool, not}
 use mathlib.Core.List.{List, [], _∷_}
 use lib.Dec.{eqb}
@@ -8,13 +8,13 @@ use Rattle.laws.specs.Tests.{_and_, every, all, any}
 use Rattle.laws.specs.Tables.{each, read}
 use Rattle.track.specs.declared.Line.{Line}
 use Rattle.track.specs.declared.Route.{Route}
-use Rattle.track.specs.Codes.{neutral, aToB, stage0, stage2, idle}
-use Rattle.track.specs.Objects.{line, route, entrance}
+use Rattle.track.specs.Codes.{neutral, stage0, stage2, idle}
+use Rattle.track.specs.Objects.{line, route, entrance, nearest}
 use Rattle.tables.specs.Readings.{reading}
 use Rattle.tables.specs.Blocks.{place, isOpen, unbarred}
 use Rattle.tables.specs.Locks.{direction, phase, lockedExit}
 use Rattle.signals.specs.Signals.{fallen, mainProceeds, blockProceeds}
-use Rattle.passage.specs.Passage.{arrival, nextBlock, farSection, farStage}
+use Rattle.passage.specs.Passage.{arrival, station, nextBlock, farSection, farStage}
 use Rattle.release.specs.declared.Gives.{Gives}
 use Rattle.release.specs.declared.Held.{Held}
 use Rattle.release.specs.Release.{heldAfter}
@@ -34,35 +34,53 @@ signals L s = withRoutes s (each (L .routes) (fallenAt (L .line) (L .route) s) (
 
 -- ---- far sections (section 5)
 
--- the arrival end's entrance signal shows proceed
-unfoldable pub stationProceeds : Layout → State → Line → ℕ → Bool
-stationProceeds L s b w = mainProceeds (L .routes) (L .route) (s .phase) (entrance b (arrival w))
+-- which signals show proceed: main signals, and the block signal into each block of each line for each direction
+pub record Proceeds : Type 0 where
+  pub main : ℕ → Bool
+  pub block : ℕ → ℕ → ℕ → Bool
+
+-- those of a state (section 4)
+unfoldable pub proceedsIn : Layout → State → Proceeds
+proceedsIn L s = record {
+  main = mainProceeds (L .routes) (L .route) (s .phase);
+  block = blockProceeds (L .line) (s .direction) (s .point) (s .stage) (s .bar);
+}
 
 -- the far signal of block i of line l in direction w shows proceed: the one between it and the next block, or the arrival end's entrance signal
-unfoldable pub farProceeds : Layout → State → ℕ → ℕ → ℕ → Bool
-farProceeds L s l i w =
-    if eqb (nextBlock (line (L .line) l) w i) 8 then stationProceeds L s (line (L .line) l) w
-    else blockProceeds (L .line) (s .direction) (s .point) (s .stage) (s .bar) l (nextBlock (line (L .line) l) w i) w
+unfoldable pub farProceedsBy : List Line → Proceeds → ℕ → ℕ → ℕ → Bool
+farProceedsBy ls shown l i w =
+    if eqb (nextBlock (line ls l) w i) station then (shown .main) (entrance (line ls l) (arrival w)) else (shown .block) l (nextBlock (line ls l) w i) w
 
 -- it goes from proceed, before the event, to stop
-unfoldable pub farDropped : Layout → State → State → ℕ → ℕ → ℕ → Bool
-farDropped L before s l i w = farProceeds L before l i w and not (farProceeds L s l i w)
+unfoldable pub farDroppedBy : List Line → Proceeds → Proceeds → ℕ → ℕ → ℕ → Bool
+farDroppedBy ls before shown l i w = farProceedsBy ls before l i w and not (farProceedsBy ls shown l i w)
 
 -- what the far section of block i of line l reads
+unfoldable pub farReadingBy : List Line → List ℕ → ℕ → ℕ → ℕ → ℕ
+farReadingBy ls sections l i w = reading sections (farSection (line ls l) w i)
+
+-- the same in a state
+unfoldable pub farProceeds : Layout → State → ℕ → ℕ → ℕ → Bool
+farProceeds L s l i w = farProceedsBy (L .line) (proceedsIn L s) l i w
+
+unfoldable pub farDropped : Layout → State → State → ℕ → ℕ → ℕ → Bool
+farDropped L before s l i w = farDroppedBy (L .line) (proceedsIn L before) (proceedsIn L s) l i w
+
 unfoldable pub farReading : Layout → State → ℕ → ℕ → ℕ → ℕ
-farReading L s l i w = reading (s .section) (farSection (line (L .line) l) w i)
+farReading L s l i w = farReadingBy (L .line) (s .section) l i w
 
--- the stage of the block at place k; in neutral there is no far section
-unfoldable pub farMoved : Layout → State → State → ℕ → ℕ → ℕ → ℕ
-farMoved L before s k w was = farStage (farReading L s (k / 8) (k % 8) w) (farDropped L before s (k / 8) (k % 8) w) was
+-- the stage of the block at place k, by what far sections read and which far signals dropped; in neutral there is no far section
+unfoldable pub farMoved : (ℕ → ℕ → ℕ → ℕ) → (ℕ → ℕ → ℕ → Bool) → ℕ → ℕ → ℕ → ℕ
+farMoved far dropped k w was = farStage (far (k / 8) (k % 8) w) (dropped (k / 8) (k % 8) w) was
 
-unfoldable pub farAfter : Layout → State → State → ℕ → ℕ → ℕ
-farAfter L before s k was =
-    if eqb (direction (s .direction) (k / 8)) neutral then was else farMoved L before s k (direction (s .direction) (k / 8)) was
+unfoldable pub farAfter : List ℕ → (ℕ → ℕ → ℕ → ℕ) → (ℕ → ℕ → ℕ → Bool) → ℕ → ℕ → ℕ
+farAfter directions far dropped k was =
+    if eqb (direction directions (k / 8)) neutral then was else farMoved far dropped k (direction directions (k / 8)) was
 
 -- all blocks
 unfoldable pub farSections : Layout → State → State → State
-farSections L before s = withLines s (s .direction) (each (8 * L .lines) (farAfter L before s) (s .stage))
+farSections L before s =
+    withLines s (s .direction) (each (8 * L .lines) (farAfter (s .direction) (farReading L s) (farDropped L before s)) (s .stage))
 
 -- ---- routes (section 6)
 
@@ -91,32 +109,36 @@ routes L s e = routesBy (L .line) (L .route) (L .routes) s e
 
 -- ---- line release (section 5)
 
--- the last block in travel
+-- the last block in travel: the one nearest the arrival end
 unfoldable pub lastBlock : Line → ℕ → ℕ
-lastBlock b w = if eqb w aToB then b .blocks - 1 else 0
+lastBlock b w = nearest b (arrival w)
 
 -- block i of line l is open and not barred
-unfoldable pub passable : State → ℕ → ℕ → Bool
-passable s l i = isOpen (s .stage) l i and unbarred (s .bar) l i
+unfoldable pub passable : List ℕ → List ℕ → ℕ → ℕ → Bool
+passable stages bars l i = isOpen stages l i and unbarred bars l i
 
--- the last block in travel was in stage 2
-unfoldable pub wasPassed : State → Line → ℕ → ℕ → Bool
-wasPassed before b l w = eqb (read 64 stage0 (before .stage) (place l (lastBlock b w))) stage2
+-- the last block in travel was in stage 2 before the event
+unfoldable pub wasPassed : List ℕ → Line → ℕ → ℕ → Bool
+wasPassed before b l w = eqb (read 64 stage0 before (place l (lastBlock b w))) stage2
 
--- the last block in travel went from stage 2 to open, every block is open, no block is barred, no exit route of the line is locked
-unfoldable pub ends : Layout → State → State → ℕ → ℕ → Bool
-ends L before s l w = every (
-    wasPassed before (line (L .line) l) l w
-    ∷ all (line (L .line) l .blocks) (passable s l)
-    ∷ not (any (L .routes) (lockedExit (L .route) (s .phase) l))
+-- of line l, which is b: the last block in travel went from stage 2 to open, every block is open, no block is barred, no exit route of the line is locked
+unfoldable pub endsBy : Line → ℕ → List Route → List ℕ → List ℕ → List ℕ → List ℕ → ℕ → ℕ → Bool
+endsBy b n rs before stages bars phases l w = every (
+    wasPassed before b l w
+    ∷ all (b .blocks) (passable stages bars l)
+    ∷ not (any n (lockedExit rs phases l))
     ∷ [])
 
+-- the same in a state
+unfoldable pub ends : Layout → State → State → ℕ → ℕ → Bool
+ends L before s l w = endsBy (line (L .line) l) (L .routes) (L .route) (before .stage) (s .stage) (s .bar) (s .phase) l w
+
 -- the line becomes neutral
-unfoldable pub directionAfter : Layout → State → State → ℕ → ℕ → ℕ
-directionAfter L before s l was = if eqb was neutral then was else if ends L before s l was then neutral else was
+unfoldable pub directionAfter : (ℕ → ℕ → Bool) → ℕ → ℕ → ℕ
+directionAfter ended l was = if eqb was neutral then was else if ended l was then neutral else was
 
 unfoldable pub lineRelease : Layout → State → State → State
-lineRelease L before s = withLines s (each (L .lines) (directionAfter L before s) (s .direction)) (s .stage)
+lineRelease L before s = withLines s (each (L .lines) (directionAfter (ends L before s)) (s .direction)) (s .stage)
 
 -- ---- within one event, after the event's own effect: signals, far sections, routes, line release
 unfoldable pub settle : Layout → State → State → Gives → State

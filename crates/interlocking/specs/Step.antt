@@ -87,6 +87,10 @@ stepWhere isSound L s k a b = answer (refusal isSound L s k a b) L s k a b
 unfoldable pub step : Layout → State → ℕ → ℕ → ℕ → Answer
 step L s k a b = stepWhere (sound L and inRange s) L s k a b
 
--- one step of a run that asked soundness before its first event: 18 asks no more than that lines and routes are as many as the tables hold
+-- what 18 asks in a run: lines and routes are as many as the tables hold, and there is a section, so that the record of no layout (section 2) gets 18
+unfoldable pub askedInRun : Layout → Bool
+askedInRun L = leb (L .lines) 8 and (leb (L .routes) 48 and leb 1 (L .sections))
+
+-- one step of a run that asked soundness before its first event
 unfoldable pub stepInRun : Layout → State → ℕ → ℕ → ℕ → Answer
-stepInRun L s k a b = stepWhere (leb (L .lines) 8 and leb (L .routes) 48) L s k a b
+stepInRun L s k a b = stepWhere (askedInRun L) L s k a b

@@ -2,37 +2,19 @@
 use tables::is_locked_exit;
 use track::Line;
 use track::Route;
-use track::codes::A_TO_B;
 use track::codes::NEUTRAL;
 use track::codes::STAGE_2;
 ghost use mathlib.Core.Path.{_≡_};
-ghost use lib.Dec.{eqb};
 ghost use Prim.Native.Nat.{_≤_};
 ghost use Rattle.laws.specs.Tests.{all, any};
-ghost use Rattle.laws.specs.Tables.{each, read};
-ghost use Rattle.track.specs.Codes.{stage0, stage2};
+ghost use Rattle.laws.specs.Tables.{each};
 ghost use Rattle.track.specs.Objects.{line};
-ghost use Rattle.tables.specs.Blocks.{place};
 ghost use Rattle.tables.specs.Locks.{lockedExit};
-ghost use Rattle.interlocking.specs.Settle.{lastBlock};
-ghost use Rattle.interlocking.specs.Far.{passes, endsBy, directionBy};
-
-// The last block in travel.
-fn last_block(b: Line, w: u8) -> u8
-    ensures { λ i. ⌜ i ≡ lastBlock b w ⌝ }
-{
-    if w != A_TO_B {
-        return 0;
-    }
-    if b.blocks == 0 {
-        return 0;
-    }
-    b.blocks - 1
-}
+ghost use Rattle.interlocking.specs.Settle.{passable, wasPassed, endsBy, directionAfter};
 
 // Block i of line k is open and not barred.
 fn is_passable<'a>(stages: &'a [u8; 64], bars: &'a [u8; 64], k: u8, i: u8) -> bool
-    ensures { λ x. ⌜ x ≡ passes (now (stages .entry)) (now (bars .entry)) k i ⌝ }
+    ensures { λ x. ⌜ x ≡ passable (now (stages .entry)) (now (bars .entry)) k i ⌝ }
 {
     let open = tables::is_open(stages, k, i);
     let free = tables::is_unbarred(bars, k, i);
@@ -41,7 +23,7 @@ fn is_passable<'a>(stages: &'a [u8; 64], bars: &'a [u8; 64], k: u8, i: u8) -> bo
 
 // The first n blocks of line k are open and not barred.
 fn all_passable<'a>(stages: &'a [u8; 64], bars: &'a [u8; 64], k: u8, n: u8) -> bool
-    ensures { λ x. ⌜ x ≡ all n (passes (now (stages .entry)) (now (bars .entry)) k) ⌝ }
+    ensures { λ x. ⌜ x ≡ all n (passable (now (stages .entry)) (now (bars .entry)) k) ⌝ }
 {
     let mut i: u8 = 0;
     while i < n {
@@ -71,9 +53,10 @@ fn some_exit_locked(rs: [Route; 48], n: u8, phases: &[u8; 48], k: u8) -> bool
 
 // The last block in travel was in stage 2 before the event.
 fn was_in_stage_2(before: &[u8; 64], b: Line, k: u8, w: u8) -> bool
-    ensures { λ x. ⌜ x ≡ eqb (read 64 stage0 (now (before .entry)) (place k (lastBlock b w))) stage2 ⌝ }
+    ensures { λ x. ⌜ x ≡ wasPassed (now (before .entry)) b k w ⌝ }
 {
-    let i = last_block(b, w);
+    let e = passage::arrival_end(w);
+    let i = track::nearest_block(b, e);
     tables::held_at(before, k, i) == STAGE_2
 }
 
@@ -114,7 +97,7 @@ fn direction_after<'a>(
     was: u8,
 ) -> u8
     requires { ⌜ n ≤ 48 ⌝ }
-    ensures { λ x. ⌜ x ≡ directionBy b n rs (now (before .entry)) (now (stages .entry)) (now (bars .entry)) (now (phases .entry)) k was ⌝ }
+    ensures { λ x. ⌜ x ≡ directionAfter (endsBy b n rs (now (before .entry)) (now (stages .entry)) (now (bars .entry)) (now (phases .entry))) k was ⌝ }
 {
     if was == NEUTRAL {
         return was;
@@ -138,7 +121,7 @@ pub fn directions_after<'a>(
     phases: &'a [u8; 48],
 ) -> [u8; 8]
     requires { ⌜ (m ≤ 8) × (n ≤ 48) ⌝ }
-    ensures { λ x. ⌜ x ≡ each m (λ k. directionBy (line ls k) n rs (now (before .entry)) (now (stages .entry)) (now (bars .entry)) (now (phases .entry)) k) directions ⌝ }
+    ensures { λ x. ⌜ x ≡ each m (λ k. directionAfter (endsBy (line ls k) n rs (now (before .entry)) (now (stages .entry)) (now (bars .entry)) (now (phases .entry))) k) directions ⌝ }
 {
     let mut direction = directions;
     let mut k: u8 = 0;

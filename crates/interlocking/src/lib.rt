@@ -76,7 +76,7 @@ impl State {
     pub fn step_in_run(self, layout: Layout, kind: u32, first: u32, second: u32) -> Answer
         ensures { λ r. ⌜ r ≡ stepInRun layout self kind first second ⌝ }
     {
-        let fits = (layout.lines <= 8) & (layout.routes <= 48);
+        let fits = (layout.lines <= 8) & ((layout.routes <= 48) & (1 <= layout.sections));
         event_answered(layout, self, fits, kind, first, second)
     }
 

@@ -7,12 +7,16 @@ use track::codes::NEUTRAL;
 use track::codes::OCCUPIED;
 use track::codes::STAGE_1;
 ghost use mathlib.Core.Path.{_≡_};
+ghost use mathlib.Core.List.{List};
 ghost use Prim.Native.Nat.{_≤_};
 ghost use Rattle.laws.specs.Tables.{each, read};
-ghost use Rattle.track.specs.Objects.{entrance};
+ghost use Rattle.track.specs.declared.Line.{Line};
+ghost use Rattle.track.specs.Objects.{line, entrance};
 ghost use Rattle.tables.specs.Readings.{reading};
 ghost use Rattle.passage.specs.Passage.{arrival, farSection};
-ghost use Rattle.interlocking.specs.Far.{entryShows, mainShows, blockShows, farShows, farDrops, farStageAt};
+ghost use Rattle.signals.specs.Signals.{blockProceeds};
+ghost use Rattle.interlocking.specs.Entries.{entryShows, mainShows};
+ghost use Rattle.interlocking.specs.Settle.{farProceedsBy, farDroppedBy, farReadingBy, farAfter};
 
 // The signal at which route r starts, 0 where there is no such route.
 fn entry_of(entries: &[u8; 48], r: u8) -> u8
@@ -58,7 +62,7 @@ fn block_proceeds<'a>(
     i: u8,
     w: u8,
 ) -> bool
-    ensures { λ x. ⌜ x ≡ blockShows b (now (directions .entry)) (now (points .entry)) (now (stages .entry)) (now (bars .entry)) l i w ⌝ }
+    ensures { λ x. ⌜ ((ls : List Line) → b ≡ line ls l → x ≡ blockProceeds ls (now (directions .entry)) (now (points .entry)) (now (stages .entry)) (now (bars .entry)) l i w) ⌝ }
 {
     if direction_of(directions, l) != w {
         return false;
@@ -89,7 +93,7 @@ fn far_proceeds<'a>(
     i: u8,
     w: u8,
 ) -> bool
-    ensures { λ x. ⌜ x ≡ farShows b n (now (entries .entry)) (record { phases = now (phases .entry); directions = now (directions .entry); points = now (points .entry); stages = now (stages .entry); bars = now (bars .entry) }) l i w ⌝ }
+    ensures { λ x. ⌜ ((ls : List Line) → b ≡ line ls l → x ≡ farProceedsBy ls (record { main = mainShows n (now (entries .entry)) (now (phases .entry)); block = blockProceeds ls (now (directions .entry)) (now (points .entry)) (now (stages .entry)) (now (bars .entry)) }) l i w) ⌝ }
 {
     let j = passage::next_block(b, w, i);
     if j == 8 {
@@ -117,7 +121,7 @@ fn far_dropped<'a>(
     i: u8,
     w: u8,
 ) -> bool
-    ensures { λ x. ⌜ x ≡ farDrops b n (now (entries .entry)) (record { phases = now («old_phases» .entry); directions = now («old_directions» .entry); points = now («old_points» .entry); stages = now («old_stages» .entry); bars = now («old_bars» .entry) }) (record { phases = now (phases .entry); directions = now (directions .entry); points = now (points .entry); stages = now (stages .entry); bars = now (bars .entry) }) l i w ⌝ }
+    ensures { λ x. ⌜ ((ls : List Line) → b ≡ line ls l → x ≡ farDroppedBy ls (record { main = mainShows n (now (entries .entry)) (now («old_phases» .entry)); block = blockProceeds ls (now («old_directions» .entry)) (now («old_points» .entry)) (now («old_stages» .entry)) (now («old_bars» .entry)) }) (record { main = mainShows n (now (entries .entry)) (now (phases .entry)); block = blockProceeds ls (now (directions .entry)) (now (points .entry)) (now (stages .entry)) (now (bars .entry)) }) l i w) ⌝ }
 {
     let was = far_proceeds(
         b,
@@ -180,7 +184,7 @@ pub fn far_stages<'a>(
     bars: &'a [u8; 64],
 ) -> [u8; 64]
     requires { ⌜ m ≤ 64 ⌝ }
-    ensures { λ x. ⌜ x ≡ each m (farStageAt ls n (now (entries .entry)) (now (sections .entry)) (record { phases = now («old_phases» .entry); directions = now («old_directions» .entry); points = now («old_points» .entry); stages = now («old_stages» .entry); bars = now («old_bars» .entry) }) (record { phases = now (phases .entry); directions = now (directions .entry); points = now (points .entry); stages = now (stages .entry); bars = now (bars .entry) })) «now_stages» ⌝ }
+    ensures { λ x. ⌜ x ≡ each m (farAfter (now (directions .entry)) (farReadingBy ls (now (sections .entry))) (farDroppedBy ls (record { main = mainShows n (now (entries .entry)) (now («old_phases» .entry)); block = blockProceeds ls (now («old_directions» .entry)) (now («old_points» .entry)) (now («old_stages» .entry)) (now («old_bars» .entry)) }) (record { main = mainShows n (now (entries .entry)) (now (phases .entry)); block = blockProceeds ls (now (directions .entry)) (now (points .entry)) (now (stages .entry)) (now (bars .entry)) }))) «now_stages» ⌝ }
 {
     let mut stage = now_stages;
     let mut k: u8 = 0;

@@ -15,7 +15,7 @@ use Rattle.layout.specs.declared.Layout.{Layout}
 use Rattle.layout.specs.Layout.{lineIn}
 use Rattle.layout_facts.specs.Plain.{block, innerSection, entranceSignal, Sound}
 use Rattle.interlocking.specs.declared.State.{State}
-use Rattle.interlocking.specs.Settle.{stationProceeds, farProceeds}
+use Rattle.interlocking.specs.Settle.{proceedsIn, farProceedsBy, farProceeds}
 use Rattle.safety.specs.Demand3.{Beyond, next, arrival, beyond, sectionAt, farSection}
 use Rattle.safety.proofs.Entries.{Is, holds, fails, which, chosen, passed-over}
 
@@ -66,7 +66,7 @@ farUp L s l w (arrival e) = mainProceeds (L .routes) (L .route) (s .phase) (entr
 
 -- the step asks the same signal
 pub far-proceeds : {L : Layout} {l i w : ℕ} {x : Beyond} (s : State) → lineIn L l .blocks ≤ 8 → BeyondCase L l i w x → farProceeds L s l i w ≡ farUp L s l w x
-unfolding farProceeds stationProceeds entranceSignal lineIn
+unfolding farProceeds farProceedsBy proceedsIn entranceSignal lineIn
 far-proceeds {L} {l} {i} {w} s few (aBlock j h d n up down) =
     passed-over _ _ _ (ne-eqb (nextBlock (lineIn L l) w i) 8 (omega arith))
     ∙ ap (λ k. blockProceeds (L .line) (s .direction) (s .point) (s .stage) (s .bar) l k w) n

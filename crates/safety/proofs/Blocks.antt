@@ -105,7 +105,7 @@ pub data FarCase (L : Layout) (before s : State) (l i w was x : ℕ) : Type 0 wh
 
 -- by the tests of a block's far section, one after the other
 far-case : (L : Layout) (before s : State) (l i was : ℕ) → i < 8
-    → FarCase L before s l i (direction s l) was (farAfter L before s (place l i) was)
+    → FarCase L before s l i (direction s l) was (farAfter (s .direction) (farReading L s) (farDropped L before s) (place l i) was)
 unfolding farAfter farMoved farStage
 far-case L before s l i was b =
     rw (place-line l i b, place-block l i b)
@@ -127,4 +127,4 @@ far-case L before s l i was b =
 pub stage-end : (L : Layout) → L .lines ≤ 8 → (s : State) (e : Event) (l i : ℕ) → l < L .lines → i < 8
     → FarCase L s (lit L s e) l i (direction (done L s e) l) (stage (done L s e) l i) (stage (end L s e) l i)
 unfolding after settle lineRelease withLines routes routesBy withRoutes farSections signals
-stage-end L few s e l i b h8 = rw (read-block l i h8 (L .lines) (farAfter L s (lit L s e)) (done L s e .stage) b few) (far-case L s (lit L s e) l i _ h8)
+stage-end L few s e l i b h8 = rw (read-block l i h8 (L .lines) (farAfter (lit L s e .direction) (farReading L (lit L s e)) (farDropped L s (lit L s e))) (done L s e .stage) b few) (far-case L s (lit L s e) l i _ h8)

@@ -20,8 +20,8 @@ use Rattle.refusals.specs.Orders.{throwRefusal, exitRefusal, routeRefusal, setR
 use Rattle.refusals.specs.Events.{objects, secondWrong, eventRefusal}
 use Rattle.interlocking.specs.State.{cold, codes, routesInRange, inRange, withSections, withPoints, withRoutes, withLines, withBars}
 use Rattle.interlocking.specs.Own.{blockAt, ownStageAt, ownSection, ownPoint, throwReading, ownThrow, ownSet, ownCancel, ownSecure, openAt, ownManual, ownBar}
-use Rattle.interlocking.specs.Settle.{fallenAt, signals, stationProceeds, farProceeds, farDropped, farReading, farMoved, farAfter, farSections, heldOf, routeAfter, unlessIdle, routesBy, routes, lastBlock, passable, wasPassed, ends, directionAfter, lineRelease, settle}
-use Rattle.interlocking.specs.Step.{orderRefusal, refusal, meant, gives, ownOf, own, after, refusedBy, answer, stepWhere, step, stepInRun}
+use Rattle.interlocking.specs.Settle.{fallenAt, signals, proceedsIn, farProceedsBy, farDroppedBy, farReadingBy, farProceeds, farDropped, farReading, farMoved, farAfter, farSections, heldOf, routeAfter, unlessIdle, routesBy, routes, lastBlock, passable, wasPassed, endsBy, ends, directionAfter, lineRelease, settle}
+use Rattle.interlocking.specs.Step.{orderRefusal, refusal, meant, gives, ownOf, own, after, refusedBy, answer, stepWhere, step, askedInRun, stepInRun}
 use Rattle.panel.specs.Panel.{join, blocks, proceedByte, shownBy, byteOf, signalByte, routeByte, hasSignal, lamp, blockSignal, blockBytes, lineBytes, image, panelLength, drawn}
 use Rattle.panel.specs.Panel as panels
 use Rattle.step_facts.specs.Run.{box, boxInRun, stateAfter, answers, fromCold}
@@ -43,9 +43,9 @@ unfolding computed
     throwRefusal exitRefusal routeRefusal setRefusal cancelRefusal secureRefusal manualRefusal
     cold codes routesInRange inRange withSections withPoints withRoutes withLines withBars
     blockAt ownStageAt ownSection ownPoint throwReading ownThrow ownSet ownCancel ownSecure openAt ownManual ownBar
-    fallenAt signals stationProceeds farProceeds farDropped farReading farMoved farAfter farSections heldOf routeAfter unlessIdle routesBy routes
-    lastBlock passable wasPassed ends directionAfter lineRelease settle
-    objects secondWrong eventRefusal orderRefusal refusal meant gives own ownOf after refusedBy answer stepWhere step stepInRun
+    fallenAt signals proceedsIn farProceedsBy farDroppedBy farReadingBy farProceeds farDropped farReading farMoved farAfter farSections heldOf routeAfter unlessIdle routesBy routes
+    lastBlock passable wasPassed endsBy ends directionAfter lineRelease settle
+    objects secondWrong eventRefusal orderRefusal refusal meant gives own ownOf after refusedBy answer stepWhere step askedInRun stepInRun
     join blocks proceedByte shownBy byteOf signalByte routeByte hasSignal lamp blockSignal blockBytes lineBytes image panelLength panels.refused panels.answer drawn
     box boxInRun stateAfter answers fromCold signalShows routeShows lineShows panel says told.reading shown sinceSpell untilSpell moment goesOn history beyond
 runComputed = 0

@@ -23,7 +23,7 @@ use Rattle.layout_facts.specs.Plain.{block, path, Sound}
 use Rattle.layout_facts.proofs.Uses.{entrance-path}
 use Rattle.interlocking.specs.declared.State.{State}
 use Rattle.interlocking.specs.State.{inRange, withRoutes, withLines}
-use Rattle.interlocking.specs.Settle.{signals, farProceeds, farDropped, farReading, farSections, routesBy, routes, lineRelease, settle}
+use Rattle.interlocking.specs.Settle.{signals, farDroppedBy, farReadingBy, farProceeds, farDropped, farReading, farSections, routesBy, routes, lineRelease, settle}
 use Rattle.interlocking.specs.Step.{refusal, after}
 use Rattle.step_facts.specs.Run.{Event}
 use Rattle.panel.specs.Panel.{hasSignal}
@@ -119,7 +119,7 @@ module _ (L : Layout) (S : Sound L) (s : State) (h : History) (I : Inv L s h) (e
 
   -- what the far section reads within the event is what the history tells of it
   far-reads : (w : ℕ) → farReading L (lit L s e) l i w ≡ reading (farSection L l i w) (granted L s e ∷ h)
-  unfolding farReading lineIn after settle lineRelease withLines routes routesBy withRoutes farSections signals
+  unfolding farReading farReadingBy lineIn after settle lineRelease withLines routes routesBy withRoutes farSections signals
   far-reads w =
       ap (readings.reading (lit L s e .section)) (far-section few (there w))
       ∙ reads-on L S s h I e pass (farSection L l i w) (far-there L S l i w b c)
@@ -201,7 +201,7 @@ module _ (L : Layout) (S : Sound L) (s : State) (h : History) (I : Inv L s h) (e
   dropped : stage (done L s e) l i ≡ 2 → direction (done L s e) l ≢ 0 → direction (end L s e) l ≡ direction (done L s e) l
       → farReading L (lit L s e) l i (direction (done L s e) l) ≡ 2 → farDropped L s (lit L s e) l i (direction (done L s e) l) ≡ true
       → Passage L l i (direction (done L s e) l) (granted L s e ∷ h)
-  unfolding Since farDropped panel lineShows
+  unfolding Since farDropped farDroppedBy farProceeds panel lineShows
   dropped z d same taken fell =
       let w : ℕ = direction (done L s e) l in
       let x : Beyond = beyond L l i w in

@@ -25,7 +25,7 @@ use Rattle.interlocking.specs.declared.State.{State}
 use Rattle.interlocking.specs.State.{withSections, withPoints, withRoutes, withLines, withBars}
 use Rattle.interlocking.specs.Own.{ownSection, ownPoint, ownThrow, ownSet, ownCancel, ownSecure, ownManual, ownBar}
 use Rattle.tables.specs.Locks.{locked, lockedExitBy, lockedExit}
-use Rattle.interlocking.specs.Settle.{fallenAt, signals, farSections, heldOf, routeAfter, unlessIdle, routesBy, routes, passable, ends, directionAfter, lineRelease, settle}
+use Rattle.interlocking.specs.Settle.{fallenAt, signals, farSections, heldOf, routeAfter, unlessIdle, routesBy, routes, passable, endsBy, ends, directionAfter, lineRelease, settle}
 use Rattle.interlocking.specs.Step.{meant, gives, ownOf, own, after}
 use Rattle.step_facts.specs.Run.{Event}
 use Rattle.step_facts.proofs.Refusals.{recorded-in}
@@ -252,13 +252,13 @@ module _ (L : Layout) (few : L .lines ≤ 8) (s : State) (e : Event) (l : ℕ) (
   -- a line with a held block does not become neutral by itself
   pub direction-held : (i : ℕ) → i < lineIn L l .blocks → stage (end L s e) l i ≢ 0
       → direction (end L s e) l ≡ direction (done L s e) l
-  unfolding after settle lineRelease withLines ends passable isOpen lineIn
+  unfolding after settle lineRelease withLines ends endsBy passable isOpen lineIn
   direction-held i h d = ⊎-elim (λ q. q) (λ t. absurd (d (eqb-true _ 0 (and-left _ _ (all-at _ _ (every-at _ (t .1) 1) i h))))) released
 
   -- nor does one with an exit route locked
   pub direction-locked : (r : ℕ) → r < L .routes → routeIn L r .kind ≡ 2 → routeIn L r .line ≡ l → phase (end L s e) r ≢ 0
       → direction (end L s e) l ≡ direction (done L s e) l
-  unfolding after settle lineRelease withLines ends lockedExit lockedExitBy locked routeIn
+  unfolding after settle lineRelease withLines ends endsBy lockedExit lockedExitBy locked routeIn
   direction-locked r h k q d = ⊎-elim (λ z. z) (λ t. not-both some (not-true _ (every-at _ (t .1) 2))) released
     where
       some : any (L .routes) (lockedExit (L .route) (end L s e .phase) l) ≡ true

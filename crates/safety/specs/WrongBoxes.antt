@@ -4,7 +4,7 @@
 use Prim.Native.Nat.{ℕ, _*_, _/_, _%_}
 use mathlib.Core.Bool.{Bool, true, false, not}
 use mathlib.Core.List.{[], _∷_}
-use lib.Dec.{eqb, leb}
+use lib.Dec.{eqb}
 use lib.ListN.{replicate}
 use Rattle.laws.specs.Choice.{if_then_else_}
 use Rattle.laws.specs.Tests.{_and_, every, all, any}
@@ -29,7 +29,7 @@ use Rattle.interlocking.specs.State.{cold, withSections, withRoutes, withLines}
 use Rattle.interlocking.specs.Own.{blockAt}
 use Rattle.interlocking.specs.Settle.{signals, farProceeds, farDropped, farReading, farSections, routes, passable, wasPassed, lineRelease}
 use Rattle.interlocking.specs.Settle as settling
-use Rattle.interlocking.specs.Step.{refusal, meant, gives, own, refusedBy}
+use Rattle.interlocking.specs.Step.{refusal, meant, gives, own, refusedBy, askedInRun}
 use Rattle.step_facts.specs.Run.{Event, sectionReading, setRoute, cancelRoute, manualRelease, unbar}
 
 -- ---- a step from its parts: what is refused; what the event does itself; then signals, far sections, routes, line release (section 5)
@@ -49,13 +49,9 @@ stepBy refuse act light move free end L s e =
     }
     else refusedBy (refuse L s e) s
 
--- soundness is asked before the first event: what is asked of the layout at each one
-abbrev pub asked : Layout → Bool
-asked L = leb (L .lines) 8 and leb (L .routes) 48
-
--- what is refused
+-- what is refused, soundness being asked before the first event
 abbrev pub refuses : Layout → State → Event → Refusal
-refuses L s e = refusal (asked L) L s (e .kind) (e .first) (e .second)
+refuses L s e = refusal (askedInRun L) L s (e .kind) (e .first) (e .second)
 
 -- what an event does itself
 abbrev pub does : Layout → State → Event → State
@@ -70,7 +66,7 @@ refusesNone = stepBy (λ L s e. firstOf (when (eqb (e .kind) sectionReading and 
 -- what is refused, where an order of kind k is refused by this
 abbrev pub refuseBy : ℕ → (Layout → State → ℕ → Refusal) → Layout → State → Event → Refusal
 refuseBy k refuse L s e =
-    if eqb (e .kind) k then firstOf (eventRefusal (asked L) L (e .kind) (e .first) (e .second) ∷ refuse L s (e .first) ∷ []) else refuses L s e
+    if eqb (e .kind) k then firstOf (eventRefusal (askedInRun L) L (e .kind) (e .first) (e .second) ∷ refuse L s (e .first) ∷ []) else refuses L s e
 
 -- the box that refuses so
 abbrev refusesBy : ℕ → (Layout → State → ℕ → Refusal) → Box
@@ -197,13 +193,13 @@ neverEnds = endsWhere (λ L before s l w. false)
 
 -- a locked exit route is not asked
 abbrev pub endsLocked : Box
-endsLocked = endsWhere (λ L before s l w. wasPassed before (line (L .line) l) l w and all (line (L .line) l .blocks) (passable s l))
+endsLocked = endsWhere (λ L before s l w. wasPassed (before .stage) (line (L .line) l) l w and all (line (L .line) l .blocks) (passable (s .stage) (s .bar) l))
 
 -- a held block is not asked, but for the last in travel
 abbrev pub endsHeld : Box
 endsHeld =
     endsWhere (λ L before s l w. every (
-    wasPassed before (line (L .line) l) l w
+    wasPassed (before .stage) (line (L .line) l) l w
     ∷ isOpen (s .stage) l (settling.lastBlock (line (L .line) l) w)
     ∷ all (line (L .line) l .blocks) (unbarred (s .bar) l)
     ∷ unlocked L s l
@@ -212,11 +208,11 @@ endsHeld =
 -- a bar is not asked
 abbrev pub endsBarred : Box
 endsBarred =
-    endsWhere (λ L before s l w. every (wasPassed before (line (L .line) l) l w ∷ all (line (L .line) l .blocks) (isOpen (s .stage) l) ∷ unlocked L s l ∷ []))
+    endsWhere (λ L before s l w. every (wasPassed (before .stage) (line (L .line) l) l w ∷ all (line (L .line) l .blocks) (isOpen (s .stage) l) ∷ unlocked L s l ∷ []))
 
 -- it is not asked that the last block in travel went from stage 2 to open
 abbrev pub endsUnpassed : Box
-endsUnpassed = endsWhere (λ L before s l w. all (line (L .line) l .blocks) (passable s l) and unlocked L s l)
+endsUnpassed = endsWhere (λ L before s l w. all (line (L .line) l .blocks) (passable (s .stage) (s .bar) l) and unlocked L s l)
 
 -- ---- the cold start (sections 1 and 5)
 

@@ -40,14 +40,14 @@ far-stage-in far dropped was h =
     (λ t. if-both (In 0 3) _ (λ u. if-both (In 0 3) _ (λ x. omega arith) (λ x. omega arith)) (λ u. h))
 
 -- in neutral it stays
-far-in : (L : Layout) (before s : State) (k was : ℕ) → In 0 3 was → In 0 3 (farAfter L before s k was)
+far-in : (directions : List ℕ) (far : ℕ → ℕ → ℕ → ℕ) (dropped : ℕ → ℕ → ℕ → Bool) (k was : ℕ) → In 0 3 was → In 0 3 (farAfter directions far dropped k was)
 unfolding farAfter farMoved
-far-in L before s k was h = if-both (In 0 3) _ (λ t. h) (λ t. far-stage-in _ _ was h)
+far-in directions far dropped k was h = if-both (In 0 3) _ (λ t. h) (λ t. far-stage-in _ _ was h)
 
 -- so the stages stay in range
 far-range : (L : Layout) (before : State) {s : State} → InRange s → InRange (farSections L before s)
 unfolding farSections
-far-range L before {s} R = lines-range R (R .direction) (each-within (R .stage) _ _ (far-in L before s))
+far-range L before {s} R = lines-range R (R .direction) (each-within (R .stage) _ _ (far-in _ _ _))
 
 -- ---- routes
 
@@ -108,14 +108,14 @@ routes-after-range L {s} e R =
 -- ---- line release
 
 -- a line stays as it is or becomes neutral
-direction-in : (L : Layout) (before s : State) (l was : ℕ) → In 0 2 was → In 0 2 (directionAfter L before s l was)
+direction-in : (ended : ℕ → ℕ → Bool) (l was : ℕ) → In 0 2 was → In 0 2 (directionAfter ended l was)
 unfolding directionAfter
-direction-in L before s l was h = if-both (In 0 2) _ (λ t. h) (λ t. if-both (In 0 2) _ (λ u. omega arith) (λ u. h))
+direction-in ended l was h = if-both (In 0 2) _ (λ t. h) (λ t. if-both (In 0 2) _ (λ u. omega arith) (λ u. h))
 
 -- so the directions stay in range
 release-range : (L : Layout) (before : State) {s : State} → InRange s → InRange (lineRelease L before s)
 unfolding lineRelease
-release-range L before {s} R = lines-range R (each-within (R .direction) _ _ (direction-in L before s)) (R .stage)
+release-range L before {s} R = lines-range R (each-within (R .direction) _ _ (direction-in _)) (R .stage)
 
 -- ---- all that follows
 

@@ -15,7 +15,7 @@ use Rattle.layout.specs.Sound.{sound}
 use Rattle.interlocking.specs.declared.State.{State}
 use Rattle.interlocking.specs.declared.Answer.{Answer}
 use Rattle.interlocking.specs.State.{inRange}
-use Rattle.interlocking.specs.Step.{refusal, meant, after, refusedBy, answer, stepWhere, step, stepInRun}
+use Rattle.interlocking.specs.Step.{refusal, meant, after, refusedBy, answer, stepWhere, step, askedInRun, stepInRun}
 use Rattle.step_facts.specs.Range.{InRange}
 use Rattle.step_facts.proofs.Range.{inRange-means}
 use Rattle.step_facts.proofs.Own.{own-range}
@@ -100,9 +100,9 @@ module _ (L : Layout) (s : State) (k a b : ℕ) where
 
   -- ---- the step of a run
 
-  -- a sound layout has no more lines and routes than the tables hold, so both steps go on from soundness found
+  -- a sound layout has no more lines and routes than the tables hold, and a section, so both steps go on from soundness found
   pub run-step-same : sound L ≡ true → inRange s ≡ true → stepInRun L s k a b ≡ step L s k a b
-  unfolding step stepInRun
+  unfolding step stepInRun askedInRun
   run-step-same h e =
       let R = sound-says L h .ranges in
-      ap (λ t. stepWhere t L s k a b) (and-both _ _ (le-leb _ 8 (R .lineCount)) (le-leb _ 48 (R .routeCount)) ∙ sym (and-both _ _ h e))
+      ap (λ t. stepWhere t L s k a b) (and-both _ _ (le-leb _ 8 (R .lineCount)) (and-both _ _ (le-leb _ 48 (R .routeCount)) (le-leb 1 _ (R .sectionCount .0))) ∙ sym (and-both _ _ h e))

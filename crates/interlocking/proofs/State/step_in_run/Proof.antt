@@ -1,11 +1,11 @@
 -- The counts are looked at, then the event is answered.
 use borrow.Author.Needs.{needs}
 use Rattle.interlocking.proofs.Stepped.{counts-hold}
-use Rattle.interlocking.specs.Step.{stepInRun}
+use Rattle.interlocking.specs.Step.{askedInRun, stepInRun}
 use Rattle.laws.specs.Tests.{_and_}
 use Rattle.interlocking.proofs.State.step_in_run.Statement.{statement}
 use Rattle.interlocking.proofs.State.step_in_run.Tie as tie
 
 pub step-in-run-spec : {M : Type 1} → statement M
-unfolding stepInRun _and_
-step-in-run-spec = tie.close (tie.spec (λ c κs. counts-hold _ _) (λ c. search needs))
+unfolding stepInRun askedInRun _and_
+step-in-run-spec = tie.close (tie.spec (λ c κs. counts-hold _ _ _) (λ c. search needs))

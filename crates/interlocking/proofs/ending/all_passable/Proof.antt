@@ -1,12 +1,12 @@
 -- Each block before i is open and not barred.
 use Prim.Native.Nat.{_-_}
 use Rattle.laws.proofs.Loops.{Held, alls}
-use Rattle.interlocking.specs.Far.{passes}
+use Rattle.interlocking.specs.Settle.{passable}
 use Rattle.interlocking.proofs.ending.all_passable.Statement.{statement}
 use Rattle.interlocking.proofs.ending.all_passable.Tie as tie
 
 abbrev Inv-loop : tie.InvT-loop
-Inv-loop stages bars k n i₀ i = Held n (passes stages bars k) i
+Inv-loop stages bars k n i₀ i = Held n (passable stages bars k) i
 
 abbrev μ-loop : tie.MeasureT-loop
 μ-loop stages bars k n i₀ i = n - i

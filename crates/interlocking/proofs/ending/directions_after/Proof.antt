@@ -1,16 +1,14 @@
 -- The lines before k have ended where they must.
 use Prim.Native.Nat.{_-_}
-use borrow.Author.Needs.{needs}
-use Rattle.laws.proofs.Arrays.{length-mapped}
-use Rattle.laws.proofs.Each.{Redone, redo-on, redoes}
+use Rattle.laws.proofs.Each.{Redone, redoes}
 use Rattle.track.specs.Objects.{line}
-use Rattle.interlocking.specs.Far.{directionBy}
+use Rattle.interlocking.specs.Settle.{endsBy, directionAfter}
 use Rattle.interlocking.proofs.FarSections.{direction-at}
 use Rattle.interlocking.proofs.ending.directions_after.Statement.{statement}
 use Rattle.interlocking.proofs.ending.directions_after.Tie as tie
 
 abbrev Inv-loop : tie.InvT-loop
-Inv-loop m n rs before stages bars phases ls direction₀ k₀ direction k = Redone 8 m (λ l. directionBy (line ls l) n rs before stages bars phases l) direction₀ direction k
+Inv-loop m n rs before stages bars phases ls direction₀ k₀ direction k = Redone 8 m (λ l. directionAfter (endsBy (line ls l) n rs before stages bars phases) l) direction₀ direction k
 
 abbrev μ-loop : tie.MeasureT-loop
 μ-loop m n rs before stages bars phases ls direction₀ k₀ direction k = m - k

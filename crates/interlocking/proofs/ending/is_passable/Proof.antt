@@ -1,10 +1,10 @@
 -- Open, and not barred.
 use borrow.Author.Needs.{needs}
 use Rattle.laws.specs.Tests.{_and_}
-use Rattle.interlocking.specs.Far.{passes}
+use Rattle.interlocking.specs.Settle.{passable}
 use Rattle.interlocking.proofs.ending.is_passable.Statement.{statement}
 use Rattle.interlocking.proofs.ending.is_passable.Tie as tie
 
 pub is-passable-spec : {M : Type 1} → statement M
-unfolding passes _and_
+unfolding passable _and_
 is-passable-spec = tie.close (tie.spec (λ c κs. search needs) (λ c κs. search needs) (λ c. cc))

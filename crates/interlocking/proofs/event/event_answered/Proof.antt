@@ -11,7 +11,7 @@ use Rattle.track.specs.Objects.{route}
 use Rattle.interlocking.specs.Settle.{fallenAt, routeAfter, unlessIdle}
 use Rattle.interlocking.proofs.ByKind.{throw-small, secure-small}
 use Rattle.interlocking.proofs.FarSections.{route-in}
-use Rattle.interlocking.proofs.Settled.{fell, idle-stays, signal-falls, phase-takes, step-takes, second-takes, phases-there, idle-kept, falls-on, tablesOf, settled-made}
+use Rattle.interlocking.proofs.Settled.{fell, idle-stays, signal-falls, phase-takes, step-takes, second-takes, phases-there, idle-kept, falls-on, settled-made}
 use Rattle.interlocking.proofs.Stepped.{kind-known, object-known, refused-at-all, passed-first, lines-few, second-right, done}
 use Rattle.interlocking.proofs.event.event_answered.Statement.{statement}
 use Rattle.interlocking.proofs.event.event_answered.Tie as tie
@@ -78,7 +78,6 @@ locked c =
 
 -- the tables are made: far sections and line release complete them
 answered : tie.Need-returns-2 Inv-loop μ-loop
-unfolding tablesOf
 answered c =
     let i = c .before .before .before .before .before .before .before .before .before .before .before .before .before .before .before .before .before .before .before .before .before .before .before .before .before .loop .inv in
     let all = c .before .before .before .before .before .before .before .before .before .before .before .before .before .before .before .before .before .before .before .before .before .before .before .before .loop-test .left in

@@ -5,4 +5,4 @@ use Rattle.interlocking.proofs.settle.block_proceeds.Statement.{stateme
 use Rattle.interlocking.proofs.settle.block_proceeds.Tie as tie
 
 pub block-proceeds-spec : {M : Type 1} → statement M
-block-proceeds-spec = tie.close (tie.spec (λ c κs. search needs) (λ c. search (needs, shows-other-way)) (λ c κs. search needs) (λ c. search (needs, shows-that-way)))
+block-proceeds-spec = tie.close (tie.spec (λ c κs. search needs) (λ c ls g. search (needs, shows-other-way)) (λ c κs. search needs) (λ c ls g. search (needs, shows-that-way, g)))

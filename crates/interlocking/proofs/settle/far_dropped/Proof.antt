@@ -5,4 +5,4 @@ use Rattle.interlocking.proofs.settle.far_dropped.Statement.{statement}
 use Rattle.interlocking.proofs.settle.far_dropped.Tie as tie
 
 pub far-dropped-spec : {M : Type 1} → statement M
-far-dropped-spec = tie.close (tie.spec (λ c κs. search needs) (λ c. search (needs, dropped-stop)) (λ c κs. search needs) (λ c. search (needs, dropped-now)))
+far-dropped-spec = tie.close (tie.spec (λ c κs. search needs) (λ c ls g. search (needs, dropped-stop, c .before .far-proceeds .ensures ls g)) (λ c κs. search needs) (λ c ls g. dropped-now _ _ _ _ _ _ _ (c .before .before .far-proceeds .ensures ls g) _ (c .before .if1 .left) (c .far-proceeds2 .ensures ls g)))

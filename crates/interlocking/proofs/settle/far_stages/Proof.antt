@@ -5,8 +5,10 @@ use lib.ListN.{length}
 use mathlib.Core.Path.{_≡_}
 use Rattle.laws.proofs.Arrays.{length-mapped}
 use Rattle.laws.proofs.Each.{Redone, redo-start, redo-on, redo-skip, redoes}
-use Rattle.interlocking.specs.Far.{farStageAt}
-use Rattle.interlocking.proofs.FarSections.{far-idle, far-neutral, far-asked, far-moot}
+use Rattle.signals.specs.Signals.{blockProceeds}
+use Rattle.interlocking.specs.Entries.{mainShows}
+use Rattle.interlocking.specs.Settle.{farDroppedBy, farReadingBy, farAfter}
+use Rattle.interlocking.proofs.FarSections.{line-in, far-reads, far-idle, far-neutral, far-asked, far-moot}
 use Rattle.interlocking.proofs.settle.far_stages.Statement.{statement}
 use Rattle.interlocking.proofs.settle.far_stages.Tie as tie
 
@@ -14,9 +16,9 @@ abbrev Inv-loop : tie.InvT-loop
 Inv-loop m n entries sections old-phases old-directions old-points old-stages old-bars phases directions points stages bars ls stage₀ k₀ stage k =
     (length ls ≡ 8)
     × Redone 64 m
-    (farStageAt ls n entries sections
-    (record { phases = old-phases; directions = old-directions; points = old-points; stages = old-stages; bars = old-bars })
-    (record { phases = phases; directions = directions; points = points; stages = stages; bars = bars }))
+    (farAfter directions (farReadingBy ls sections) (farDroppedBy ls
+    (record { main = mainShows n entries old-phases; block = blockProceeds ls old-directions old-points old-stages old-bars })
+    (record { main = mainShows n entries phases; block = blockProceeds ls directions points stages bars })))
     stage₀ stage k
 
 abbrev μ-loop : tie.MeasureT-loop
@@ -24,24 +26,25 @@ abbrev μ-loop : tie.MeasureT-loop
 
 -- an open block, or one held in stage 0
 idle : tie.Need-loop-again Inv-loop μ-loop
-idle c = let j = c .before .before .loop .inv in (j .0, redo-skip _ _ _ _ _ _ (j .1) (search needs) (far-idle _ _ _ _ _ _ _ _ (search needs)))
+idle c = let j = c .before .before .loop .inv in (j .0, redo-skip _ _ _ _ _ _ (j .1) (search needs) (far-idle _ _ _ _ _ (search needs)))
 
 -- a block of a neutral line
 neutral : tie.Need-loop-again-2 Inv-loop μ-loop
 neutral c =
     let j = c .before .before .before .before .loop .inv in
-    (j .0, redo-skip _ _ _ _ _ _ (j .1) (search needs) (far-neutral _ _ _ _ _ _ _ _ _ (c .before .direction-of .ensures) (c .if2 .taken)))
+    (j .0, redo-skip _ _ _ _ _ _ (j .1) (search needs) (far-neutral _ _ _ _ _ _ (c .before .direction-of .ensures) (c .if2 .taken)))
 
 -- a block whose far signal is asked
 asked : tie.Need-loop-again-3 Inv-loop μ-loop
 asked c =
     let r = c .before .before .before in
     let w = r .before .before in
-    let j = w .before .before .before .before .loop .inv in (
+    let j = w .before .before .before .before .loop .inv in
+    let there = line-in _ _ _ _ (j .0) (w .before .before .before .loop-test .taken) (w .before .before .before .before .before .pre) in (
       j .0,
       redo-on _ _ _ _ _ _ _ (j .1) (search needs)
-          (far-asked _ _ _ _ _ _ _ _ _ (w .before .direction-of .ensures) _ _ _ _ (j .0) (search needs) (w .before .before .before .before .before .pre) (w .if2 .left)
-          (r .far-reading .ensures) _ (c .before .far-dropped .ensures) (c .far-stage .ensures)),
+          (far-asked _ _ _ _ _ _ (w .before .direction-of .ensures) _ _ (w .if2 .left)
+          (far-reads _ _ _ _ _ _ _ there (r .far-reading .ensures)) _ (c .before .far-dropped .ensures _ there) (c .far-stage .ensures)),
     )
 
 -- or does not matter
@@ -49,11 +52,12 @@ moot : tie.Need-loop-again-4 Inv-loop μ-loop
 moot c =
     let r = c .before .before in
     let w = r .before .before in
-    let j = w .before .before .before .before .loop .inv in (
+    let j = w .before .before .before .before .loop .inv in
+    let there = line-in _ _ _ _ (j .0) (w .before .before .before .loop-test .taken) (w .before .before .before .before .before .pre) in (
       j .0,
       redo-on _ _ _ _ _ _ _ (j .1) (search needs)
-          (far-moot _ _ _ _ _ _ _ _ _ (w .before .direction-of .ensures) _ _ _ _ (j .0) (search needs) (w .before .before .before .before .before .pre) (w .if2 .left)
-          (r .far-reading .ensures) (c .before .if3 .left) (c .far-stage2 .ensures)),
+          (far-moot _ _ _ _ _ _ (w .before .direction-of .ensures) _ _ (w .if2 .left)
+          (far-reads _ _ _ _ _ _ _ there (r .far-reading .ensures)) (c .before .if3 .left) (c .far-stage2 .ensures)),
     )
 
 pub far-stages-spec : {M : Type 1} → statement M

@@ -1,7 +1,7 @@
 -- A search that leaves at the first route that lights the signal.
 use Prim.Native.Nat.{_-_}
 use Rattle.laws.proofs.Loops.{Failed, anys}
-use Rattle.interlocking.specs.Far.{entryShows, mainShows}
+use Rattle.interlocking.specs.Entries.{entryShows, mainShows}
 use Rattle.interlocking.proofs.settle.main_proceeds.Statement.{statement}
 use Rattle.interlocking.proofs.settle.main_proceeds.Tie as tie
 

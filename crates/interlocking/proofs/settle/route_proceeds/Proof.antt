@@ -1,7 +1,7 @@
 -- Both tests.
 use borrow.Author.Needs.{needs}
 use Rattle.laws.specs.Tests.{_and_}
-use Rattle.interlocking.specs.Far.{entryShows}
+use Rattle.interlocking.specs.Entries.{entryShows}
 use Rattle.interlocking.proofs.settle.route_proceeds.Statement.{statement}
 use Rattle.interlocking.proofs.settle.route_proceeds.Tie as tie
 
