@@ -11,6 +11,7 @@ use lib.ListN.{length, take, drop, length-append, length-drop, take-append-drop}
 use lib.Seq.{length-take-le}
 use Rattle.laws.specs.Choice.{if_then_else_}
 use Rattle.laws.proofs.Choice.{if-lt, if-ge, if-eq, if-ne}
+use Rattle.numerals.specs.Digits.{fitting}
 use Rattle.layout.specs.declared.Layout.{Layout}
 use Rattle.layout.specs.Sound.{sound}
 use Rattle.layout.specs.Load.{load}
@@ -27,17 +28,21 @@ use Rattle.event_file.specs.declared.Next.the-variants.{Taken, Bad, Noth
 use Rattle.event_file.specs.Read.{eventAt}
 use Rattle.event_file.specs.Lines.{mostText, mostLine}
 use Rattle.event_file.specs.Run.{Run, nextCount}
-use Rattle.event_file.specs.List.{mostFault, layoutWord, eventsWord, faultLine, answerLine, listNext, faultIn, opening, openingIn, listFrom, printed}
+use Rattle.event_file.specs.List.{mostFault, layoutWord, eventsWord, faultLine, answerLine, listNext, faultIn, opening, listFrom, printed}
 use Rattle.event_file.specs.Buffer.{roomForLines, mostCalls, isLast, Onward, readOn, goOn, listInCalls, printedInCalls}
 use Rattle.event_file.proofs.PanelText.{text-room, line-room}
 use Rattle.event_file.proofs.Onward.{fromPlace}
 use Rattle.event_file.proofs.Outcomes.{Outcome, goes, waits, ends, fails, piece-outcome}
 
+-- where there is room the text is there
+room-text : (room most : ℕ) (text : List ℕ) → most ≤ room → text ≡ fitting room 0 most text
+unfolding fitting
+room-text room most text h = if-ge room (0 + most) [] text text (omega arith) refl
+
 -- a fault's line has room where any line has
 fault-room : (room : ℕ) (panel : Bool) (word : List ℕ) (number detail : ℕ) → mostLine panel ≤ room
     → faultLine word number detail ≡ faultIn room word number detail
-unfolding faultIn
-fault-room room panel word number detail h = if-ge room mostFault _ _ _ (omega (arith, text-room panel, line-room panel)) refl
+fault-room room panel word number detail h = room-text room mostFault _ (omega (arith, text-room panel, line-room panel))
 
 -- the last read is the one after which none is
 last-none : (reads : List (List ℕ)) → isLast reads ≡ true → flatten reads ≡ []
@@ -141,11 +146,6 @@ unfolding if_then_else_
 choice-same true x y z w p q = p refl
 choice-same false x y z w p q = q refl
 
--- the opening has room where any line has
-opening-room : (room : ℕ) (panel : Bool) (L : Layout) → mostLine panel ≤ room → opening panel L ≡ openingIn room panel L
-unfolding openingIn
-opening-room room panel L h = if-ge room (mostLine panel) _ _ _ h refl
-
 -- whatever the cutting, with room for a line and calls for every byte and every read, the program prints what is printed of the two files
 pub cut-print-same : (calls room : ℕ) (panel : Bool) (layoutFile first : List ℕ) (reads : List (List ℕ)) → mostLine panel ≤ room
     → length (flatten (first ∷ reads)) + length reads < calls
@@ -154,7 +154,7 @@ unfolding printedInCalls printed
 cut-print-same calls room panel layoutFile first reads r few =
     let L : Layout = load layoutFile .layout in
     choice-same (eqb (load layoutFile .number) 0) _ _ _ _
-    (λ t. ap₂ (λ xs ys. xs ++ ys) (sym (opening-room room panel L r))
+    (λ t. ap₂ (λ xs ys. xs ++ ys) (sym (room-text room (mostLine panel) (opening panel L) r))
     (cut-list-same (boxInRun L) panel L calls room first reads cold 0 r few
     ∙ list-asked-once panel L (flatten (first ∷ reads)) (loaded-sound layoutFile (eqb-true _ 0 t)) _ cold 0 0 cold-in-range))
     (λ t. sym (fault-room room panel layoutWord _ _ r))
