@@ -26,8 +26,8 @@ use Rattle.step_facts.proofs.Step.{step-in-range, run-step-same}
 use Rattle.event_file.specs.declared.Next.{Next}
 use Rattle.event_file.specs.declared.Next.the-variants.{Taken, Bad, Nothing}
 use Rattle.event_file.specs.Read.{eventAt}
-use Rattle.event_file.specs.Lines.{mostText, mostLine}
-use Rattle.event_file.specs.Run.{Run, nextCount}
+use Rattle.event_file.specs.Lines.{nextCount, mostText, mostLine}
+use Rattle.event_file.specs.Run.{Run}
 use Rattle.event_file.specs.List.{mostFault, layoutWord, eventsWord, faultLine, answerLine, listNext, faultIn, opening, listFrom, printed}
 use Rattle.event_file.specs.Buffer.{roomForLines, mostCalls, isLast, Onward, readOn, goOn, listInCalls, printedInCalls}
 use Rattle.event_file.proofs.PanelText.{text-room, line-room}

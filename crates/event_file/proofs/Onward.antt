@@ -19,7 +19,7 @@ use Rattle.numbers.proofs.Readings.{number-after, number-inside, fault-number}
 use Rattle.event_file.specs.declared.Next.{Next}
 use Rattle.event_file.specs.declared.Next.the-variants.{Taken, Bad, Nothing}
 use Rattle.event_file.specs.Read.{withSecond, withFirst, withKind, eventAt}
-use Rattle.event_file.specs.Run.{nextCount}
+use Rattle.event_file.specs.Lines.{nextCount}
 use Rattle.event_file.specs.List.{eventsWord, faultLine, answerLine, listNext, listFrom}
 use Rattle.event_file.proofs.Reading.{event-none}
 

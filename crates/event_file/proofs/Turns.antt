@@ -24,8 +24,9 @@ use Rattle.event_file.specs.declared.Next.{Next}
 use Rattle.event_file.specs.declared.Next.the-variants.{Taken, Bad, Nothing}
 use Rattle.event_file.specs.declared.pieces.Piece.{Piece}
 use Rattle.event_file.specs.Read.{eventAt}
-use Rattle.event_file.specs.Lines.{lineOf, mostLine}
-use Rattle.event_file.specs.Run.{Run, nextCount, stopped, took, nextOf, turnOf, after, turnRun, start, turns, pieceOf, halted, haltedBy, soFar, Went}
+use Rattle.event_file.specs.Lines.{nextCount, lineOf, mostLine}
+use Rattle.event_file.specs.List.{answerLine}
+use Rattle.event_file.specs.Run.{Run, stopped, took, nextOf, turnOf, after, turnRun, start, turns, pieceOf, halted, haltedBy, soFar, Went}
 use Rattle.numerals.specs.Writes.{Put}
 use Rattle.event_file.proofs.Next.{the-type}
 use Rattle.numerals.proofs.Writes.{put-then, put-within}
@@ -114,7 +115,7 @@ module _ (a : List ℕ) (p r : Piece) (most : ℕ) where
 taken-went : (panel : Bool) (L : Layout) (a b : List ℕ) (from m n next k : ℕ) (q r : Answer) → n ≡ m → r ≡ q
     → Put a from (lineOf panel L (r .next) n (r .number) (r .detail)) (mostLine panel) b k
     → Went a from (mostLine panel) b (soFar (r .next) n next k) (took panel L m next q)
-unfolding took soFar
+unfolding took answerLine soFar
 taken-went panel L a b from m n next k q r e f t =
     subst (λ x. Went a from (mostLine panel) b (soFar (r .next) n next k) (took panel L x next q)) e
     (subst (λ (x : Answer). Went a from (mostLine panel) b (soFar (r .next) n next k) (took panel L n next x)) f

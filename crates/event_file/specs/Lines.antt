@@ -3,7 +3,7 @@ use Prim.Native.Nat.{ℕ, _+_}
 use mathlib.Core.Bool.{Bool}
 use mathlib.Core.List.{List, [], _∷_, _++_}
 use lib.ListN.{length, getD}
-use lib.Dec.{eqb}
+use lib.Dec.{eqb, ltb}
 use Rattle.laws.specs.Choice.{if_then_else_}
 use Rattle.numerals.specs.Digits.{digits}
 use Rattle.layout.specs.declared.Layout.{Layout}
@@ -40,6 +40,10 @@ unfoldable pub spaced : ℕ → List ℕ → List ℕ
 spaced n bytes = join n (λ i. afterSpace (getD bytes i 0))
 
 -- ---- a line
+
+-- the event's number: counted as far as 64 bits go, further than any file
+unfoldable pub nextCount : ℕ → ℕ
+nextCount n = if ltb n 18446744073709551615 then n + 1 else n
 
 -- what is shown of a state: its panel image (section 7)
 unfoldable pub shown : Layout → State → List ℕ

@@ -16,8 +16,7 @@ use Rattle.step_facts.specs.Run.{Event, box}
 use Rattle.event_file.specs.declared.Next.{Next}
 use Rattle.event_file.specs.declared.Next.the-variants.{Taken, Bad, Nothing}
 use Rattle.event_file.specs.Read.{eventAt}
-use Rattle.event_file.specs.Lines.{two, lineEnd, lineOf, mostLine}
-use Rattle.event_file.specs.Run.{nextCount}
+use Rattle.event_file.specs.Lines.{two, lineEnd, nextCount, lineOf, mostLine}
 
 -- the words `layout ` and `events `, and the header `event answer detail` with its line's end
 unfoldable pub layoutWord : List ℕ

@@ -7,10 +7,10 @@ use layout::Layout;
 ghost use mathlib.Core.Path.{_≡_};
 ghost use lib.ListN.{length};
 ghost use Rattle.step_facts.specs.Run.{boxInRun};
-ghost use Rattle.event_file.specs.Lines.{mostLine};
+ghost use Rattle.event_file.specs.Lines.{nextCount, mostLine};
 ghost use Rattle.numerals.specs.Writes.{Put};
 ghost use Rattle.event_file.specs.Writes.{rest};
-ghost use Rattle.event_file.specs.Run.{nextCount, pieceOf, halted, haltedBy, soFar, Went};
+ghost use Rattle.event_file.specs.Run.{pieceOf, halted, haltedBy, soFar, Went};
 
 // How far a run came: the state, how many events there were, the place of the next one, how many bytes were written, and why it stopped.
 // 0 it did not; 1 no room for another line; 2 the next event lies past the piece's end; 3 the file's end; 21, 22 a fault, at its place.
