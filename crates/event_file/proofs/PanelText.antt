@@ -14,7 +14,7 @@ use Rattle.layout.specs.declared.Layout.{Layout}
 use Rattle.interlocking.specs.declared.State.{State}
 use Rattle.panel.specs.declared.Drawn.{Drawn}
 use Rattle.panel.specs.Panel.{join, image, refused, answer, drawn}
-use Rattle.event_file.specs.Lines.{space, lineEnd, bar, three, afterSpace, spaced, shown, panelText, lineText, lineOf, mostText, mostLine}
+use Rattle.event_file.specs.Lines.{space, lineEnd, stroke, three, afterSpace, spaced, shown, panelText, lineText, lineOf, mostText, mostLine}
 use Rattle.numerals.specs.Writes.{Put}
 use Rattle.numerals.proofs.Writes.{put-one, put-then, put-within}
 
@@ -70,13 +70,13 @@ module _ (L : Layout) (s : State) (d : Drawn) (before after : List ℕ) (e : d �
   pub shown-spaced : spaced (d .length) after ≡ spaced (length (shown L s)) (shown L s)
   shown-spaced = shown-by (eqb (answer L s 512 .number) 0) refl
 
-  -- a space, a bar, the bytes
+  -- a space, a stroke, the bytes
   pub panel-made : (a c : List ℕ) (at m : ℕ) → Put (set (set a at 32) (at + 1) 124) (at + 2) (spaced (d .length) after) (4 * d .length) c m
       → Put a at (panelText L s) 2050 c m
   unfolding panelText
   panel-made a c at m p =
       let there : at + 1 + 1 ≡ at + 2 = omega arith in
-      let two : Put a at (space ∷ bar ∷ []) 2 (set (set a at 32) (at + 1) 124) (at + 2) = rw (← there) (put-then (put-one 32) (put-one 124)) in
+      let two : Put a at (space ∷ stroke ∷ []) 2 (set (set a at 32) (at + 1) 124) (at + 2) = rw (← there) (put-then (put-one 32) (put-one 124)) in
       let room = as-said .fits in
       put-within 2050 (omega (arith, room)) (put-then two (subst (λ xs. Put (set (set a at 32) (at + 1) 124) (at + 2) xs (4 * d .length) c m) shown-spaced p))
 

@@ -10,15 +10,15 @@ use Rattle.layout.specs.declared.Layout.{Layout}
 use Rattle.interlocking.specs.declared.State.{State}
 use Rattle.panel.specs.Panel.{join, image, answer}
 
--- a space, a line's end, and the bar before a panel's bytes
+-- a space, a line's end, and the stroke before a panel's bytes
 abbrev pub space : ℕ
 space = 32
 
 abbrev pub lineEnd : ℕ
 lineEnd = 10
 
-abbrev pub bar : ℕ
-bar = 124
+abbrev pub stroke : ℕ
+stroke = 124
 
 -- a number of at most 20 digits, as every number below 2 ^ 64 is
 unfoldable pub decimal : ℕ → List ℕ
@@ -49,9 +49,9 @@ nextCount n = if ltb n 18446744073709551615 then n + 1 else n
 unfoldable pub shown : Layout → State → List ℕ
 shown L s = if eqb (answer L s 512 .number) 0 then image L s else []
 
--- after a space and a bar
+-- after a space and a stroke
 unfoldable pub panelText : Layout → State → List ℕ
-panelText L s = (space ∷ bar ∷ []) ++ spaced (length (shown L s)) (shown L s)
+panelText L s = (space ∷ stroke ∷ []) ++ spaced (length (shown L s)) (shown L s)
 
 -- event number, answer and detail, and where that is asked for the panel of the state then
 unfoldable pub lineText : Bool → Layout → State → ℕ → ℕ → ℕ → List ℕ

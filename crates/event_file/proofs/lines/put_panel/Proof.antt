@@ -1,4 +1,4 @@
--- The image is drawn, and its bytes are written after a space and a bar.
+-- The image is drawn, and its bytes are written after a space and a stroke.
 use native.Mathlib.Omega.{arith}
 use borrow.Author.Needs.{needs}
 use lib.ListN.{length-set}
