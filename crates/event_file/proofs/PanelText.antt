@@ -92,15 +92,15 @@ pub line-room : (p : Bool) → mostLine p ≡ mostText p + 1
 unfolding mostLine
 line-room p = refl
 
-module _ (p : Bool) (L : Layout) (s : State) (n x d : ℕ) (a b : List ℕ) (at m : ℕ) where
+module _ (p : Bool) (L : Layout) (s : State) (n x d : ℕ) (a b c : List ℕ) (at m k : ℕ) where
   -- without the panel
-  pub line-plain : p ≡ false → Put a at (three n x d ++ (lineEnd ∷ [])) 63 b m → Put a at (lineOf p L s n x d) (mostLine p) b m
+  pub line-plain : p ≡ false → c ≡ b → k ≡ m → Put a at (three n x d ++ (lineEnd ∷ [])) 63 b m → Put a at (lineOf p L s n x d) (mostLine p) c k
   unfolding lineOf lineText mostLine mostText if_then_else_
-  line-plain e q = rw e q
+  line-plain e f g q = rw (e, f, g) q
 
   -- with it
-  pub line-panel : p ≡ true → Put a at (lineOf true L s n x d) (mostLine true) b m → Put a at (lineOf p L s n x d) (mostLine p) b m
-  line-panel e q = rw e q
+  pub line-panel : p ≡ true → c ≡ b → k ≡ m → Put a at (lineOf true L s n x d) (mostLine true) b m → Put a at (lineOf p L s n x d) (mostLine p) c k
+  line-panel e f g q = rw (e, f, g) q
 
 -- the numbers and the end
 pub plain-made : (n x d : ℕ) (a b : List ℕ) (at m : ℕ) → Put a at (three n x d) 62 b m → Put a at (three n x d ++ (lineEnd ∷ [])) 63 (set b m 10) (m + 1)

@@ -112,8 +112,7 @@ pub fn run_piece(
     ensures { λ r. ⌜ Went (now (out .entry)) 0 (length (now (out .entry))) (now (out .exit)) r (pieceOf (boxInRun layout) panel layout last (now (bytes .entry)) (length (now (out .entry))) state count at) ⌝ }
 {
     let mut written: usize = 0;
-    let mut i: u32 = 0;
-    while i < 65536 {
+    for _ in 0u32..65536 {
         if out.len() - written < most_line(panel) {
             return halt(so_far(state, count, at, written), at, 1);
         }
@@ -131,12 +130,11 @@ pub fn run_piece(
         state = a.next;
         count = next_count(count);
         at = next;
-        i += 1;
-        if panel {
-            written = lines::put_panel_line(layout, state, count, a.number, a.detail, out, written);
-            continue;
-        }
-        written = lines::put_line(count, a.number, a.detail, out, written);
+        written = if panel {
+            lines::put_panel_line(layout, state, count, a.number, a.detail, out, written)
+        } else {
+            lines::put_line(count, a.number, a.detail, out, written)
+        };
     }
     so_far(state, count, at, written)
 }
