@@ -109,7 +109,7 @@ module _ (f : State → Event → Answer) (panel : Bool) (L : Layout) (room : �
       (piece-outcome f panel L file gone bytes (isLast reads) (flatten reads) cut (last-none reads) room r s n at h))
 
 -- the bytes of the first read and of the reads after it are the file; there are calls for every byte and every read
-pub cut-list-same : (f : State → Event → Answer) (panel : Bool) (L : Layout) (calls room : ℕ) (first : List ℕ) (reads : List (List ℕ)) (s : State) (n : ℕ)
+cut-list-same : (f : State → Event → Answer) (panel : Bool) (L : Layout) (calls room : ℕ) (first : List ℕ) (reads : List (List ℕ)) (s : State) (n : ℕ)
     → mostLine panel ≤ room → length (flatten (first ∷ reads)) + length reads < calls
     → listInCalls calls f panel L room first reads 0 s n 0
     ≡ listFrom (suc (length (flatten (first ∷ reads)))) f panel L (flatten (first ∷ reads)) s n 0

@@ -22,10 +22,11 @@ use Rattle.event_file.proofs.PanelText.{text-room, line-room}
 -- ---- a word
 
 module _ (xs a : List ℕ) (at : ℕ) where
-  -- none yet, one more, all of them
+  -- none yet
   pub word-start : Put a at (take 0 xs) 0 a (at + 0)
   word-start = record { buffer = refl; place = refl; near = omega arith; long = refl }
 
+  -- one more byte
   pub word-on : (b : List ℕ) (i v : ℕ) → i < length xs → Put a at (take i xs) i b (at + i) → v ≡ getD xs i 0
       → Put a at (take (i + 1) xs) (i + 1) (set b (at + i) v) (at + (i + 1))
   word-on b i v h p e =
@@ -34,6 +35,7 @@ module _ (xs a : List ℕ) (at : ℕ) where
       ap (λ k. take k xs) (add-one i) ∙ take-suc xs i 0 h ∙ ap (λ x. take i xs ++ (x ∷ [])) (sym e) in
       rw (there, grown) (put-then p (put-one v))
 
+  -- all of them
   pub word-end : (b : List ℕ) (i n : ℕ) → n ≡ length xs → i ≤ n → n ≤ i → Put a at (take i xs) i b (at + i) → Put a at xs (length xs) b (at + i)
   word-end b i n e h k p =
       let all : i ≡ length xs = omega arith in
@@ -80,10 +82,11 @@ module _ (L : Layout) (a b : List ℕ) (m : ℕ) where
         put-room a 0 (mostLine p) (opening p L) b m (omega (arith, e))
         (rw t (put-within (mostLine false) (omega (arith, text-room false, line-room false)) q))
 
--- a buffer with room for a line has room for either
+-- with the panel, room for a line is room for the cold start's
 pub cold-room : (p : Bool) (v n : ℕ) → v ≡ mostLine p → v ≤ n → p ≡ true → mostLine true ≤ n
 cold-room p v n e h t = rw (← t) (omega (arith, e))
 
+-- the header is shorter than any line
 pub header-room : (p : Bool) (v n : ℕ) → v ≡ mostLine p → v ≤ n → 20 ≤ n
 header-room p v n e h = omega (arith, e, text-room p, line-room p)
 

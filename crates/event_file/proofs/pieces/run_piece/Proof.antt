@@ -23,15 +23,17 @@ Inv-loop panel layout state₀ count₀ bytes at₀ last out₀ written₀ turn�
 abbrev μ-loop : tie.MeasureT-loop
 μ-loop panel layout state₀ count₀ bytes at₀ last out₀ written₀ turn₀ state count at out written turn = turns - turn
 
+-- no turn is made yet
 loop-holds : tie.Need-loop-holds Inv-loop μ-loop
 loop-holds c = (omega arith, search runs)
 
--- a line that has room, with the panel or without
+-- a line that has room, with the panel
 put-panel-line-requires : tie.Need-put-panel-line-requires Inv-loop μ-loop
 put-panel-line-requires c κs =
     let asked = c .before .before .before .before .before .before .before .before .before in
     omega (arith, asked .if1 .left, asked .before .most-line .ensures, most-panel _ (c .before .if2 .taken), most-panel true refl)
 
+-- without it
 put-line-requires : tie.Need-put-line-requires Inv-loop μ-loop
 put-line-requires c κs =
     let asked = c .before .before .before .before .before .before .before .before .before in
