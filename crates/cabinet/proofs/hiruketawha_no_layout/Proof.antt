@@ -1,5 +1,6 @@
 -- `cabinet::hiruketawha_no_layout` meets its contract: what `layout::no_layout` makes is stored over the layout that is lent.
 -- Assumes nothing.
+use mathlib.Core.Path.{refl}
 use contract.Running.{givenOf, tables, tablesOf}
 use denote.Triple.Spec.{tripleOf}
 use denote.Triple.Table.{entered, cited}
@@ -19,5 +20,6 @@ unfolding code.routine tablesOf
 hiruketawha-no-layout-spec 𝓤 H 𝓜 𝓖 𝓡 =
     entered 𝓤 H (tripleOf 𝓤 H (𝓖 .A) entry.signature (entry.spec 𝓤 H (𝓖 .A) (𝓜 .mem) (𝓡 .run)))
     (tables 𝓤 H 𝓜 𝓡 code.env .C) (tables 𝓤 H 𝓜 𝓡 code.env .Λ) name code.function (code.unfolded 𝓤 H 𝓜 𝓡)
-    (stored L.the-type L′.the-laws L′.the-plain noLayout maker.name 𝓤 H (𝓖 .A) (givenOf 𝓤 H 𝓜 𝓖) (tablesOf 𝓤 H 𝓜 (tables 𝓤 H 𝓜 𝓡 code.env))
+    (stored L.the-type L′.the-laws L′.the-plain noLayout maker.name 𝓤 H (𝓖 .A) (givenOf 𝓤 H 𝓜 𝓖)
+    (entry.clauses 𝓤 H (𝓖 .A) (𝓜 .mem) (𝓡 .run)) refl (tablesOf 𝓤 H 𝓜 (tables 𝓤 H 𝓜 𝓡 code.env))
     (cited 𝓤 H (Maker L.the-type noLayout 𝓤 H (𝓖 .A)) 𝓜 𝓡 code.env maker.name maker.routine code.calls-layout·no-layout (maker-thm.met 𝓤 H 𝓜 𝓖 𝓡)))
