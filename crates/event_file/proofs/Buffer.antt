@@ -11,6 +11,7 @@ use lib.ListN.{length, take, drop, length-append, length-drop, take-append-drop}
 use lib.Seq.{length-take-le}
 use Rattle.laws.specs.Choice.{if_then_else_}
 use Rattle.laws.proofs.Choice.{if-lt, if-ge, if-eq, if-ne}
+use Rattle.numerals.specs.Digits.{fitting}
 use Rattle.layout.specs.declared.Layout.{Layout}
 use Rattle.layout.specs.Sound.{sound}
 use Rattle.layout.specs.Load.{load}
@@ -18,22 +19,30 @@ use Rattle.layout_facts.proofs.Loaded.{loaded-sound}
 use Rattle.interlocking.specs.declared.State.{State}
 use Rattle.interlocking.specs.declared.Answer.{Answer}
 use Rattle.interlocking.specs.State.{inRange, cold}
+use Rattle.interlocking.specs.Step.{step}
 use Rattle.step_facts.specs.Run.{Event, box, boxInRun}
 use Rattle.step_facts.proofs.Range.{cold-in-range}
-use Rattle.event_file.specs.Lines.{mostText, mostLine}
-use Rattle.event_file.specs.Run.{Run, pieceOf}
-use Rattle.event_file.specs.List.{mostFault, layoutWord, eventsWord, faultLine, faultIn, opening, openingIn, listFrom, printed}
+use Rattle.step_facts.proofs.Step.{step-in-range, run-step-same}
+use Rattle.event_file.specs.declared.Next.{Next}
+use Rattle.event_file.specs.declared.Next.the-variants.{Taken, Bad, Nothing}
+use Rattle.event_file.specs.Read.{eventAt}
+use Rattle.event_file.specs.Lines.{nextCount, mostText, mostLine}
+use Rattle.event_file.specs.Run.{Run}
+use Rattle.event_file.specs.List.{mostFault, layoutWord, eventsWord, faultLine, answerLine, listNext, faultIn, opening, listFrom, printed}
 use Rattle.event_file.specs.Buffer.{roomForLines, mostCalls, isLast, Onward, readOn, goOn, listInCalls, printedInCalls}
 use Rattle.event_file.proofs.PanelText.{text-room, line-room}
-use Rattle.event_file.proofs.AskedOnce.{piece-same, piece-ranged}
 use Rattle.event_file.proofs.Onward.{fromPlace}
 use Rattle.event_file.proofs.Outcomes.{Outcome, goes, waits, ends, fails, piece-outcome}
+
+-- where there is room the text is there
+room-text : (room most : ℕ) (text : List ℕ) → most ≤ room → text ≡ fitting room 0 most text
+unfolding fitting
+room-text room most text h = if-ge room (0 + most) [] text text (omega arith) refl
 
 -- a fault's line has room where any line has
 fault-room : (room : ℕ) (panel : Bool) (word : List ℕ) (number detail : ℕ) → mostLine panel ≤ room
     → faultLine word number detail ≡ faultIn room word number detail
-unfolding faultIn
-fault-room room panel word number detail h = if-ge room mostFault _ _ _ (omega (arith, text-room panel, line-room panel)) refl
+fault-room room panel word number detail h = room-text room mostFault _ (omega (arith, text-room panel, line-room panel))
 
 -- the last read is the one after which none is
 last-none : (reads : List (List ℕ)) → isLast reads ≡ true → flatten reads ≡ []
@@ -100,7 +109,7 @@ module _ (f : State → Event → Answer) (panel : Bool) (L : Layout) (room : �
       (piece-outcome f panel L file gone bytes (isLast reads) (flatten reads) cut (last-none reads) room r s n at h))
 
 -- the bytes of the first read and of the reads after it are the file; there are calls for every byte and every read
-pub cut-list-same : (f : State → Event → Answer) (panel : Bool) (L : Layout) (calls room : ℕ) (first : List ℕ) (reads : List (List ℕ)) (s : State) (n : ℕ)
+cut-list-same : (f : State → Event → Answer) (panel : Bool) (L : Layout) (calls room : ℕ) (first : List ℕ) (reads : List (List ℕ)) (s : State) (n : ℕ)
     → mostLine panel ≤ room → length (flatten (first ∷ reads)) + length reads < calls
     → listInCalls calls f panel L room first reads 0 s n 0
     ≡ listFrom (suc (length (flatten (first ∷ reads)))) f panel L (flatten (first ∷ reads)) s n 0
@@ -110,32 +119,24 @@ cut-list-same f panel L calls room first reads s n r few =
 
 -- ---- the step that is asked for soundness once
 
-module _ (panel : Bool) (L : Layout) (room : ℕ) (h : sound L ≡ true) where
-  -- from a state in range both print the same
-  abbrev Agree : Onward → Onward → Type 0
-  Agree on other = (bytes : List ℕ) (reads : List (List ℕ)) (before : ℕ) (s : State) (n at : ℕ) → inRange s ≡ true
-      → on bytes reads before s n at ≡ other bytes reads before s n at
+module _ (panel : Bool) (L : Layout) (file : List ℕ) (h : sound L ≡ true) where
+  -- an answer of the one is an answer of the other, and leaves a state in range for what follows it
+  next-asked-once : (rest other : State → ℕ → List ℕ) → ((t : State) (next : ℕ) → inRange t ≡ true → rest t next ≡ other t next)
+      → (s : State) (n : ℕ) (x : Next) → inRange s ≡ true → listNext (boxInRun L) panel L s n rest x ≡ listNext (box L) panel L s n other x
+  unfolding listNext box boxInRun
+  next-asked-once rest other same s n (Taken kind first second next) e =
+      rw (run-step-same L s kind first second h e)
+      (ap (λ xs. answerLine panel L n (step L s kind first second) ++ xs) (same _ next (step-in-range L s kind first second e)))
+  next-asked-once rest other same s n (Bad number at) e = refl
+  next-asked-once rest other same s n Nothing e = refl
 
-  module _ (on other : Onward) (agree : Agree on other) (bytes : List ℕ) (before : ℕ) (g : Run) (e : inRange (g .state) ≡ true) where
-    -- with the next read
-    read-agrees : (reads : List (List ℕ)) → readOn on bytes reads before g ≡ readOn other bytes reads before g
-    unfolding readOn
-    read-agrees [] = refl
-    read-agrees (r ∷ reads) = agree (drop (g .at) bytes ++ r) reads (before + g .at) (g .state) (g .count) 0 e
-
-    -- after any call
-    on-agrees : (reads : List (List ℕ)) → goOn room on bytes reads before g ≡ goOn room other bytes reads before g
-    unfolding goOn
-    on-agrees reads = rw (agree bytes reads before (g .state) (g .count) (g .at) e, read-agrees reads)
-
-  -- the piece is the same, and its state is in range for the next
-  calls-agree : (calls : ℕ) → Agree (listInCalls calls (boxInRun L) panel L room) (listInCalls calls (box L) panel L room)
-  unfolding listInCalls
-  calls-agree zero bytes reads before s n at e = refl
-  calls-agree (suc calls) bytes reads before s n at e =
-      let g : Run = pieceOf (box L) panel L (isLast reads) bytes room s n at in
-      rw (piece-same panel L (isLast reads) bytes h room s n at e)
-      (ap (λ xs. g .text ++ xs) (on-agrees _ _ (calls-agree calls) bytes before g (piece-ranged panel L (isLast reads) bytes h room s n at e) reads))
+  -- so both print the same list, by the events that are allowed
+  list-asked-once : (most : ℕ) (s : State) (n at : ℕ) → inRange s ≡ true
+      → listFrom most (boxInRun L) panel L file s n at ≡ listFrom most (box L) panel L file s n at
+  unfolding listFrom
+  list-asked-once zero s n at e = refl
+  list-asked-once (suc most) s n at e =
+      next-asked-once _ _ (λ t next. list-asked-once most t (nextCount n) next) s (nextCount n) (eventAt file at) e
 
 -- ---- all that is printed
 
@@ -145,11 +146,6 @@ unfolding if_then_else_
 choice-same true x y z w p q = p refl
 choice-same false x y z w p q = q refl
 
--- the opening has room where any line has
-opening-room : (room : ℕ) (panel : Bool) (L : Layout) → mostLine panel ≤ room → opening panel L ≡ openingIn room panel L
-unfolding openingIn
-opening-room room panel L h = if-ge room (mostLine panel) _ _ _ h refl
-
 -- whatever the cutting, with room for a line and calls for every byte and every read, the program prints what is printed of the two files
 pub cut-print-same : (calls room : ℕ) (panel : Bool) (layoutFile first : List ℕ) (reads : List (List ℕ)) → mostLine panel ≤ room
     → length (flatten (first ∷ reads)) + length reads < calls
@@ -158,9 +154,9 @@ unfolding printedInCalls printed
 cut-print-same calls room panel layoutFile first reads r few =
     let L : Layout = load layoutFile .layout in
     choice-same (eqb (load layoutFile .number) 0) _ _ _ _
-    (λ t. ap₂ (λ xs ys. xs ++ ys) (sym (opening-room room panel L r))
-    (calls-agree panel L room (loaded-sound layoutFile (eqb-true _ 0 t)) calls first reads 0 cold 0 0 cold-in-range
-    ∙ cut-list-same (box L) panel L calls room first reads cold 0 r few))
+    (λ t. ap₂ (λ xs ys. xs ++ ys) (sym (room-text room (mostLine panel) (opening panel L) r))
+    (cut-list-same (boxInRun L) panel L calls room first reads cold 0 r few
+    ∙ list-asked-once panel L (flatten (first ∷ reads)) (loaded-sound layoutFile (eqb-true _ 0 t)) _ cold 0 0 cold-in-range))
     (λ t. sym (fault-room room panel layoutWord _ _ r))
 
 -- the program's buffer has room for every line

@@ -96,17 +96,19 @@ module _ (front s : List ℕ) where
 
   -- ---- an event
 
-  -- the third number of an event, then the second with it, then the first
+  -- the third number of an event
   second-further : (kind first : ℕ) (n : Number) → withSecond kind first (further (length front) n) ≡ furtherNext (length front) (withSecond kind first n)
   unfolding withSecond
   second-further kind first (Value value next) = refl
   second-further kind first (Fault number at) = refl
 
+  -- the second, with the third behind it
   first-further : (kind : ℕ) (n : Number) → withFirst (front ++ s) kind (further (length front) n) ≡ furtherNext (length front) (withFirst s kind n)
   unfolding withFirst
   first-further kind (Value value next) = ap (withSecond kind value) (number-further next) ∙ second-further kind value (numberAt s next)
   first-further kind (Fault number at) = refl
 
+  -- the first, with both behind it
   kind-further : (n : Number) → withKind (front ++ s) (further (length front) n) ≡ furtherNext (length front) (withKind s n)
   unfolding withKind
   kind-further (Value value next) = ap (withFirst (front ++ s) value) (number-further next) ∙ first-further value (numberAt s next)

@@ -9,6 +9,5 @@ pub mod Prefix
 pub mod Further
 pub mod Onward
 pub mod Outcomes
-pub mod AskedOnce
 pub mod Buffer
 pub mod Unique

@@ -8,7 +8,6 @@ use lib.ListN.{length, getD, set, length-set}
 use Rattle.numerals.specs.Digits.{digits}
 use Rattle.numerals.specs.Writes.{Put}
 use Rattle.numerals.proofs.Writes.{put-none, put-one, put-then}
-use Rattle.numerals.proofs.Numerals.{put-fitting}
 use Rattle.panel.specs.Panel.{join}
 use Rattle.panel.specs.Writes.{Wrote}
 use Rattle.panel.proofs.Writes.{join-on}
@@ -21,14 +20,17 @@ put-wrote p = record { buffer = p .buffer; place = p .place }
 -- ---- numbers with a space between
 
 module _ (a b : List ℕ) (at m : ℕ) where
+  -- a number, a space, a number
   pub put-two-made : (c : List ℕ) (x y n : ℕ) → Put a at (digits 20 x) 20 b m → Put (set b m 32) (m + 1) (digits 20 y) 20 c n → Put a at (two x y) 41 c n
   unfolding two decimal
   put-two-made c x y n p q = put-then (put-then p (put-one 32)) q
 
+  -- a number, a space, two numbers
   pub put-three-made : (c : List ℕ) (x y z n : ℕ) → Put a at (digits 20 x) 20 b m → Put (set b m 32) (m + 1) (two y z) 41 c n → Put a at (three x y z) 62 c n
   unfolding three decimal
   put-three-made c x y z n p q = put-then (put-then p (put-one 32)) q
 
+  -- a space, a byte
   pub put-spaced-made : (x : ℕ) → Put (set a at 32) (at + 1) (digits 3 x) 3 b m → Put a at (afterSpace x) 4 b m
   unfolding afterSpace
   put-spaced-made x p = put-then (put-one 32) p
@@ -36,24 +38,29 @@ module _ (a b : List ℕ) (at m : ℕ) where
 -- ---- the buffer's length, past single bytes
 
 module _ (b c xs : List ℕ) (at most n k x : ℕ) where
+  -- a byte is stored, then text is written
   pub long-set : Put (set b k x) at xs most c n → length c ≡ length b
   long-set p = p .long ∙ length-set b k x
 
+  -- text, a byte, text
   pub long-set-then : (a ys : List ℕ) (from i m : ℕ) → Put a from ys i b m → Put (set b k x) at xs most c n → length c ≡ length a
   long-set-then a ys from i m q p = long-set p ∙ q .long
 
+  -- two bytes, text
   pub long-sets : (j y : ℕ) → Put (set (set b k x) j y) at xs most c n → length c ≡ length b
   long-sets j y p = p .long ∙ length-set (set b k x) j y ∙ length-set b k x
 
-pub ruleset numerals = (needs, long-set, long-set-then, long-sets, put-fitting, put-two-made, put-three-made, put-spaced-made)
+pub ruleset numerals = (needs, long-set, long-set-then, long-sets, put-two-made, put-three-made, put-spaced-made)
 
 -- ---- the bytes of a panel
 
 module _ (a bytes : List ℕ) (at : ℕ) where
+  -- none yet
   pub bytes-start : Put a at (spaced 0 bytes) (4 * 0) a at
   unfolding spaced join
   bytes-start = put-none 0
 
+  -- one more, behind those before it
   pub bytes-on : (b c : List ℕ) (i m n : ℕ) → Put a at (spaced i bytes) (4 * i) b m → Put b m (afterSpace (getD bytes i 0)) 4 c n
       → Put a at (spaced (i + 1) bytes) (4 * (i + 1)) c n
   unfolding spaced
@@ -62,6 +69,7 @@ module _ (a bytes : List ℕ) (at : ℕ) where
       let both = put-then p q in
       record { buffer = w .buffer; place = w .place; near = omega (arith, both .near); long = both .long }
 
+  -- all of them
   pub bytes-end : (b : List ℕ) (i n m : ℕ) → Put a at (spaced i bytes) (4 * i) b m → i ≤ n → n ≤ i → Put a at (spaced n bytes) (4 * n) b m
   bytes-end b i n m p g h = let e : n ≡ i = omega arith in rw e p
 

@@ -19,7 +19,7 @@ use Rattle.numbers.proofs.Readings.{number-after, number-inside, fault-number}
 use Rattle.event_file.specs.declared.Next.{Next}
 use Rattle.event_file.specs.declared.Next.the-variants.{Taken, Bad, Nothing}
 use Rattle.event_file.specs.Read.{withSecond, withFirst, withKind, eventAt}
-use Rattle.event_file.specs.Run.{nextCount}
+use Rattle.event_file.specs.Lines.{nextCount}
 use Rattle.event_file.specs.List.{eventsWord, faultLine, answerLine, listNext, listFrom}
 use Rattle.event_file.proofs.Reading.{event-none}
 
@@ -42,12 +42,14 @@ module _ (file : List ℕ) where
   second-past at kind first place (Value value next) h e = (omega (arith, number-after file place e refl), number-inside file place e refl)
   second-past at kind first place (Fault number p) h e = fault-past place e
 
+  -- the second, with the third behind it
   first-past : (at kind place : ℕ) (n : Number) → at ≤ place → n ≡ numberAt file place → Past at (withFirst file kind n)
   unfolding withFirst
   first-past at kind place (Value value next) h e =
       second-past at kind value next (numberAt file next) (omega (arith, number-after file place e refl)) refl
   first-past at kind place (Fault number p) h e = fault-past place e
 
+  -- the first, with both behind it
   kind-past : (at place : ℕ) (n : Number) → at ≤ place → n ≡ numberAt file place → Past at (withKind file n)
   unfolding withKind
   kind-past at place (Value value next) h e =
@@ -88,7 +90,7 @@ module _ (file : List ℕ) where
     fromPlace s n at = listFrom (suc (length file)) f panel L file s n at
 
     module _ (s : State) (n at : ℕ) where
-      -- it begins with the line of the event there, with the fault there, or it is empty
+      -- it begins with the line of the event there
       pub from-taken : (kind first second next : ℕ) → eventAt file at ≡ Taken kind first second next
           → let r : Answer = f s (record { kind = kind; first = first; second = second }) in
           fromPlace s n at ≡ answerLine panel L (nextCount n) r ++ fromPlace (r .next) (nextCount n) next
@@ -98,10 +100,12 @@ module _ (file : List ℕ) where
           let p : Past at (Taken kind first second next) = subst (Past at) e (event-past at) in
           rw e (ap (λ xs. answerLine panel L (nextCount n) r ++ xs) (sym (one-more (length file) (r .next) (nextCount n) next (omega (arith, p .0)))))
 
+      -- it is the line of the fault there
       pub from-bad : (number place : ℕ) → eventAt file at ≡ Bad number place → fromPlace s n at ≡ faultLine eventsWord number place
       unfolding listFrom listNext
       from-bad number place e = rw e
 
+      -- it is empty
       pub from-none : eventAt file at ≡ Nothing → fromPlace s n at ≡ []
       unfolding listFrom listNext
       from-none e = rw e

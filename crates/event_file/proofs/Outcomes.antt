@@ -21,7 +21,7 @@ use Rattle.event_file.specs.declared.Next.the-variants.{Taken, Bad, Noth
 use Rattle.event_file.specs.Read.{eventAt}
 use Rattle.event_file.specs.Lines.{mostLine}
 use Rattle.event_file.specs.Run.{Run, stopped, took, nextOf, turnOf, after, turnRun, start, pieceOf}
-use Rattle.event_file.specs.List.{eventsWord, faultLine, answerLine}
+use Rattle.event_file.specs.List.{eventsWord, faultLine}
 use Rattle.event_file.proofs.Reading.{event-none}
 use Rattle.event_file.proofs.Turns.{both-fail}
 use Rattle.event_file.proofs.Prefix.{event-same}
@@ -48,7 +48,7 @@ module _ (f : State → Event → Answer) (panel : Bool) (L : Layout) (file gone
     -- what stands at a place of the buffer is read alike in the whole file
     read-outcome : (x : Next) → Past bytes at x → eventAt file (length gone + at) ≡ furtherNext (length gone) x
         → Outcome s n at (suc at) (nextOf f panel L true s n at x)
-    unfolding nextOf took stopped answerLine if_then_else_
+    unfolding nextOf took stopped if_then_else_
     read-outcome (Taken kind first second next) p e =
         goes (omega arith) (p .0) (p .1) (from-taken file f panel L s n (length gone + at) kind first second (length gone + next) e)
     read-outcome (Bad number place) p e =

@@ -14,22 +14,25 @@ use Rattle.layout.specs.declared.Layout.{Layout}
 use Rattle.interlocking.specs.declared.State.{State}
 use Rattle.panel.specs.declared.Drawn.{Drawn}
 use Rattle.panel.specs.Panel.{join, image, refused, answer, drawn}
-use Rattle.event_file.specs.Lines.{space, lineEnd, bar, three, afterSpace, spaced, shown, panelText, lineText, lineOf, mostText, mostLine}
+use Rattle.event_file.specs.Lines.{space, lineEnd, stroke, three, afterSpace, spaced, shown, panelText, lineText, lineOf, mostText, mostLine}
 use Rattle.numerals.specs.Writes.{Put}
 use Rattle.numerals.proofs.Writes.{put-one, put-then, put-within}
 
 -- ---- what a panel's answer says of its length
 
+-- no more than there is room for; the whole image with answer 0, and nothing else
 record Said (L : Layout) (s : State) (room : ℕ) (d : Drawn) : Type 0 where
   pub fits : d .length ≤ room
   pub whole : d .number ≡ 0 → d .length ≡ length (image L s)
   pub none : (d .number ≡ 0 → ⊥) → d .length ≡ 0
 
 module _ (L : Layout) (s : State) (room : ℕ) where
+  -- a refusal draws nothing
   said-refused : (number : ℕ) → (number ≡ 0 → ⊥) → Said L s room (refused number)
   unfolding refused
   said-refused number h = record { fits = omega arith; whole = λ e. absurd (h e); none = λ e. refl }
 
+  -- refused for soundness, refused for room, or drawn
   answer-says : Said L s room (answer L s room)
   unfolding answer
   answer-says =
@@ -43,20 +46,24 @@ drawn-fits L s room d e = rw e (answer-says L s room .fits)
 
 -- ---- the bytes that are drawn, as text
 
+-- pieces that are the same one by one
 join-same : (n : ℕ) (f g : ℕ → List ℕ) → ((k : ℕ) → k < n → f k ≡ g k) → join n f ≡ join n g
 unfolding join
 join-same zero f g h = refl
 join-same (suc n) f g h = ap₂ (λ xs ys. xs ++ ys) (join-same n f g (λ k l. h k (omega arith))) (h n (omega arith))
 
+-- only the first bytes are read
 spaced-front : (xs ys : List ℕ) → spaced (length xs) (xs ++ ys) ≡ spaced (length xs) xs
 unfolding spaced
 spaced-front xs ys = join-same (length xs) _ _ (λ k l. ap afterSpace (List·getD-append xs ys 0 k l))
 
+-- no bytes are read
 spaced-none : (n : ℕ) (xs ys : List ℕ) → n ≡ 0 → spaced n xs ≡ spaced 0 ys
 unfolding spaced join
 spaced-none n xs ys e = rw e
 
 module _ (L : Layout) (s : State) (d : Drawn) (before after : List ℕ) (e : d ≡ answer L s 512) (n : length before ≡ 512) (f : after ≡ drawn L s before) where
+  -- the answer with 512 bytes of room
   as-said : Said L s 512 d
   as-said = rw e (answer-says L s 512)
 
@@ -67,16 +74,17 @@ module _ (L : Layout) (s : State) (d : Drawn) (before after : List ℕ) (e : d �
       rw (f, n, q, as-said .whole (ap (λ (r : Drawn). r .number) e ∙ eqb-true _ 0 q)) (spaced-front (image L s) (drop (length (image L s)) before))
   shown-by false q = rw q (spaced-none (d .length) after [] (as-said .none (λ z. eqb-false _ 0 q (sym (ap (λ (r : Drawn). r .number) e) ∙ z))))
 
-  pub shown-spaced : spaced (d .length) after ≡ spaced (length (shown L s)) (shown L s)
+  -- so the text is that of what is shown
+  shown-spaced : spaced (d .length) after ≡ spaced (length (shown L s)) (shown L s)
   shown-spaced = shown-by (eqb (answer L s 512 .number) 0) refl
 
-  -- a space, a bar, the bytes
+  -- a space, a stroke, the bytes
   pub panel-made : (a c : List ℕ) (at m : ℕ) → Put (set (set a at 32) (at + 1) 124) (at + 2) (spaced (d .length) after) (4 * d .length) c m
       → Put a at (panelText L s) 2050 c m
   unfolding panelText
   panel-made a c at m p =
       let there : at + 1 + 1 ≡ at + 2 = omega arith in
-      let two : Put a at (space ∷ bar ∷ []) 2 (set (set a at 32) (at + 1) 124) (at + 2) = rw (← there) (put-then (put-one 32) (put-one 124)) in
+      let two : Put a at (space ∷ stroke ∷ []) 2 (set (set a at 32) (at + 1) 124) (at + 2) = rw (← there) (put-then (put-one 32) (put-one 124)) in
       let room = as-said .fits in
       put-within 2050 (omega (arith, room)) (put-then two (subst (λ xs. Put (set (set a at 32) (at + 1) 124) (at + 2) xs (4 * d .length) c m) shown-spaced p))
 
@@ -88,19 +96,20 @@ unfolding mostText if_then_else_
 text-room true = omega arith
 text-room false = omega arith
 
+-- and one byte more, for its end
 pub line-room : (p : Bool) → mostLine p ≡ mostText p + 1
 unfolding mostLine
 line-room p = refl
 
-module _ (p : Bool) (L : Layout) (s : State) (n x d : ℕ) (a b : List ℕ) (at m : ℕ) where
+module _ (p : Bool) (L : Layout) (s : State) (n x d : ℕ) (a b c : List ℕ) (at m k : ℕ) where
   -- without the panel
-  pub line-plain : p ≡ false → Put a at (three n x d ++ (lineEnd ∷ [])) 63 b m → Put a at (lineOf p L s n x d) (mostLine p) b m
+  pub line-plain : p ≡ false → c ≡ b → k ≡ m → Put a at (three n x d ++ (lineEnd ∷ [])) 63 b m → Put a at (lineOf p L s n x d) (mostLine p) c k
   unfolding lineOf lineText mostLine mostText if_then_else_
-  line-plain e q = rw e q
+  line-plain e f g q = rw (e, f, g) q
 
   -- with it
-  pub line-panel : p ≡ true → Put a at (lineOf true L s n x d) (mostLine true) b m → Put a at (lineOf p L s n x d) (mostLine p) b m
-  line-panel e q = rw e q
+  pub line-panel : p ≡ true → c ≡ b → k ≡ m → Put a at (lineOf true L s n x d) (mostLine true) b m → Put a at (lineOf p L s n x d) (mostLine p) c k
+  line-panel e f g q = rw (e, f, g) q
 
 -- the numbers and the end
 pub plain-made : (n x d : ℕ) (a b : List ℕ) (at m : ℕ) → Put a at (three n x d) 62 b m → Put a at (three n x d ++ (lineEnd ∷ [])) 63 (set b m 10) (m + 1)
@@ -112,11 +121,12 @@ pub panel-line-made : (L : Layout) (s : State) (n x d : ℕ) (a b c : List ℕ) 
 unfolding lineOf lineText mostLine mostText if_then_else_
 panel-line-made L s n x d a b c at m k q r = put-then (put-then q r) (put-one 10)
 
--- the most bytes of a line with the panel, and without
+-- the most bytes of a line with the panel
 pub most-panel : (p : Bool) → p ≡ true → 2113 ≡ mostLine p
 unfolding mostLine mostText if_then_else_
 most-panel p e = rw e
 
+-- without it
 pub most-plain : (p : Bool) → p ≡ false → 63 ≡ mostLine p
 unfolding mostLine mostText if_then_else_
 most-plain p e = rw e

@@ -20,26 +20,30 @@ use Rattle.event_file.specs.Read.{withSecond, withFirst, withKind, event
 abbrev Kept : Number → Number → Type 0
 Kept n m = ((place : ℕ) × (n ≡ Fault 21 place)) ⊎ (n ≡ m)
 
+-- and so for what stands at a place of an event file
 abbrev Same : Next → Next → Type 0
 Same n m = ((place : ℕ) × (n ≡ Bad 21 place)) ⊎ (n ≡ m)
 
 -- ---- a number
 
+-- 21 in the groups above is 21 of the whole number
 joined-kept : (first low : ℕ) (n m : Number) → Kept n m → Kept (joined first low n) (joined first low m)
 unfolding joined
 joined-kept first low n m (inl e) = inl (e .0, rw (e .1))
 joined-kept first low n m (inr e) = inr (ap (joined first low) e)
 
+-- the limit leaves 21 as it is
 most-kept : (first limit : ℕ) (n m : Number) → Kept n m → Kept (atMost first limit n) (atMost first limit m)
 unfolding atMost
 most-kept first limit n m (inl e) = inl (e .0, rw (e .1))
 most-kept first limit n m (inr e) = inr (ap (atMost first limit) e)
 
 module _ (xs ys : List ℕ) (first : ℕ) where
-  -- a place inside the prefix is one inside the whole, with the same byte
+  -- a place inside the prefix is one inside the whole
   inside : (at : ℕ) → ltb at (length xs) ≡ true → ltb at (length (xs ++ ys)) ≡ true
   inside at e = lt-ltb at _ (omega (arith, length-append xs ys, ltb-true at (length xs) e))
 
+  -- and has the same byte there
   same-byte : (at : ℕ) → ltb at (length xs) ≡ true → getD (xs ++ ys) at 0 ≡ getD xs at 0
   same-byte at e = List·getD-append xs ys 0 at (ltb-true at (length xs) e)
 
@@ -58,29 +62,34 @@ module _ (xs ys : List ℕ) (first : ℕ) where
   by-place k at true e rest = rw (e, inside at e, same-byte at e) (by-byte k at (getD xs at 0) (ltb (getD xs at 0) 128) rest)
   by-place k at false e rest = rw e (inl (first, refl))
 
+  -- by the bytes that a number may still take
   groups-kept : (k at : ℕ) → Kept (groupsAt k xs first at) (groupsAt k (xs ++ ys) first at)
   unfolding groupsAt
   groups-kept zero at = inr refl
   groups-kept (suc k) at = by-place k at (ltb at (length xs)) refl (groups-kept k (at + 1))
 
+-- a whole number
 number-kept : (xs ys : List ℕ) (at : ℕ) → Kept (numberAt xs at) (numberAt (xs ++ ys) at)
 unfolding numberAt
 number-kept xs ys at = most-kept at largest _ _ (groups-kept xs ys at maxGroups at)
 
 -- ---- an event
 
+-- 21 in the third number is 21 of the event
 second-same : (kind first : ℕ) (n m : Number) → Kept n m → Same (withSecond kind first n) (withSecond kind first m)
 unfolding withSecond
 second-same kind first n m (inl e) = inl (e .0, rw (e .1))
 second-same kind first n m (inr e) = inr (ap (withSecond kind first) e)
 
 module _ (xs ys : List ℕ) where
+  -- in the second, or in what follows it
   first-same : (kind : ℕ) (n m : Number) → Kept n m → Same (withFirst xs kind n) (withFirst (xs ++ ys) kind m)
   unfolding withFirst
   first-same kind n m (inl e) = inl (e .0, rw (e .1))
   first-same kind (Value v next) m (inr e) = rw (← e) (second-same kind v _ _ (number-kept xs ys next))
   first-same kind (Fault v place) m (inr e) = rw (← e) (inr refl)
 
+  -- in the first, or in what follows it
   kind-same : (n m : Number) → Kept n m → Same (withKind xs n) (withKind (xs ++ ys) m)
   unfolding withKind
   kind-same n m (inl e) = inl (e .0, rw (e .1))

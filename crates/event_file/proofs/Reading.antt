@@ -18,39 +18,47 @@ pub read-small : (file : List ℕ) (at : ℕ) (n : Number) → n ≡ numberAt fi
 read-small file at n e value next f = number-most file at e f
 
 module _ (n : Number) (kind first : ℕ) where
+  -- the third number is there
   pub second-taken : {second next : ℕ} → n ≡ Value second next → Taken kind first second next ≡ withSecond kind first n
   unfolding withSecond
   second-taken e = rw e
 
+  -- it is a fault
   pub second-bad : {number at : ℕ} → n ≡ Fault number at → Bad number at ≡ withSecond kind first n
   unfolding withSecond
   second-bad e = rw e
 
 module _ (file : List ℕ) (n : Number) (kind : ℕ) where
+  -- the second number is there, and what follows it is read behind it
   pub first-taken : {first next : ℕ} (m : Number) (r : Next) → n ≡ Value first next → m ≡ numberAt file next → r ≡ withSecond kind first m
       → r ≡ withFirst file kind n
   unfolding withFirst
   first-taken m r e f q = rw (e, ← f) q
 
+  -- it is a fault
   pub first-bad : {number at : ℕ} → n ≡ Fault number at → Bad number at ≡ withFirst file kind n
   unfolding withFirst
   first-bad e = rw e
 
 module _ (file : List ℕ) (n : Number) where
+  -- the first number is there, and what follows it is read behind it
   pub kind-taken : {kind next : ℕ} (m : Number) (r : Next) → n ≡ Value kind next → m ≡ numberAt file next → r ≡ withFirst file kind m
       → r ≡ withKind file n
   unfolding withKind
   kind-taken m r e f q = rw (e, ← f) q
 
+  -- it is a fault
   pub kind-bad : {number at : ℕ} → n ≡ Fault number at → Bad number at ≡ withKind file n
   unfolding withKind
   kind-bad e = rw e
 
 module _ (file : List ℕ) (at : ℕ) where
+  -- at the file's end or past it nothing stands
   pub event-none : length file ≤ at → Nothing ≡ eventAt file at
   unfolding eventAt
   event-none h = if-ge _ _ _ _ _ h (refl)
 
+  -- before it a number is read
   pub event-some : (n : Number) (r : Next) → at < length file → n ≡ numberAt file at → r ≡ withKind file n → r ≡ eventAt file at
   unfolding eventAt
   event-some n r h e q = if-lt _ _ _ _ _ h (rw (← e) q)

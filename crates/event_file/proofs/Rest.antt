@@ -55,10 +55,11 @@ module _ (from till : ℕ) (a : List ℕ) where
         let short : i ≤ length a = omega (arith, p .place, ap length all, rest-length) in
         subst (λ xs. Put a 0 xs (length a) b i) all (put-within (length a) short p)
 
-    -- to the last place, or to the buffer's end
+    -- to the last place
     pub rest-end : till ≤ at → Put a 0 (rest from till a) (length a) b i
     rest-end h = whole (omega (arith, rest-length))
 
+    -- to the buffer's end, where that comes first
     pub rest-short : length b ≤ at → Put a 0 (rest from till a) (length a) b i
     rest-short h = whole (omega (arith, rest-length, p .long))
 

@@ -24,8 +24,9 @@ use Rattle.event_file.specs.declared.Next.{Next}
 use Rattle.event_file.specs.declared.Next.the-variants.{Taken, Bad, Nothing}
 use Rattle.event_file.specs.declared.pieces.Piece.{Piece}
 use Rattle.event_file.specs.Read.{eventAt}
-use Rattle.event_file.specs.Lines.{lineOf, mostLine}
-use Rattle.event_file.specs.Run.{Run, nextCount, stopped, took, nextOf, turnOf, after, turnRun, start, turns, pieceOf, halted, haltedBy, soFar, Went}
+use Rattle.event_file.specs.Lines.{nextCount, lineOf, mostLine}
+use Rattle.event_file.specs.List.{answerLine}
+use Rattle.event_file.specs.Run.{Run, stopped, took, nextOf, turnOf, after, turnRun, start, turns, pieceOf, halted, haltedBy, soFar, Went}
 use Rattle.numerals.specs.Writes.{Put}
 use Rattle.event_file.proofs.Next.{the-type}
 use Rattle.numerals.proofs.Writes.{put-then, put-within}
@@ -40,23 +41,27 @@ both-fail true u z = z
 both-fail false u z = refl
 
 module _ (last : Bool) (p r : Piece) (x : Next) where
-  -- by what stands at the next place
+  -- an event that the piece's end cuts off, where more is to come
   pub halts-past : {number place : ℕ} → x ≡ Bad number place → last ≡ false → number ≡ 21 → r ≡ halted p (p .at) 2 → r ≡ haltedBy last p x
   unfolding haltedBy _and_ if_then_else_
   halts-past e h f q = rw (e, f, h) q
 
+  -- a fault in the last piece
   pub halts-cut : {number place : ℕ} → x ≡ Bad number place → last ≡ true → r ≡ halted p place number → r ≡ haltedBy last p x
   unfolding haltedBy if_then_else_
   halts-cut {number} {place} e h q = rw (e, both-fail (eqb number 21) (not last) (ap not h)) q
 
+  -- a bad number in any piece
   pub halts-bad : {number place : ℕ} → x ≡ Bad number place → (number ≡ 21 → ⊥) → r ≡ halted p place number → r ≡ haltedBy last p x
   unfolding haltedBy _and_ if_then_else_
   halts-bad {number} {place} e h q = rw (e, ne-eqb number 21 h) q
 
+  -- the file's end after the event before
   pub halts-end : x ≡ Nothing → last ≡ true → r ≡ halted p (p .at) 3 → r ≡ haltedBy last p x
   unfolding haltedBy if_then_else_
   halts-end e h q = rw (e, h) q
 
+  -- the piece's end, where more is to come
   pub halts-none : x ≡ Nothing → last ≡ false → r ≡ halted p (p .at) 2 → r ≡ haltedBy last p x
   unfolding haltedBy if_then_else_
   halts-none e h q = rw (e, h) q
@@ -114,7 +119,7 @@ module _ (a : List ℕ) (p r : Piece) (most : ℕ) where
 taken-went : (panel : Bool) (L : Layout) (a b : List ℕ) (from m n next k : ℕ) (q r : Answer) → n ≡ m → r ≡ q
     → Put a from (lineOf panel L (r .next) n (r .number) (r .detail)) (mostLine panel) b k
     → Went a from (mostLine panel) b (soFar (r .next) n next k) (took panel L m next q)
-unfolding took soFar
+unfolding took answerLine soFar
 taken-went panel L a b from m n next k q r e f t =
     subst (λ x. Went a from (mostLine panel) b (soFar (r .next) n next k) (took panel L x next q)) e
     (subst (λ (x : Answer). Went a from (mostLine panel) b (soFar (r .next) n next k) (took panel L n next x)) f
@@ -141,9 +146,11 @@ module _ (f : State → Event → Answer) (panel : Bool) (L : Layout) (last : Bo
   turn-full room v s n at e h = if-lt room (mostLine panel) _ _ _ (omega (arith, e)) refl
 
   module _ (room : ℕ) (g : Run) where
+    -- the run after so many turns
     abbrev runAt : ℕ → Run
     runAt i = iter (λ k. turnRun f panel L last bytes room) i g
 
+    -- one turn more
     more-turns : (i : ℕ) → runAt (i + 1) ≡ turnRun f panel L last bytes room (runAt i)
     unfolding iter
     more-turns i = rw add-one
@@ -158,13 +165,16 @@ module _ (f : State → Event → Answer) (panel : Bool) (L : Layout) (last : Bo
         ap runAt next ∙ sym (if-false _ _ _ _ (ne-eqb _ 0 (λ z. h (sym (ap (λ (x : Run). x .stop) before) ∙ z))) refl) ∙ before
 
   module _ (a : List ℕ) (s : State) (n at : ℕ) where
+    -- the run of a call after so many turns
     abbrev ranTo : ℕ → Run
     ranTo i = runAt (length a) (start s n at) i
 
+    -- no turn is made, and nothing is written
     pub run-start : Went a 0 (length a) a (soFar s n at 0) (ranTo 0)
     unfolding iter start soFar
     run-start = record { state = refl; count = refl; at = refl; stop = refl; text = record { buffer = refl; place = refl; near = omega arith; long = refl } }
 
+    -- a turn more: what it writes stands behind what was written
     run-on : (b c : List ℕ) (p r : Piece) (i : ℕ) → Went a 0 (length a) b p (ranTo i) → p .stop ≡ 0
         → Went b (p .written) (length b - p .written) c r (turnOf f panel L last bytes (length b - p .written) (p .state) (p .count) (p .at))
         → Went a 0 (length a) c r (ranTo (i + 1))

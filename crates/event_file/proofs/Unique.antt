@@ -21,10 +21,11 @@ next-event-determined κs a r q s = only
 pub opening-line-determined : DeterminesBytes (λ κs s. now (s .1 .1 .0)) opening-line.Post
 opening-line-determined κs a r q s t p o = (only (p .place) (o .place), only (p .buffer) (o .buffer))
 
--- the lines of a file's fault
+-- the line of a refused layout
 pub layout-fault-determined : DeterminesBytes (λ κs s. now (s .1 .1 .0)) layout-fault.Post
 layout-fault-determined κs a r q s t p o = (only (p .place) (o .place), only (p .buffer) (o .buffer))
 
+-- the line of a fault in an event file
 pub events-fault-determined : DeterminesBytes (λ κs s. now (s .1 .1 .0)) events-fault.Post
 events-fault-determined κs a r q s t p o = (only (p .place) (o .place), only (p .buffer) (o .buffer))
 

@@ -9,23 +9,24 @@ use borrow.Author.Needs.{needs}
 use lib.ListN.{length, take, getD, set, length-set}
 use lib.Seq.{take-suc, take-length}
 use Rattle.laws.specs.Choice.{if_then_else_}
-use Rattle.laws.proofs.Choice.{if-lt, if-ge}
 use Rattle.layout.specs.declared.Layout.{Layout}
 use Rattle.interlocking.specs.declared.State.{State}
 use Rattle.interlocking.specs.State.{cold}
 use Rattle.event_file.specs.Lines.{two, lineOf, mostLine}
-use Rattle.event_file.specs.List.{header, faultLine, mostFault, faultIn, opening, openingIn}
+use Rattle.event_file.specs.List.{header, faultLine, mostFault, opening, openingIn}
 use Rattle.numerals.specs.Writes.{Put}
 use Rattle.numerals.proofs.Writes.{put-one, put-then, put-within}
+use Rattle.numerals.proofs.Numerals.{put-no-room, put-room}
 use Rattle.event_file.proofs.PanelText.{text-room, line-room}
 
 -- ---- a word
 
 module _ (xs a : List ℕ) (at : ℕ) where
-  -- none yet, one more, all of them
+  -- none yet
   pub word-start : Put a at (take 0 xs) 0 a (at + 0)
   word-start = record { buffer = refl; place = refl; near = omega arith; long = refl }
 
+  -- one more byte
   pub word-on : (b : List ℕ) (i v : ℕ) → i < length xs → Put a at (take i xs) i b (at + i) → v ≡ getD xs i 0
       → Put a at (take (i + 1) xs) (i + 1) (set b (at + i) v) (at + (i + 1))
   word-on b i v h p e =
@@ -34,6 +35,7 @@ module _ (xs a : List ℕ) (at : ℕ) where
       ap (λ k. take k xs) (add-one i) ∙ take-suc xs i 0 h ∙ ap (λ x. take i xs ++ (x ∷ [])) (sym e) in
       rw (there, grown) (put-then p (put-one v))
 
+  -- all of them
   pub word-end : (b : List ℕ) (i n : ℕ) → n ≡ length xs → i ≤ n → n ≤ i → Put a at (take i xs) i b (at + i) → Put a at xs (length xs) b (at + i)
   word-end b i n e h k p =
       let all : i ≡ length xs = omega arith in
@@ -54,18 +56,7 @@ module _ (word a b : List ℕ) (number detail m : ℕ) where
   pub fault-long : (c : List ℕ) (k : ℕ) → Put a 0 word (length word) b m → Put b m (two number detail) 41 c k → length (set c k 10) ≡ length a
   fault-long c k p q = length-set c k 10 ∙ q .long ∙ p .long
 
-  -- there is room
-  pub fault-some : mostFault ≤ length a → Put a 0 (faultLine word number detail) mostFault b m → Put a 0 (faultIn (length a) word number detail) mostFault b m
-  unfolding faultIn
-  fault-some h p = subst (λ xs. Put a 0 xs mostFault b m) (if-ge (length a) mostFault _ _ _ h refl) p
-
--- there is none
-pub fault-none : (word a : List ℕ) (number detail : ℕ) → length a < mostFault → Put a 0 (faultIn (length a) word number detail) mostFault a 0
-unfolding faultIn
-fault-none word a number detail h =
-    subst (λ xs. Put a 0 xs mostFault a 0) (if-lt (length a) mostFault _ _ _ h refl) (record { buffer = refl; place = refl; near = omega arith; long = refl })
-
-pub ruleset faults = (needs, fault-none, fault-some)
+pub ruleset faults = (needs, put-no-room, put-room)
 
 -- ---- what stands before the first event
 
@@ -75,33 +66,27 @@ module _ (L : Layout) (a b : List ℕ) (m : ℕ) where
   cold-made s e p = rw (← e) p
 
   module _ (p : Bool) (v : ℕ) (e : v ≡ mostLine p) where
-    -- there is room
-    opening-some : v ≤ length a → Put a 0 (opening p L) (mostLine p) b m → Put a 0 (openingIn (length a) p L) (mostLine p) b m
-    unfolding openingIn
-    opening-some h q = subst (λ xs. Put a 0 xs (mostLine p) b m) (if-ge (length a) (mostLine p) _ _ _ (omega (arith, e)) refl) q
+    -- no room: nothing is written
+    pub opening-none : length a < v → Put a 0 (openingIn (length a) p L) (mostLine p) a 0
+    opening-none h = put-no-room a 0 (mostLine p) (opening p L) (omega (arith, e))
 
-    -- with the panel
+    -- room, with the panel: the cold start's line
     pub opening-cold : v ≤ length a → p ≡ true → Put a 0 (lineOf true L cold 0 0 0) (mostLine true) b m → Put a 0 (openingIn (length a) p L) (mostLine p) b m
     unfolding opening if_then_else_
-    opening-cold h t q = opening-some h (rw t q)
+    opening-cold h t q = put-room a 0 (mostLine p) (opening p L) b m (omega (arith, e)) (rw t q)
 
-    -- without it
+    -- room, without it: the header
     pub opening-header : v ≤ length a → p ≡ false → Put a 0 header 20 b m → Put a 0 (openingIn (length a) p L) (mostLine p) b m
     unfolding opening if_then_else_
-    opening-header h t q = opening-some h (rw t (put-within (mostLine false) (omega (arith, text-room false, line-room false)) q))
+    opening-header h t q =
+        put-room a 0 (mostLine p) (opening p L) b m (omega (arith, e))
+        (rw t (put-within (mostLine false) (omega (arith, text-room false, line-room false)) q))
 
-module _ (L : Layout) (a : List ℕ) (p : Bool) (v : ℕ) where
-  -- there is none
-  pub opening-none : v ≡ mostLine p → length a < v → Put a 0 (openingIn (length a) p L) (mostLine p) a 0
-  unfolding openingIn
-  opening-none e h =
-      subst (λ xs. Put a 0 xs (mostLine p) a 0) (if-lt (length a) (mostLine p) _ _ _ (omega (arith, e)) refl)
-      (record { buffer = refl; place = refl; near = omega arith; long = refl })
-
--- a buffer with room for a line has room for either
+-- with the panel, room for a line is room for the cold start's
 pub cold-room : (p : Bool) (v n : ℕ) → v ≡ mostLine p → v ≤ n → p ≡ true → mostLine true ≤ n
 cold-room p v n e h t = rw (← t) (omega (arith, e))
 
+-- the header is shorter than any line
 pub header-room : (p : Bool) (v n : ℕ) → v ≡ mostLine p → v ≤ n → 20 ≤ n
 header-room p v n e h = omega (arith, e, text-room p, line-room p)
 

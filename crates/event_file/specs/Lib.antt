@@ -1,6 +1,6 @@
 pub mod Read
 pub mod Lines
-pub mod Writes
-pub mod Run
 pub mod List
+pub mod Run
 pub mod Buffer
+pub mod Writes

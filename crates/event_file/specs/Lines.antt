@@ -3,22 +3,22 @@ use Prim.Native.Nat.{ℕ, _+_}
 use mathlib.Core.Bool.{Bool}
 use mathlib.Core.List.{List, [], _∷_, _++_}
 use lib.ListN.{length, getD}
-use lib.Dec.{eqb}
+use lib.Dec.{eqb, ltb}
 use Rattle.laws.specs.Choice.{if_then_else_}
 use Rattle.numerals.specs.Digits.{digits}
 use Rattle.layout.specs.declared.Layout.{Layout}
 use Rattle.interlocking.specs.declared.State.{State}
 use Rattle.panel.specs.Panel.{join, image, answer}
 
--- a space, a line's end, and the bar before a panel's bytes
+-- a space, a line's end, and the stroke before a panel's bytes
 abbrev pub space : ℕ
 space = 32
 
 abbrev pub lineEnd : ℕ
 lineEnd = 10
 
-abbrev pub bar : ℕ
-bar = 124
+abbrev pub stroke : ℕ
+stroke = 124
 
 -- a number of at most 20 digits, as every number below 2 ^ 64 is
 unfoldable pub decimal : ℕ → List ℕ
@@ -41,13 +41,17 @@ spaced n bytes = join n (λ i. afterSpace (getD bytes i 0))
 
 -- ---- a line
 
+-- the event's number: counted as far as 64 bits go, further than any file
+unfoldable pub nextCount : ℕ → ℕ
+nextCount n = if ltb n 18446744073709551615 then n + 1 else n
+
 -- what is shown of a state: its panel image (section 7)
 unfoldable pub shown : Layout → State → List ℕ
 shown L s = if eqb (answer L s 512 .number) 0 then image L s else []
 
--- after a space and a bar
+-- after a space and a stroke
 unfoldable pub panelText : Layout → State → List ℕ
-panelText L s = (space ∷ bar ∷ []) ++ spaced (length (shown L s)) (shown L s)
+panelText L s = (space ∷ stroke ∷ []) ++ spaced (length (shown L s)) (shown L s)
 
 -- event number, answer and detail, and where that is asked for the panel of the state then
 unfoldable pub lineText : Bool → Layout → State → ℕ → ℕ → ℕ → List ℕ

@@ -3,8 +3,9 @@ use Prim.Native.Nat.{ℕ, zero, suc}
 use mathlib.Core.Bool.{Bool}
 use mathlib.Core.List.{List, [], _∷_, _++_}
 use lib.ListN.{length}
-use lib.Dec.{eqb, ltb}
+use lib.Dec.{eqb}
 use Rattle.laws.specs.Choice.{if_then_else_}
+use Rattle.numerals.specs.Digits.{fitting}
 use Rattle.layout.specs.declared.Layout.{Layout}
 use Rattle.layout.specs.declared.Loaded.{Loaded}
 use Rattle.layout.specs.Load.{load}
@@ -15,8 +16,7 @@ use Rattle.step_facts.specs.Run.{Event, box}
 use Rattle.event_file.specs.declared.Next.{Next}
 use Rattle.event_file.specs.declared.Next.the-variants.{Taken, Bad, Nothing}
 use Rattle.event_file.specs.Read.{eventAt}
-use Rattle.event_file.specs.Lines.{two, lineEnd, lineOf, mostLine}
-use Rattle.event_file.specs.Run.{nextCount}
+use Rattle.event_file.specs.Lines.{two, lineEnd, nextCount, lineOf, mostLine}
 
 -- the words `layout ` and `events `, and the header `event answer detail` with its line's end
 unfoldable pub layoutWord : List ℕ
@@ -59,11 +59,11 @@ unfoldable pub opening : Bool → Layout → List ℕ
 opening panel L = if panel then lineOf panel L cold 0 0 0 else header
 
 -- a fault's line and the opening in a buffer of so much room, and nothing where that may be too little
-unfoldable pub faultIn : ℕ → List ℕ → ℕ → ℕ → List ℕ
-faultIn room word number detail = if ltb room mostFault then [] else faultLine word number detail
+abbrev pub faultIn : ℕ → List ℕ → ℕ → ℕ → List ℕ
+faultIn room word number detail = fitting room 0 mostFault (faultLine word number detail)
 
-unfoldable pub openingIn : ℕ → Bool → Layout → List ℕ
-openingIn room panel L = if ltb room (mostLine panel) then [] else opening panel L
+abbrev pub openingIn : ℕ → Bool → Layout → List ℕ
+openingIn room panel L = fitting room 0 (mostLine panel) (opening panel L)
 
 -- all that is printed; a file has no more events than bytes, and one more place to end at
 unfoldable pub printed : Bool → List ℕ → List ℕ → List ℕ

@@ -1,5 +1,5 @@
 -- A run over an event file, a piece of the file at a time (section 8).
-use Prim.Native.Nat.{ℕ, _+_, _-_}
+use Prim.Native.Nat.{ℕ, _-_}
 use mathlib.Core.Path.{_≡_}
 use mathlib.Core.Bool.{Bool, not}
 use mathlib.Core.List.{List, [], _++_}
@@ -16,7 +16,8 @@ use Rattle.event_file.specs.declared.Next.{Next}
 use Rattle.event_file.specs.declared.Next.the-variants.{Taken, Bad, Nothing}
 use Rattle.event_file.specs.declared.pieces.Piece.{Piece}
 use Rattle.event_file.specs.Read.{eventAt}
-use Rattle.event_file.specs.Lines.{lineOf, mostLine}
+use Rattle.event_file.specs.Lines.{nextCount, mostLine}
+use Rattle.event_file.specs.List.{answerLine}
 use Rattle.numerals.specs.Writes.{Put}
 
 -- how far a run came: the state, how many events there were, the place of the next one, why it stopped, and what is printed.
@@ -28,18 +29,13 @@ pub record Run : Type 0 where
   pub stop : ℕ
   pub text : List ℕ
 
--- the event's number: counted as far as 64 bits go, further than any file
-unfoldable pub nextCount : ℕ → ℕ
-nextCount n = if ltb n 18446744073709551615 then n + 1 else n
-
 -- nothing more is printed
 unfoldable pub stopped : State → ℕ → ℕ → ℕ → Run
 stopped s n at why = record { state = s; count = n; at = at; stop = why; text = [] }
 
 -- an event is answered, and its line is printed
 unfoldable pub took : Bool → Layout → ℕ → ℕ → Answer → Run
-took panel L n next r =
-    record { state = r .next; count = n; at = next; stop = 0; text = lineOf panel L (r .next) n (r .number) (r .detail) }
+took panel L n next r = record { state = r .next; count = n; at = next; stop = 0; text = answerLine panel L n r }
 
 -- what stands at the next place; where the piece is not the file's last, an event that lies past its end is not a fault
 unfoldable pub nextOf : (State → Event → Answer) → Bool → Layout → Bool → State → ℕ → ℕ → Next → Run

@@ -61,7 +61,7 @@ fn put_bytes(bytes: &[u8], n: usize, out: &mut [u8], at: usize) -> usize
     next
 }
 
-// The panel of a state, after a space and a bar.
+// The panel of a state, after a space and a stroke.
 fn put_panel(layout: Layout, state: State, out: &mut [u8], at: usize) -> usize
     requires { ⌜ at + 2050 ≤ length (now out) ⌝ }
     ensures { λ r. ⌜ Put (now (out .entry)) at (panelText layout state) 2050 (now (out .exit)) r ⌝ }

@@ -13,12 +13,15 @@ Inv-loop bytes n out₀ at i₀ next₀ out i next = (i ≤ n) × Put out₀ at 
 abbrev μ-loop : tie.MeasureT-loop
 μ-loop bytes n out₀ at i₀ next₀ out i next = n - i
 
+-- none yet
 loop-holds : tie.Need-loop-holds Inv-loop μ-loop
 loop-holds c = (omega arith, search panels)
 
+-- four bytes are left for each byte to come
 put-spaced-requires : tie.Need-put-spaced-requires Inv-loop μ-loop
 put-spaced-requires c κs = omega arith
 
+-- one more
 loop-again : tie.Need-loop-again Inv-loop μ-loop
 loop-again c = (omega arith, search panels)
 

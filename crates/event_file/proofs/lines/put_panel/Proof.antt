@@ -1,4 +1,4 @@
--- The image is drawn, and its bytes are written after a space and a bar.
+-- The image is drawn, and its bytes are written after a space and a stroke.
 use native.Mathlib.Omega.{arith}
 use borrow.Author.Needs.{needs}
 use lib.ListN.{length-set}
@@ -7,11 +7,13 @@ use Rattle.event_file.proofs.PanelText.{drawn-fits, panel-made}
 use Rattle.event_file.proofs.lines.put_panel.Statement.{statement}
 use Rattle.event_file.proofs.lines.put_panel.Tie as tie
 
+-- the image has at most 512 bytes, and each takes four
 put-bytes-requires : tie.Need-put-bytes-requires
 put-bytes-requires c κs =
     let fits = drawn-fits _ _ _ _ (c .before .before .before .panel .ensures .0) in
     (omega (arith, fits), simp length-set (omega (arith, fits)))
 
+-- what is written is the text of what is shown
 returns : tie.Need-returns
 returns c = search (needs, panel-made)
 

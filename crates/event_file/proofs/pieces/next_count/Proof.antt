@@ -1,6 +1,6 @@
 -- One more, as far as 64 bits go.
 use Rattle.laws.proofs.Choice.{choices}
-use Rattle.event_file.specs.Run.{nextCount}
+use Rattle.event_file.specs.Lines.{nextCount}
 use Rattle.event_file.proofs.pieces.next_count.Statement.{statement}
 use Rattle.event_file.proofs.pieces.next_count.Tie as tie
 
