@@ -45,7 +45,7 @@ spaced n bytes = join n (λ i. afterSpace (getD bytes i 0))
 unfoldable pub nextCount : ℕ → ℕ
 nextCount n = if ltb n 18446744073709551615 then n + 1 else n
 
--- what is shown of a state: its panel image (section 7)
+-- what is shown of a state: its panel image (section 7); nothing where the panel's answer into 512 bytes is not 0
 unfoldable pub shown : Layout → State → List ℕ
 shown L s = if eqb (answer L s 512 .number) 0 then image L s else []
 
@@ -53,14 +53,15 @@ shown L s = if eqb (answer L s 512 .number) 0 then image L s else []
 unfoldable pub panelText : Layout → State → List ℕ
 panelText L s = (space ∷ stroke ∷ []) ++ spaced (length (shown L s)) (shown L s)
 
--- event number, answer and detail, and where that is asked for the panel of the state then
+-- event number, answer and detail, and where that is asked for the panel of the state then; the same with its line's end
 unfoldable pub lineText : Bool → Layout → State → ℕ → ℕ → ℕ → List ℕ
 lineText panel L s n a d = if panel then three n a d ++ panelText L s else three n a d
 
 unfoldable pub lineOf : Bool → Layout → State → ℕ → ℕ → ℕ → List ℕ
 lineOf panel L s n a d = lineText panel L s n a d ++ (lineEnd ∷ [])
 
--- the most bytes of that
+-- the most bytes of that: three numbers of 20 digits and two spaces; with a panel also a space, a stroke and 512 bytes in four places each; with the
+-- line's end
 unfoldable pub mostText : Bool → ℕ
 mostText panel = if panel then 2112 else 62
 

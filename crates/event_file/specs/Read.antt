@@ -15,17 +15,17 @@ use Rattle.event_file.specs.declared.Next.the-variants.{Taken, Bad, Noth
 abbrev pub Small : Number → Type 0
 Small n = (value next : ℕ) → n ≡ Value value next → value ≤ largest
 
--- the third number, after a kind and a first number
+-- the second number (section 3), after kind and first
 unfoldable pub withSecond : ℕ → ℕ → Number → Next
 withSecond kind first (Value second next) = Taken kind first second next
 withSecond kind first (Fault number at) = Bad number at
 
--- the second number, and what follows it
+-- the first number, then the second
 unfoldable pub withFirst : List ℕ → ℕ → Number → Next
 withFirst file kind (Value first next) = withSecond kind first (numberAt file next)
 withFirst file kind (Fault number at) = Bad number at
 
--- the first number, and what follows it
+-- the kind, then the first and the second number
 unfoldable pub withKind : List ℕ → Number → Next
 withKind file (Value kind next) = withFirst file kind (numberAt file next)
 withKind file (Fault number at) = Bad number at

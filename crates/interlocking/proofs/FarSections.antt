@@ -20,7 +20,7 @@ use Rattle.tables.specs.Readings.{reading}
 use Rattle.tables.specs.Locks.{lockedExitBy, lockedExit}
 use Rattle.signals.specs.Signals.{enterableBy, enterable, blockProceeds}
 use Rattle.passage.specs.Passage.{arrival, nextBlock, farSection, farStage}
-use Rattle.interlocking.specs.Settle.{Proceeds, farProceedsBy, farDroppedBy, farReadingBy, farMoved, farAfter, passable, wasPassed, endsBy, directionAfter}
+use Rattle.interlocking.specs.Settle.{Proceeds, farProceedsBy, farDroppedBy, farReadingBy, farMoved, farAfter, passable, wasInStage2, endsBy, directionAfter}
 
 -- ---- a route and a line of the table, as the code reads them
 
@@ -122,7 +122,7 @@ exit-at rs phases k r n d q b few e = e ∙ ap (λ (a : Route). lockedExitBy pha
 
 -- by the test at which it fails
 module _ (b : Line) (n : ℕ) (rs : List Route) (before stages bars phases : List ℕ) (k w : ℕ) (v : Bool)
-    (p : v ≡ wasPassed before b k w) where
+    (p : v ≡ wasInStage2 before b k w) where
   pub ends-unpassed : not v ≡ true → false ≡ endsBy b n rs before stages bars phases k w
   unfolding endsBy
   ends-unpassed h = every-stops _ _ v p h

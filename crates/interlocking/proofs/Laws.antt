@@ -14,11 +14,11 @@ use Rattle.laws.proofs.Choice.{if-true, if-false, if-eq, if-ne}
 use Rattle.laws.proofs.Each.{put-set}
 use Rattle.track.specs.declared.Line.{Line}
 use Rattle.track.specs.Objects.{line}
-use Rattle.tables.specs.Readings.{lies}
+use Rattle.tables.specs.Readings.{pointReading}
 use Rattle.tables.specs.Blocks.{place}
 use Rattle.passage.specs.Passage.{ownStage}
 use Rattle.interlocking.specs.declared.State.{State}
-use Rattle.interlocking.specs.State.{codes, routesInRange, withSections, withPoints, withRoutes, withLines, withBars}
+use Rattle.interlocking.specs.State.{codes, routesAndLinesInRange, withSections, withPoints, withRoutes, withLines, withBars}
 use Rattle.interlocking.specs.Own.{blockAt, ownStageAt, ownSection, ownPoint, throwReading, ownThrow, ownSet, ownCancel, ownSecure, openAt, ownManual, ownBar}
 use Rattle.interlocking.proofs.FarSections.{line-in}
 
@@ -33,14 +33,14 @@ pub put-past : (n : ℕ) (xs : List ℕ) (a v : ℕ) {ys : List ℕ} → length 
 put-past n xs a v q b e = e ∙ sym (set-out xs a v (omega arith)) ∙ put-set n xs a v q
 
 -- the point reads what it is thrown to already
-pub throw-kept : (points : List ℕ) (p w x r : ℕ) → x ≡ lies points p → x ≡ w → r ≡ w → r ≡ throwReading points p w
+pub throw-kept : (points : List ℕ) (p w x r : ℕ) → x ≡ pointReading points p → x ≡ w → r ≡ w → r ≡ throwReading points p w
 unfolding throwReading
-throw-kept points p w x r e h q = if-eq (lies points p) w _ _ r (sym e ∙ h) q
+throw-kept points p w x r e h q = if-eq (pointReading points p) w _ _ r (sym e ∙ h) q
 
 -- or not
-pub throw-lost : (points : List ℕ) (p w x r : ℕ) → x ≡ lies points p → (x ≡ w → ⊥) → r ≡ 3 → r ≡ throwReading points p w
+pub throw-lost : (points : List ℕ) (p w x r : ℕ) → x ≡ pointReading points p → (x ≡ w → ⊥) → r ≡ 3 → r ≡ throwReading points p w
 unfolding throwReading
-throw-lost points p w x r e h q = if-ne (lies points p) w _ _ r (λ z. h (e ∙ z)) q
+throw-lost points p w x r e h q = if-ne (pointReading points p) w _ _ r (λ z. h (e ∙ z)) q
 
 -- whether a section is a block of a line
 module _ (b : Line) (g i : ℕ) where
@@ -120,6 +120,6 @@ module _ (s : State) where
 -- the codes of routes, lines and blocks, from their six tests
 pub range-made : (s : State) (phase step second direction stage bar : Bool) → phase ≡ codes 48 0 3 (s .phase) → step ≡ codes 48 0 3 (s .step)
     → second ≡ codes 48 0 89 (s .second) → direction ≡ codes 8 0 2 (s .direction) → stage ≡ codes 64 0 3 (s .stage) → bar ≡ codes 64 0 1 (s .bar)
-    → phase && (step && (second && (direction && (stage && bar)))) ≡ routesInRange s
-unfolding routesInRange every
+    → phase && (step && (second && (direction && (stage && bar)))) ≡ routesAndLinesInRange s
+unfolding routesAndLinesInRange every
 range-made s phase step second direction stage bar e₁ e₂ e₃ e₄ e₅ e₆ = rw (e₁, e₂, e₃, e₄, e₅, e₆)

@@ -1,4 +1,5 @@
--- Main signals (section 4) as the code asks for them, by a table of the signals at which routes start; signals says the same of the routes.
+-- Main signals (section 4) as the code asks for them, by a table of the signals at which routes start; signals/specs/Signals says the same by the
+-- routes' records.
 use Prim.Native.Nat.{ℕ}
 use mathlib.Core.Bool.{Bool}
 use mathlib.Core.List.{List}

@@ -10,7 +10,7 @@ use Rattle.laws.specs.Tables.{each, put}
 use Rattle.track.specs.declared.Line.{Line}
 use Rattle.track.specs.Codes.{none, neutral, openBlock, atProceed, cancelling}
 use Rattle.track.specs.Objects.{line}
-use Rattle.tables.specs.Readings.{lies}
+use Rattle.tables.specs.Readings.{pointReading}
 use Rattle.tables.specs.Blocks.{place}
 use Rattle.passage.specs.Passage.{ownStage}
 use Rattle.interlocking.specs.declared.State.{State}
@@ -34,7 +34,7 @@ ownPoint s p v = withPoints s (put 32 (s .point) p v) (s .order)
 
 -- 3: a throw stores the order; the point reads none afterwards unless it already read that position
 unfoldable pub throwReading : List ℕ → ℕ → ℕ → ℕ
-throwReading points p w = if eqb (lies points p) w then w else none
+throwReading points p w = if eqb (pointReading points p) w then w else none
 
 unfoldable pub ownThrow : State → ℕ → ℕ → State
 ownThrow s p w = withPoints s (put 32 (s .point) p (throwReading (s .point) p w)) (put 32 (s .order) p w)

@@ -118,13 +118,13 @@ unfoldable pub passable : List ℕ → List ℕ → ℕ → ℕ → Bool
 passable stages bars l i = isOpen stages l i and unbarred bars l i
 
 -- the last block in travel was in stage 2 before the event
-unfoldable pub wasPassed : List ℕ → Line → ℕ → ℕ → Bool
-wasPassed before b l w = eqb (read 64 stage0 before (place l (lastBlock b w))) stage2
+unfoldable pub wasInStage2 : List ℕ → Line → ℕ → ℕ → Bool
+wasInStage2 before b l w = eqb (read 64 stage0 before (place l (lastBlock b w))) stage2
 
 -- of line l, which is b: the last block in travel went from stage 2 to open, every block is open, no block is barred, no exit route of the line is locked
 unfoldable pub endsBy : Line → ℕ → List Route → List ℕ → List ℕ → List ℕ → List ℕ → ℕ → ℕ → Bool
 endsBy b n rs before stages bars phases l w = every (
-    wasPassed before b l w
+    wasInStage2 before b l w
     ∷ all (b .blocks) (passable stages bars l)
     ∷ not (any n (lockedExit rs phases l))
     ∷ [])
@@ -133,7 +133,7 @@ endsBy b n rs before stages bars phases l w = every (
 unfoldable pub ends : Layout → State → State → ℕ → ℕ → Bool
 ends L before s l w = endsBy (line (L .line) l) (L .routes) (L .route) (before .stage) (s .stage) (s .bar) (s .phase) l w
 
--- the line becomes neutral
+-- the direction of line l: neutral where its release is told, else as it was; all lines
 unfoldable pub directionAfter : (ℕ → ℕ → Bool) → ℕ → ℕ → ℕ
 directionAfter ended l was = if eqb was neutral then was else if ended l was then neutral else was
 

@@ -1,10 +1,10 @@
--- The state of the box: a code for each section, point, route, line and block.
+-- The state of the box (sections 1 and 3 to 6): a code for each section, point, route, line and block.
 use Prim.Native.Nat.{ℕ}
 use mathlib.Core.Bool.{Bool}
 use mathlib.Core.List.{List, [], _∷_}
 use lib.ListN.{getD, replicate}
 use Rattle.laws.specs.Tests.{every, all}
-use Rattle.track.specs.Codes.{free, left, none, neutral, bToA, openBlock, stage0, stage2, idle, cancelling}
+use Rattle.track.specs.Codes.{free, left, right, none, neutral, bToA, openBlock, stage0, stage2, idle, cancelling}
 use Rattle.track.specs.Lists.{between}
 use Rattle.interlocking.specs.declared.State.{State}
 
@@ -27,8 +27,8 @@ unfoldable pub codes : ℕ → ℕ → ℕ → List ℕ → Bool
 codes n low high xs = all n (λ i. between low high (getD xs i 0))
 
 -- the codes of routes, lines and blocks: phases, steps 0..3, seconds 0..89, directions, stages, bars 0..1
-unfoldable pub routesInRange : State → Bool
-routesInRange s = every (
+unfoldable pub routesAndLinesInRange : State → Bool
+routesAndLinesInRange s = every (
     codes 48 idle cancelling (s .phase)
     ∷ codes 48 0 3 (s .step)
     ∷ codes 48 0 89 (s .second)
@@ -39,9 +39,9 @@ routesInRange s = every (
 
 -- no code is outside its range: readings, orders 0..2, and those of routes, lines and blocks
 unfoldable pub inRange : State → Bool
-inRange s = every (codes 64 free none (s .section) ∷ codes 32 left none (s .point) ∷ codes 32 0 2 (s .order) ∷ routesInRange s ∷ [])
+inRange s = every (codes 64 free none (s .section) ∷ codes 32 left none (s .point) ∷ codes 32 0 right (s .order) ∷ routesAndLinesInRange s ∷ [])
 
--- ---- a state with some of its tables made anew
+-- ---- a state with tables made anew: sections and stages; points and orders; phases, steps and seconds; directions and stages; bars
 
 -- a state from its nine tables
 abbrev stateOf : List ℕ → List ℕ → List ℕ → List ℕ → List ℕ → List ℕ → List ℕ → List ℕ → List ℕ → State

@@ -48,7 +48,7 @@ gives k a v =
     if eqb k 1 then record { section = a; reading = v; tick = 0 }
     else record { section = 64; reading = 0; tick = if eqb k 10 then 1 else 0 }
 
--- what it does itself, where there are n lines
+-- what it does itself, where there are n lines; the same on a layout
 unfoldable pub ownOf : List Line → ℕ → State → ℕ → ℕ → ℕ → State
 ownOf ls n s k a v =
     if eqb k 1 then ownSection ls n s a v
@@ -79,7 +79,7 @@ refusedBy f s = record { number = f .number; detail = f .detail; next = s }
 unfoldable pub answer : Refusal → Layout → State → ℕ → ℕ → ℕ → Answer
 answer f L s k a b = if eqb (f .number) 0 then record { number = 0; detail = 0; next = after L s k a (meant k b) } else refusedBy f s
 
--- the step where soundness was asked
+-- one step, where isSound answers the question of 18
 unfoldable pub stepWhere : Bool → Layout → State → ℕ → ℕ → ℕ → Answer
 stepWhere isSound L s k a b = answer (refusal isSound L s k a b) L s k a b
 
@@ -87,7 +87,8 @@ stepWhere isSound L s k a b = answer (refusal isSound L s k a b) L s k a b
 unfoldable pub step : Layout → State → ℕ → ℕ → ℕ → Answer
 step L s k a b = stepWhere (sound L and inRange s) L s k a b
 
--- what 18 asks in a run: lines and routes are as many as the tables hold, and there is a section, so that the record of no layout (section 2) gets 18
+-- what 18 asks in a run: lines and routes are no more than the tables hold, and there is a section, so that the layout with no objects (section 2)
+-- gets 18
 unfoldable pub askedInRun : Layout → Bool
 askedInRun L = leb (L .lines) 8 and (leb (L .routes) 48 and leb 1 (L .sections))
 

@@ -12,7 +12,7 @@ use track::codes::STAGE_2;
 use track::is_between;
 ghost use mathlib.Core.Path.{_≡_};
 ghost use lib.ListN.{length};
-ghost use Rattle.interlocking.specs.State.{codes, inRange, routesInRange};
+ghost use Rattle.interlocking.specs.State.{codes, inRange, routesAndLinesInRange};
 
 // Each of the n entries of a table lies in low .. high.
 fn all_between(xs: &[u8], n: usize, low: u8, high: u8) -> bool
@@ -30,8 +30,8 @@ fn all_between(xs: &[u8], n: usize, low: u8, high: u8) -> bool
 }
 
 // The codes of routes, lines and blocks are in their ranges.
-fn routes_in_range(s: State) -> bool
-    ensures { λ x. ⌜ x ≡ routesInRange s ⌝ }
+fn routes_and_lines_in_range(s: State) -> bool
+    ensures { λ x. ⌜ x ≡ routesAndLinesInRange s ⌝ }
 {
     let phase = all_between(&s.phase, 48, IDLE, CANCELLING);
     let step = all_between(&s.step, 48, 0, 3);
@@ -49,6 +49,6 @@ pub fn in_range(s: State) -> bool
     let section = all_between(&s.section, 64, FREE, NONE);
     let point = all_between(&s.point, 32, LEFT, NONE);
     let order = all_between(&s.order, 32, 0, 2);
-    let rest = routes_in_range(s);
+    let rest = routes_and_lines_in_range(s);
     section & (point & (order & rest))
 }

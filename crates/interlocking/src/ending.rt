@@ -10,7 +10,7 @@ ghost use Rattle.laws.specs.Tests.{all, any};
 ghost use Rattle.laws.specs.Tables.{each};
 ghost use Rattle.track.specs.Objects.{line};
 ghost use Rattle.tables.specs.Locks.{lockedExit};
-ghost use Rattle.interlocking.specs.Settle.{passable, wasPassed, endsBy, directionAfter};
+ghost use Rattle.interlocking.specs.Settle.{passable, wasInStage2, endsBy, directionAfter};
 
 // Block i of line k is open and not barred.
 fn is_passable<'a>(stages: &'a [u8; 64], bars: &'a [u8; 64], k: u8, i: u8) -> bool
@@ -53,7 +53,7 @@ fn some_exit_locked(rs: [Route; 48], n: u8, phases: &[u8; 48], k: u8) -> bool
 
 // The last block in travel was in stage 2 before the event.
 fn was_in_stage_2(before: &[u8; 64], b: Line, k: u8, w: u8) -> bool
-    ensures { λ x. ⌜ x ≡ wasPassed (now (before .entry)) b k w ⌝ }
+    ensures { λ x. ⌜ x ≡ wasInStage2 (now (before .entry)) b k w ⌝ }
 {
     let e = passage::arrival_end(w);
     let i = track::nearest_block(b, e);

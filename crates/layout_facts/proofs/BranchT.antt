@@ -10,12 +10,12 @@ use Rattle.fields.specs.Fields.{failed, judge, field, code, reference}
 use Rattle.fields.specs.Lists.{itemTurn, items, pointTurn, points}
 use Rattle.track.specs.Objects.{noLine, noRoute, line, route, inner, entrance}
 use Rattle.track.specs.Lists.{among, differ, between, referring, positions}
-use Rattle.track.specs.Ranges.{placed, lineFits, routeFits}
+use Rattle.track.specs.Ranges.{pointsFit, lineFits, routeFits}
 use Rattle.reading.specs.Sections.{noSections, sectionTurn, sections}
 use Rattle.reading.specs.Lines.{aLine, noLines, lineTurn, linesFrom, lines}
 use Rattle.reading.specs.Routes.{anEnd, lineAndEnd, routeHead, aRoute, noRoutes, routeTurn, routesFrom, routes}
-use Rattle.pairs.specs.Pairs.{placeOf, noPairs, judgeCount, pairCount, ordered, aPair, pairTurn, pairsFrom, named, pairs}
-use Rattle.rules.specs.Rules.{share, hasBlock, isBlock, hasInner, isInner, inPath, hasEntrance, isEntrance, once, lineEnds, linePoints, routeLists, routeLength, endSection, routeEnds, hasPoint, clashes}
+use Rattle.pairs.specs.Pairs.{placeOf, noPairs, counted, pairCount, ordered, aPair, pairTurn, pairsFrom, named, pairs}
+use Rattle.rules.specs.Rules.{share, hasBlock, isBlock, hasInner, isInner, inPath, hasEntrance, isEntrance, once, lineEnds, linePoints, routeLists, routeLength, routeEnds, hasPoint, clashes}
 use Rattle.layout.specs.Layout.{counts, lineIn, routeIn, entryOf, conflict}
 use Rattle.layout.specs.Rules.{rule1, rule2, rule3, rule4, rule5, rule6, firstFailed, broken}
 use Rattle.layout.specs.Sound.{sectionsFit, fits, pairMirrors, rowMirrors, mirrored, sound}
@@ -26,10 +26,10 @@ use Rattle.layout_facts.specs.BranchT.{branchT, layoutT}
 unfoldable pub computed : ℕ
 unfolding if_then_else_ _and_ _or_ implies every all any iter
     groupsAt atMost numberAt failed judge field code reference itemTurn items pointTurn points
-    noLine noRoute line route inner entrance among differ between referring positions placed lineFits routeFits
+    noLine noRoute line route inner entrance among differ between referring positions pointsFit lineFits routeFits
     noSections sectionTurn sections aLine noLines lineTurn linesFrom lines anEnd lineAndEnd routeHead aRoute noRoutes routeTurn routesFrom routes
-    placeOf noPairs judgeCount pairCount ordered aPair pairTurn pairsFrom named pairs
-    share hasBlock isBlock hasInner isInner inPath hasEntrance isEntrance once lineEnds linePoints routeLists routeLength endSection routeEnds hasPoint clashes
+    placeOf noPairs counted pairCount ordered aPair pairTurn pairsFrom named pairs
+    share hasBlock isBlock hasInner isInner inPath hasEntrance isEntrance once lineEnds linePoints routeLists routeLength routeEnds hasPoint clashes
     counts lineIn routeIn entryOf conflict rule1 rule2 rule3 rule4 rule5 rule6 firstFailed broken
     sectionsFit fits pairMirrors rowMirrors mirrored sound heading countsOf whole refused finished load branchT
 computed = 0

@@ -8,7 +8,7 @@ use Rattle.pairs.proofs.Ranges.{Said, neither, both, pairs-in}
 use Rattle.layout.specs.Layout.{lineIn, routeIn, entryOf}
 use Rattle.layout.specs.Load.{heading, whole, load}
 use Rattle.layout.proofs.Laws.{whole-few}
-use Rattle.layout_facts.specs.Loaded.{Cleared}
+use Rattle.layout_facts.specs.Loaded.{ZeroPast}
 use Rattle.layout_facts.proofs.Loaded.{loaded-whole}
 
 -- a route that there is not is listed with none
@@ -18,7 +18,7 @@ none-listed m n r q (neither e f) h = (e, f)
 none-listed m n r q (both e f d a b) h = absurd (omega arith)
 
 -- what is read of a file with no fault
-whole-cleared : (s : List ℕ) → whole s .cur .fault ≡ 0 → Cleared (whole s .layout)
+whole-cleared : (s : List ℕ) → whole s .cur .fault ≡ 0 → ZeroPast (whole s .layout)
 unfolding whole heading lineIn routeIn
 whole-cleared s e = record {
   sections = sections-past s _ _;
@@ -33,5 +33,5 @@ whole-cleared s e = record {
 }
 
 -- in a layout that loads with 0 there is nothing past a count
-pub loaded-cleared : (s : List ℕ) → load s .number ≡ 0 → Cleared (load s .layout)
+pub loaded-cleared : (s : List ℕ) → load s .number ≡ 0 → ZeroPast (load s .layout)
 loaded-cleared s e = let p = loaded-whole s e in rw (p .2) (whole-cleared s (p .0))

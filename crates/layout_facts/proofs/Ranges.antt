@@ -8,7 +8,7 @@ use native.Mathlib.Omega.{arith}
 use lib.ListN.{getD}
 use Rattle.laws.specs.Choice.{if_then_else_}
 use Rattle.track.specs.Objects.{inner, entrance}
-use Rattle.track.specs.Ranges.{placed, lineFits, routeFits}
+use Rattle.track.specs.Ranges.{pointsFit, lineFits, routeFits}
 use Rattle.layout.specs.declared.Layout.{Layout}
 use Rattle.layout.specs.Layout.{counts, lineIn, routeIn}
 use Rattle.layout.specs.Sound.{sectionsFit, fits}
@@ -18,11 +18,11 @@ use Rattle.layout_facts.proofs.Order.{to-one, unless}
 use Rattle.layout_facts.proofs.Lists.{between-means, referring-means, positions-means}
 
 -- points 0..8 as (point, position)
-placed-means : (objects n : ℕ) (point position : List ℕ)
-    → placed objects n point position ≡ true
+pointsFit-means : (objects n : ℕ) (point position : List ℕ)
+    → pointsFit objects n point position ≡ true
     ↔ (n ≤ 8) × (((i : ℕ) → i < n → getD point i 0 < objects) × ((i : ℕ) → i < n → getD position i 0 ≡ 1 ⊎ getD position i 0 ≡ 2))
-unfolding placed
-placed-means objects n point position = every-means (leb-means _ _ also referring-means _ _ _ also lastly (positions-means _ _))
+unfolding pointsFit
+pointsFit-means objects n point position = every-means (leb-means _ _ also referring-means _ _ _ also lastly (positions-means _ _))
 
 -- a line
 lineFits-means : (L : Layout) (l : ℕ) → lineFits (counts L) (lineIn L l) ≡ true ↔ LineRanges L l
@@ -30,7 +30,7 @@ unfolding lineFits counts block innerSection entranceSignal inner entrance if_th
 lineFits-means L l =
     Iff·trans (every-means (
     between-means _ _ _ also referring-means _ _ _ also ltb-means _ _ also ltb-means _ _ also ltb-means _ _ also ltb-means _ _
-    also lastly (placed-means _ _ _ _))) (
+    also lastly (pointsFit-means _ _ _ _))) (
       λ (blocks, (block, (innera, (innerb, (entrancea, (entranceb, (points, (point, position)))))))). record {
         blockCount = blocks;
         blocks = block;
@@ -52,7 +52,7 @@ routeFits-means L r =
     and-means (ltb-means _ _) (leb-means _ _)
     also or-means (eqb-means _ _) (and-means (ltb-means _ _) (leb-means _ _))
     also leb-means _ _ also between-means _ _ _ also referring-means _ _ _ also leb-means _ _ also referring-means _ _ _
-    also lastly (placed-means _ _ _ _))) (
+    also lastly (pointsFit-means _ _ _ _))) (
       λ ((entry, kind), (line, (diverging, (paths, (path, (overlaps, (overlap, (points, (point, position))))))))). record {
         entry = entry;
         kind = kind;

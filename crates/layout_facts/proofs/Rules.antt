@@ -6,7 +6,7 @@ use mathlib.Core.Logic.{_↔_, Iff·trans, _≢_, _⊎_}
 use native.Mathlib.Omega.{arith}
 use Rattle.laws.specs.Choice.{if_then_else_}
 use Rattle.track.specs.Objects.{inner, entrance}
-use Rattle.rules.specs.Rules.{hasBlock, isBlock, hasInner, isInner, inPath, hasEntrance, isEntrance, once, lineEnds, linePoints, routeLists, routeLength, endSection, routeEnds}
+use Rattle.rules.specs.Rules.{hasBlock, isBlock, hasInner, isInner, inPath, hasEntrance, isEntrance, once, lineEnds, linePoints, routeLists, routeLength, routeEnds}
 use Rattle.layout.specs.declared.Layout.{Layout}
 use Rattle.layout.specs.Layout.{lineIn, routeIn}
 use Rattle.layout.specs.Rules.{rule1, rule2, rule3, rule4, rule5}
@@ -157,7 +157,7 @@ module _ (L : Layout) (R : Ranges L) where
       → (routeIn L r .entry ≡ entranceSignal L (routeIn L r .line) (routeIn L r .end)) × (path L r 0 ≡ innerSection L (routeIn L r .line) (routeIn L r .end)))
       × ((routeIn L r .kind ≡ 2 → path L r (routeIn L r .paths - 1) ≡ innerSection L (routeIn L r .line) (routeIn L r .end))
       × (routeIn L r .kind ≡ 0 ⊎ routeIn L r .kind ≡ 2 → ¬ Entrance L (L .lines) (routeIn L r .entry)))
-  unfolding routeEnds endSection lineIn path innerSection entranceSignal
+  unfolding routeEnds lineIn path innerSection entranceSignal
   routeEnds-means r hr = every-means (
       implies-means (eqb-means _ _) (and-means (eqb-means _ _) (eqb-means _ _))
       also implies-means (eqb-means _ _) (eqb-means _ _)

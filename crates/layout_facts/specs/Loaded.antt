@@ -15,7 +15,7 @@ pub record Answered (a : Loaded) : Type 0 where
   pub rule : a .number ≡ 25 → (1 ≤ a .detail) × (a .detail ≤ 6)
 
 -- past each count there is nothing, and in the lists of a line or a route 0
-pub record Cleared (L : Layout) : Type 0 where
+pub record ZeroPast (L : Layout) : Type 0 where
   pub sections : (p : ℕ) → L .points ≤ p → getD (L .pointsection) p 0 ≡ 0
   pub lines : (l : ℕ) → L .lines ≤ l → lineIn L l ≡ noLine
   pub blocks : (l k : ℕ) → lineIn L l .blocks ≤ k → getD (lineIn L l .block) k 0 ≡ 0

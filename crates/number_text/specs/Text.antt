@@ -33,7 +33,8 @@ isDigit byte = leb 48 byte and leb byte 57
 unfoldable pub nextLine : ℕ → ℕ
 nextLine line = if ltb line 18446744073709551615 then line + 1 else line
 
--- nothing of a word is read
+-- nothing of a word is read. What is being read (doing): 0 between words, 1 in a number, 2 in a word that is no number, 3 in a comment; and it stopped at
+-- 4 a word that is no number, 5 a number too large
 unfoldable pub standing : ℕ → ℕ → Reader
 standing line doing = record { line = line; doing = doing; value = 0; size = 0; word = replicate 32 0 }
 

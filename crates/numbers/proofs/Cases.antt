@@ -9,23 +9,23 @@ use borrow.Author.Needs.{needs}
 use Rattle.laws.proofs.Choice.{choices}
 use Rattle.numbers.specs.declared.Number.{Number}
 use Rattle.numbers.specs.declared.Number.the-variants.{Value, Fault}
-use Rattle.numbers.specs.Number.{joined, groupsAt, atMost, numberAt, largest, maxGroups}
+use Rattle.numbers.specs.Number.{withGroup, groupsAt, atMost, numberAt, largest, maxGroups}
 
 module _ (first low : ℕ) (n : Number) where
   -- the groups after a group are 0
-  pub joined-zero : {v next : ℕ} → n ≡ Value v next → v ≡ 0 → Fault 22 first ≡ joined first low n
-  unfolding joined
-  joined-zero e z = rw e (search choices)
+  pub withGroup-zero : {v next : ℕ} → n ≡ Value v next → v ≡ 0 → Fault 22 first ≡ withGroup first low n
+  unfolding withGroup
+  withGroup-zero e z = rw e (search choices)
 
   -- the groups after a group are a number
-  pub joined-value : {v next : ℕ} → n ≡ Value v next → (v ≡ 0 → ⊥) → Value (low + 128 * v) next ≡ joined first low n
-  unfolding joined
-  joined-value e z = rw e (search choices)
+  pub withGroup-value : {v next : ℕ} → n ≡ Value v next → (v ≡ 0 → ⊥) → Value (low + 128 * v) next ≡ withGroup first low n
+  unfolding withGroup
+  withGroup-value e z = rw e (search choices)
 
   -- the groups after a group have a fault
-  pub joined-fault : {m at : ℕ} → n ≡ Fault m at → Fault m at ≡ joined first low n
-  unfolding joined
-  joined-fault e = rw e
+  pub withGroup-fault : {m at : ℕ} → n ≡ Fault m at → Fault m at ≡ withGroup first low n
+  unfolding withGroup
+  withGroup-fault e = rw e
 
 module _ (first limit : ℕ) (n : Number) where
   -- a number that is too large
@@ -64,7 +64,7 @@ module _ (s : List ℕ) (first at : ℕ) where
 
   -- a byte that is not the last
   pub groups-more : (k low : ℕ) (rest n : Number) → (k ≡ 0 → ⊥) → at < length s → 128 ≤ getD s at 0 → low ≡ getD s at 0 - 128
-      → rest ≡ groupsAt (k - 1) s first (at + 1) → n ≡ joined first low rest → n ≡ groupsAt k s first at
+      → rest ≡ groupsAt (k - 1) s first (at + 1) → n ≡ withGroup first low rest → n ≡ groupsAt k s first at
   unfolding groupsAt
   groups-more zero low rest n h l b e f g = absurd (h refl)
   groups-more (suc k) low rest n h l b e f g = rw (g, e, f, sub-one) (search choices)
@@ -76,4 +76,4 @@ number-short s at byte l e b = most-within at largest _ (sym (groups-last s at a
 
 -- for the functions, a case at each return
 pub ruleset cases =
-    (needs, joined-zero, joined-value, joined-fault, most-over, most-within, most-fault, groups-none, groups-end, groups-last, groups-more, number-short)
+    (needs, withGroup-zero, withGroup-value, withGroup-fault, most-over, most-within, most-fault, groups-none, groups-end, groups-last, groups-more, number-short)

@@ -10,7 +10,7 @@ use lib.ListN.{length, getD}
 use Rattle.numbers.specs.declared.Number.the-variants.{Fault}
 use Rattle.numbers.specs.Number.{maxGroups, largest, groupsAt, numberAt}
 use Rattle.numbers.specs.Form.{Cut}
-use Rattle.numbers.proofs.Cases.{joined-fault, groups-none, groups-end, groups-more, most-fault}
+use Rattle.numbers.proofs.Cases.{withGroup-fault, groups-none, groups-end, groups-more, most-fault}
 
 module _ (s : List ℕ) (first : ℕ) where
   -- a byte that is not the last, before a fault
@@ -18,7 +18,7 @@ module _ (s : List ℕ) (first : ℕ) where
       → groupsAt (suc k) s first at ≡ Fault n first
   fault-more k at n l b e =
       sym (groups-more s first at (suc k) (getD s at 0 - 128) (Fault n first) (Fault n first) (omega arith) l b refl (rw sub-one (sym e))
-      (joined-fault first (getD s at 0 - 128) (Fault n first) refl))
+      (withGroup-fault first (getD s at 0 - 128) (Fault n first) refl))
 
   -- the string ends first
   groups-cut : (k at : ℕ) → Cut k s at → groupsAt k s first at ≡ Fault 21 first

@@ -13,7 +13,7 @@ use Rattle.laws.proofs.Choice.{if-both}
 use Rattle.numbers.specs.declared.Number.the-variants.{Value}
 use Rattle.numbers.specs.Number.{maxGroups, largest, groupsAt, numberAt}
 use Rattle.numbers.specs.Form.{encodeIn, encode, Bytes, OneForm}
-use Rattle.numbers.proofs.Cases.{joined-value, groups-last, groups-more, most-within}
+use Rattle.numbers.proofs.Cases.{withGroup-value, groups-last, groups-more, most-within}
 use Rattle.numbers.proofs.Readings.{number-written, number-most}
 
 -- ---- a byte that stands at a place
@@ -46,7 +46,7 @@ module _ (s : List ℕ) (first : ℕ) (post : List ℕ) where
       let v : getD s at 0 - 128 + 128 * (n / 128) ≡ n = omega arith in
       sym (groups-more s first at (suc k) (getD s at 0 - 128) (Value (n / 128) next) (Value n next) (omega arith)
       (at-inside s at (128 + n % 128) rest e) (omega arith) refl (rw sub-one (sym g))
-      (ap (λ m. Value m next) (sym v) ∙ joined-value first (getD s at 0 - 128) (Value (n / 128) next) refl (omega arith)))
+      (ap (λ m. Value m next) (sym v) ∙ withGroup-value first (getD s at 0 - 128) (Value (n / 128) next) refl (omega arith)))
 
   -- a number's form, standing anywhere, is read as the number
   decodes : (k n at : ℕ) → n < 128 ^ suc k → drop at s ≡ encodeIn (suc k) n ++ post

@@ -14,7 +14,7 @@ use borrow.Author.Tests.{ltb-true, ltb-false, eqb-false}
 use Rattle.laws.proofs.Choice.{choices, if-both}
 use Rattle.numbers.specs.declared.Number.{Number}
 use Rattle.numbers.specs.declared.Number.the-variants.{Value, Fault}
-use Rattle.numbers.specs.Number.{maxGroups, largest, joined, groupsAt, atMost, numberAt}
+use Rattle.numbers.specs.Number.{maxGroups, largest, withGroup, groupsAt, atMost, numberAt}
 use Rattle.numbers.specs.Form.{encodeIn, encode, Bytes, Cut}
 
 -- a number of one group
@@ -77,12 +77,12 @@ module _ (s : List ℕ) (first : ℕ) where
   }
 
   -- a byte that is not the last, and what is read after it
-  reading-joined : (k at : ℕ) (n : Number) → at < length s → 128 ≤ getD s at 0 → Reading k (at + 1) n
-      → Reading (suc k) at (joined first (getD s at 0 - 128) n)
-  unfolding joined
-  reading-joined k at (Value w next) l b f =
+  reading-withGroup : (k at : ℕ) (n : Number) → at < length s → 128 ≤ getD s at 0 → Reading k (at + 1) n
+      → Reading (suc k) at (withGroup first (getD s at 0 - 128) n)
+  unfolding withGroup
+  reading-withGroup k at (Value w next) l b f =
       if-both (Reading (suc k) at) (eqb w 0) (λ e. (refl, inl refl)) (λ e. reading-value k at w next l b e f)
-  reading-joined k at (Fault n place) l b f = (f .0, ⊎-elim (λ e. inl e) (λ e. inr (e .0, cut-before k at l b (e .1))) (f .1))
+  reading-withGroup k at (Fault n place) l b f = (f .0, ⊎-elim (λ e. inl e) (λ e. inr (e .0, cut-before k at l b (e .1))) (f .1))
 
   -- whatever `groupsAt` answers is a reading
   reads : (k at : ℕ) → Reading k at (groupsAt k s first at)
@@ -92,7 +92,7 @@ module _ (s : List ℕ) (first : ℕ) where
       if-both (Reading (suc k) at) (ltb at (length s))
       (λ l. if-both (Reading (suc k) at) (ltb (getD s at 0) 128)
       (λ b. reading-last k at (ltb-true at (length s) l) (ltb-true (getD s at 0) 128 b))
-      (λ b. reading-joined k at (groupsAt k s first (at + 1)) (ltb-true at (length s) l) (ltb-false (getD s at 0) 128 b) (reads k (at + 1))))
+      (λ b. reading-withGroup k at (groupsAt k s first (at + 1)) (ltb-true at (length s) l) (ltb-false (getD s at 0) 128 b) (reads k (at + 1))))
       (λ l. (refl, inr (refl, cut-here k at (ltb-false at (length s) l))))
 
 -- a number of at most eight groups can be multiplied by 128

@@ -16,16 +16,16 @@ abbrev pub largest : ℕ
 largest = 65535
 
 -- section 2, lowest group first: a group below the number in the groups after it; where that is 0, the form is not the shortest
-unfoldable pub joined : ℕ → ℕ → Number → Number
-joined first low (Value value next) = if eqb value 0 then Fault 22 first else Value (low + 128 * value) next
-joined first low (Fault number at) = Fault number at
+unfoldable pub withGroup : ℕ → ℕ → Number → Number
+withGroup first low (Value value next) = if eqb value 0 then Fault 22 first else Value (low + 128 * value) next
+withGroup first low (Fault number at) = Fault number at
 
 -- section 2, top bit set on every byte but the last: the number from a place on in so many bytes at most; 21 where the file ends, 22 where they are too few
 unfoldable pub groupsAt : ℕ → List ℕ → ℕ → ℕ → Number
 groupsAt zero s first at = Fault 22 first
 groupsAt (suc left) s first at =
     if ltb at (length s) then
-    (if ltb (getD s at 0) 128 then Value (getD s at 0) (at + 1) else joined first (getD s at 0 - 128) (groupsAt left s first (at + 1)))
+    (if ltb (getD s at 0) 128 then Value (getD s at 0) (at + 1) else withGroup first (getD s at 0 - 128) (groupsAt left s first (at + 1)))
     else Fault 21 first
 
 -- section 2, a number that is too large gets 22 too

@@ -2,7 +2,7 @@
 use laws::wide;
 ghost use mathlib.Core.Path.{_≡_};
 ghost use Prim.Native.Nat.{ℕ, _<_, _≤_, _^_};
-ghost use Rattle.numbers.specs.Number.{joined, groupsAt, atMost, largest, numberAt};
+ghost use Rattle.numbers.specs.Number.{withGroup, groupsAt, atMost, largest, numberAt};
 
 // The most bytes that a number may take.
 const BYTES: usize = 3;
@@ -21,7 +21,7 @@ pub enum Number {
 // A group with the number in the groups after it, which may not be 0: the form would not be the shortest.
 fn join(first: usize, low: u64, rest: Number) -> Number
     requires { ⌜ (low < 128) × ((value next : ℕ) → rest ≡ Number.Value value next → value < 2 ^ 56) ⌝ }
-    ensures { λ r. ⌜ r ≡ joined first low rest ⌝ }
+    ensures { λ r. ⌜ r ≡ withGroup first low rest ⌝ }
 {
     match rest {
         Number::Value { value, next } => {

@@ -1,6 +1,6 @@
 -- The cases of the number of pairs and of a pair's order, and a turn put together from what was read.
 use Prim.Native.Nat.{ℕ, _<_, _≤_}
-use mathlib.Core.Path.{_≡_, refl}
+use mathlib.Core.Path.{_≡_, refl, ap, _∙_}
 use mathlib.Core.List.{List}
 use native.Mathlib.Omega.{arith}
 use borrow.Author.Needs.{needs}
@@ -13,41 +13,42 @@ use Rattle.numbers.specs.declared.Number.{Number}
 use Rattle.numbers.specs.declared.Number.the-variants.{Value, Fault}
 use Rattle.numbers.specs.Number.{numberAt}
 use Rattle.fields.specs.declared.Cursor.{Cursor}
-use Rattle.fields.specs.Fields.{failed, reference}
+use Rattle.fields.specs.Fields.{failed, judge, field, code, reference}
 use Rattle.fields.proofs.Ranges.{reference-below}
 use Rattle.pairs.specs.declared.Count.{Count}
 use Rattle.pairs.specs.declared.Pair.{Pair}
 use Rattle.pairs.specs.declared.Pairs.{Pairs}
-use Rattle.pairs.specs.Pairs.{placeOf, noPairs, noCount, judgeCount, pairCount, ordered, aPair, pairTurn, pairsFrom, named}
+use Rattle.pairs.specs.Pairs.{placeOf, noPairs, counted, pairCount, ordered, aPair, pairTurn, pairsFrom, named}
 
 -- ---- the number of pairs, by cases
 
 module _ (n : Number) (at : ℕ) (r : Count) where
   -- a number above 1,128: fault 23
-  pub count-large : {v next : ℕ} → n ≡ Value v next → 1128 < v → r ≡ noCount at 23 → r ≡ judgeCount n at
-  unfolding judgeCount
-  count-large e h q = rw e (if-lt _ _ _ _ r h q)
+  pub count-large : {v next : ℕ} → n ≡ Value v next → 1128 < v → r ≡ counted (failed at 23) → r ≡ counted (judge n at 0 1129 23)
+  unfolding judge
+  count-large {v} e h q = rw e (q ∙ ap counted (if-ge v 0 _ _ _ (omega arith) (if-ge v 1129 _ _ _ (omega arith) refl)))
 
   -- a number up to 1,128: it, and the place after it
-  pub count-in : {v next : ℕ} → n ≡ Value v next → v ≤ 1128 → r ≡ record { cur = record { at = next; fault = 0; value = 0 }; pairs = v } → r ≡ judgeCount n at
-  unfolding judgeCount
-  count-in e h q = rw e (if-ge _ _ _ _ r h q)
+  pub count-in : {v next : ℕ} → n ≡ Value v next → v ≤ 1128 → r ≡ record { cur = record { at = next; fault = 0; value = 0 }; pairs = v }
+      → r ≡ counted (judge n at 0 1129 23)
+  unfolding judge counted
+  count-in {v} e h q = rw e (q ∙ ap counted (if-ge v 0 _ _ _ (omega arith) (if-lt v 1129 _ _ _ (omega arith) refl)))
 
   -- a fault of the number form: it, at its own place
-  pub count-fault : {number place : ℕ} → n ≡ Fault number place → r ≡ noCount place number → r ≡ judgeCount n at
-  unfolding judgeCount
+  pub count-fault : {number place : ℕ} → n ≡ Fault number place → r ≡ counted (failed place number) → r ≡ counted (judge n at 0 1129 23)
+  unfolding judge
   count-fault e q = rw e q
 
 module _ (s : List ℕ) (c : Cursor) (r : Count) where
   -- with a fault before, that fault stays
-  pub count-kept : (c .fault ≡ 0 → ⊥) → r ≡ noCount (c .at) (c .fault) → r ≡ pairCount s c
-  unfolding pairCount
-  count-kept h q = if-ne _ _ _ _ r h q
+  pub count-kept : (c .fault ≡ 0 → ⊥) → r ≡ counted (failed (c .at) (c .fault)) → r ≡ pairCount s c
+  unfolding pairCount code field
+  count-kept h q = q ∙ ap counted (if-ne _ _ _ _ _ h refl)
 
   -- with none, what stands at the place is judged
-  pub count-read : (n : Number) → c .fault ≡ 0 → n ≡ numberAt s (c .at) → r ≡ judgeCount n (c .at) → r ≡ pairCount s c
-  unfolding pairCount
-  count-read n h e q = if-eq _ _ _ _ r h (rw (← e) q)
+  pub count-read : (n : Number) → c .fault ≡ 0 → n ≡ numberAt s (c .at) → r ≡ counted (judge n (c .at) 0 1129 23) → r ≡ pairCount s c
+  unfolding pairCount code field
+  count-read n h e q = q ∙ ap counted (if-eq _ _ _ _ _ h (ap (λ m. judge m (c .at) 0 1129 23) e))
 
 -- for the number of pairs, a case at each return
 pub ruleset counts = (needs, count-large, count-in, count-fault, count-kept, count-read)

@@ -2,43 +2,33 @@
 use Prim.Native.Nat.{ℕ, suc, _+_, _*_, _<_, _≤_}
 use mathlib.Core.Path.{_≡_, refl, _∙_}
 use mathlib.Core.List.{List}
-use mathlib.Core.Logic.{inl, inr}
+use mathlib.Core.Logic.{inr}
 use native.Mathlib.Decide.{ℕ-discrete}
 use native.Mathlib.Omega.{arith}
-use borrow.Author.Tests.{ltb-false, leb-false, eqb-true, eqb-false}
+use borrow.Author.Tests.{ltb-false, leb-false, eqb-false}
 use lib.Dec.{ltb, leb, eqb}
 use lib.ListN.{length, getD, set, length-set, length-replicate}
 use lib.Seq.{getD-set-same, getD-set-other}
 use Rattle.laws.proofs.Choice.{if-both}
 use Rattle.laws.proofs.Arrays.{nothing-at}
 use Rattle.laws.proofs.Loops.{iter-keeps}
-use Rattle.numbers.specs.declared.Number.{Number}
-use Rattle.numbers.specs.declared.Number.the-variants.{Value, Fault}
-use Rattle.numbers.specs.Number.{numberAt}
 use Rattle.fields.specs.declared.Cursor.{Cursor}
 use Rattle.fields.specs.Fields.{failed, reference}
-use Rattle.fields.proofs.Ranges.{Known, form-bad, reference-known, reference-in}
-use Rattle.pairs.specs.declared.Count.{Count}
+use Rattle.fields.proofs.Ranges.{Known, code-known, code-in, reference-known, reference-in}
 use Rattle.pairs.specs.declared.Pairs.{Pairs}
-use Rattle.pairs.specs.Pairs.{placeOf, noPairs, noCount, judgeCount, pairCount, ordered, aPair, pairTurn, pairsFrom, named, pairs}
+use Rattle.pairs.specs.Pairs.{placeOf, noPairs, counted, pairCount, ordered, aPair, pairTurn, pairsFrom, named, pairs}
 
 -- ---- the number of pairs
 
--- what is judged is a number with no fault, or a known fault
-judge-known : (s : List ℕ) (at : ℕ) (n : Number) → n ≡ numberAt s at → Known (judgeCount n at .cur)
-unfolding judgeCount noCount failed
-judge-known s at (Value v next) e = if-both (λ (n : Count). Known (n .cur)) (ltb 1128 v) (λ t. inr (omega arith, omega arith)) (λ t. inl refl)
-judge-known s at (Fault number place) e = inr (form-bad s at number place e)
-
--- its fault is known
+-- its fault is known, as a code's is
 count-known : (s : List ℕ) (c : Cursor) → Known c → Known (pairCount s c .cur)
-unfolding pairCount noCount failed
-count-known s c k = if-both (λ (n : Count). Known (n .cur)) (eqb (c .fault) 0) (λ t. judge-known s (c .at) (numberAt s (c .at)) refl) (λ t. k)
+unfolding pairCount counted
+count-known s c k = code-known s c 0 1128 k
 
 -- with no fault there was none before
 count-before : (s : List ℕ) (c : Cursor) → pairCount s c .cur .fault ≡ 0 → c .fault ≡ 0
-unfolding pairCount noCount failed
-count-before s c = if-both (λ (n : Count). n .cur .fault ≡ 0 → c .fault ≡ 0) (eqb (c .fault) 0) (λ t e. eqb-true (c .fault) 0 t) (λ t e. e)
+unfolding pairCount counted
+count-before s c e = code-in s c 0 1128 e .0
 
 -- ---- a pair's order
 

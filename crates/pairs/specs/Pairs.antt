@@ -5,11 +5,8 @@ use lib.Dec.{eqb, ltb, leb}
 use lib.ListN.{set, replicate}
 use Rattle.laws.specs.Choice.{if_then_else_}
 use Rattle.laws.specs.Tables.{iter}
-use Rattle.numbers.specs.declared.Number.{Number}
-use Rattle.numbers.specs.declared.Number.the-variants.{Value, Fault}
-use Rattle.numbers.specs.Number.{numberAt}
 use Rattle.fields.specs.declared.Cursor.{Cursor}
-use Rattle.fields.specs.Fields.{failed, reference}
+use Rattle.fields.specs.Fields.{failed, code, reference}
 use Rattle.pairs.specs.declared.Count.{Count}
 use Rattle.pairs.specs.declared.Pair.{Pair}
 use Rattle.pairs.specs.declared.Pairs.{Pairs}
@@ -22,18 +19,13 @@ placeOf i j = 48 * i + j
 unfoldable pub noPairs : List ℕ
 noPairs = replicate 2304 0
 
--- no number of pairs, for a fault at a place
-unfoldable pub noCount : ℕ → ℕ → Count
-noCount at fault = record { cur = failed at fault; pairs = 0 }
+-- what was read, as a number of conflicts
+unfoldable pub counted : Cursor → Count
+counted d = record { cur = record { at = d .at; fault = d .fault; value = 0 }; pairs = d .value }
 
--- what was read as the number of conflicts: 0..1,128, else 23
-unfoldable pub judgeCount : Number → ℕ → Count
-judgeCount (Value v next) at = if ltb 1128 v then noCount at 23 else record { cur = record { at = next; fault = 0; value = 0 }; pairs = v }
-judgeCount (Fault number place) at = noCount place number
-
--- the number of conflicts, unless a fault was met before
+-- the number of conflicts, 0..1,128, else 23, unless a fault was met before
 unfoldable pub pairCount : List ℕ → Cursor → Count
-pairCount s c = if eqb (c .fault) 0 then judgeCount (numberAt s (c .at)) (c .at) else noCount (c .at) (c .fault)
+pairCount s c = counted (code s c 0 1128)
 
 -- a pair's second number b, whose first is a: smaller first, and after the last pair; else 23 at its second number, after 24
 unfoldable pub ordered : Cursor → Cursor → ℕ → Cursor

@@ -4,7 +4,8 @@ use fields::read_reference;
 use numbers::Number;
 ghost use mathlib.Core.Path.{_≡_};
 ghost use Prim.Native.Nat.{_<_, _≤_};
-ghost use Rattle.pairs.specs.Pairs.{placeOf, noCount, judgeCount, pairCount, ordered, aPair, pairsFrom, named, pairs, noPairs};
+ghost use Rattle.fields.specs.Fields.{failed, judge};
+ghost use Rattle.pairs.specs.Pairs.{placeOf, counted, pairCount, ordered, aPair, pairsFrom, named, pairs, noPairs};
 
 // How many pairs there are, up to 1,128.
 pub struct Count {
@@ -35,7 +36,7 @@ pub fn place_of(i: u8, j: u8) -> usize
 
 // No number of pairs, for a fault at a place.
 fn no_count(at: usize, fault: u8) -> Count
-    ensures { λ r. ⌜ r ≡ noCount at fault ⌝ }
+    ensures { λ r. ⌜ r ≡ counted (failed at fault) ⌝ }
 {
     Count {
         cur: Cursor {
@@ -49,7 +50,7 @@ fn no_count(at: usize, fault: u8) -> Count
 
 // What was read as the number of pairs.
 fn judged_count(n: Number, at: usize) -> Count
-    ensures { λ r. ⌜ r ≡ judgeCount n at ⌝ }
+    ensures { λ r. ⌜ r ≡ counted (judge n at 0 1129 23) ⌝ }
 {
     match n {
         Number::Value { value, next } => {

@@ -19,11 +19,11 @@ use Rattle.interlocking.specs.declared.State.{State}
 use Rattle.interlocking.specs.State.{inRange}
 use Rattle.panel.specs.declared.Drawn.{Drawn}
 use Rattle.panel.specs.Panel.{image, panelLength, refused, answer, drawn}
-use Rattle.panel.specs.Writes.{Within}
+use Rattle.panel.specs.Writes.{FitsTables}
 use Rattle.panel.proofs.Laws.{length-image}
 
 -- a sound layout has no more objects than the tables of a state hold
-sound-within : (L : Layout) → sound L ≡ true → Within L
+sound-within : (L : Layout) → sound L ≡ true → FitsTables L
 unfolding sound fits between
 sound-within L e =
     let f : fits L ≡ true = every-at _ e 0 in record {
@@ -35,7 +35,7 @@ sound-within L e =
     }
 
 -- so of a layout that the code found sound
-pub sound-holds : (L : Layout) (v : Bool) → v ≡ sound L → not v ≡ false → Within L
+pub sound-holds : (L : Layout) (v : Bool) → v ≡ sound L → not v ≡ false → FitsTables L
 sound-holds L v e q = sound-within L (sym e ∙ not-false v q)
 
 module _ (L : Layout) (s : State) (buffer : List ℕ) where

@@ -9,11 +9,11 @@ use lib.Seq.{sets, ext-getD}
 use Rattle.laws.specs.Choice.{if_then_else_}
 use Rattle.laws.specs.Tables.{table, read}
 use Rattle.laws.proofs.Tables.{length-table, table-at}
-use Rattle.tables.specs.Readings.{reading, lies}
+use Rattle.tables.specs.Readings.{reading, pointReading}
 use Rattle.layout.specs.declared.Layout.{Layout}
 use Rattle.interlocking.specs.declared.State.{State}
 use Rattle.panel.specs.Panel.{join, signalByte, routeByte, lineBytes, image, panelLength}
-use Rattle.panel.specs.Writes.{Wrote, Within, readingBytes, objectBytes}
+use Rattle.panel.specs.Writes.{Wrote, FitsTables, readingBytes, objectBytes}
 use Rattle.panel.proofs.Blocks.{length-lines}
 use Rattle.panel.proofs.Writes.{wrote-then}
 
@@ -41,11 +41,11 @@ table-next n f {k = k} p = p .place ∙ ap (λ w. k + w) (length-table n f)
 
 -- ---- the parts of the image
 
-module _ (L : Layout) (s : State) (w : Within L) where
+module _ (L : Layout) (s : State) (w : FitsTables L) where
   -- the two tables of readings, copied one after the other, are the first part
   pub readings-made : (a b c : List ℕ) (k m : ℕ) → Wrote a 0 (table (L .sections) (λ i. getD (s .section) i 0)) b k
       → Wrote b k (table (L .points) (λ i. getD (s .point) i 0)) c m → Wrote a 0 (readingBytes L s) c m
-  unfolding readingBytes reading lies
+  unfolding readingBytes reading pointReading
   readings-made a b c k m p q =
       rw (← table-read (λ x. x) (L .sections) 64 3 (s .section) (w .sections), ← table-read (λ x. x) (L .points) 32 3 (s .point) (w .points)) (wrote-then p q)
 

@@ -11,7 +11,7 @@ use Rattle.track.specs.declared.Line.{Line}
 use Rattle.track.specs.declared.Route.{Route}
 use Rattle.track.specs.Codes.{aToB, bToA, stage0, idle, cancelling}
 use Rattle.track.specs.Objects.{line, route}
-use Rattle.tables.specs.Readings.{reading, lies}
+use Rattle.tables.specs.Readings.{reading, pointReading}
 use Rattle.tables.specs.Blocks.{place}
 use Rattle.tables.specs.Locks.{direction, phase}
 use Rattle.signals.specs.Signals.{enterable, routeProceeds}
@@ -89,7 +89,7 @@ lineBytes ls directions points stages bars l = join (line ls l .blocks) (blockBy
 unfoldable pub image : Layout → State → List ℕ
 image L s =
     table (L .sections) (reading (s .section))
-    ++ table (L .points) (lies (s .point))
+    ++ table (L .points) (pointReading (s .point))
     ++ table (L .signals) (signalByte (L .routes) (L .route) (s .phase))
     ++ table (L .routes) (λ r. routeByte (phase (s .phase) r))
     ++ table (L .lines) (direction (s .direction))

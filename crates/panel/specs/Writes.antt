@@ -10,7 +10,7 @@ use Rattle.laws.specs.Tests.{_and_, every}
 use Rattle.laws.specs.Tables.{table, read}
 use Rattle.track.specs.declared.Line.{Line}
 use Rattle.track.specs.Codes.{aToB, bToA, stage0}
-use Rattle.tables.specs.Readings.{reading, lies, linePlaced}
+use Rattle.tables.specs.Readings.{reading, pointReading, linePlaced}
 use Rattle.tables.specs.Blocks.{place, isOpen, unbarred}
 use Rattle.tables.specs.Locks.{direction, phase}
 use Rattle.layout.specs.declared.Layout.{Layout}
@@ -36,7 +36,7 @@ lineBy b directions points stages bars l = join (b .blocks) (blockBy stages bars
 
 -- section and point readings
 unfoldable pub readingBytes : Layout → State → List ℕ
-readingBytes L s = table (L .sections) (reading (s .section)) ++ table (L .points) (lies (s .point))
+readingBytes L s = table (L .sections) (reading (s .section)) ++ table (L .points) (pointReading (s .point))
 
 -- signals, routes, lines
 unfoldable pub objectBytes : Layout → State → List ℕ
@@ -46,7 +46,7 @@ objectBytes L s =
     ++ table (L .lines) (direction (s .direction))
 
 -- a layout's objects are no more than the tables of a state hold
-pub record Within (L : Layout) : Type 0 where
+pub record FitsTables (L : Layout) : Type 0 where
   pub sections : L .sections ≤ 64
   pub points : L .points ≤ 32
   pub signals : L .signals ≤ 32

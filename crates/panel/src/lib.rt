@@ -9,7 +9,7 @@ ghost use Prim.Native.Nat.{_≤_};
 ghost use lib.ListN.{length};
 ghost use lib.Seq.{sets};
 ghost use Rattle.panel.specs.Panel.{image, panelLength, answer, drawn};
-ghost use Rattle.panel.specs.Writes.{Within};
+ghost use Rattle.panel.specs.Writes.{FitsTables};
 
 // The answer to a request for the image: 0 and how many bytes it has; 18 or 27 and 0.
 #[repr(C)]
@@ -31,7 +31,7 @@ fn panel_length(l: Layout) -> usize
 
 // The image, over the first bytes of the buffer.
 fn draw(l: Layout, s: State, buffer: &mut [u8])
-    requires { ⌜ Within l × (panelLength l ≤ length (now buffer)) ⌝ }
+    requires { ⌜ FitsTables l × (panelLength l ≤ length (now buffer)) ⌝ }
     ensures { λ _. ⌜ now (buffer .exit) ≡ sets (now (buffer .entry)) 0 (image l s) ⌝ }
 {
     let ls = l.line;

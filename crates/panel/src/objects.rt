@@ -7,7 +7,7 @@ ghost use Prim.Native.Nat.{_+_, _≤_};
 ghost use lib.ListN.{length, getD};
 ghost use Rattle.laws.specs.Tables.{table};
 ghost use Rattle.panel.specs.Panel.{proceedByte, signalByte, routeByte};
-ghost use Rattle.panel.specs.Writes.{Wrote, Within, readingBytes, objectBytes};
+ghost use Rattle.panel.specs.Writes.{Wrote, FitsTables, readingBytes, objectBytes};
 
 // The first n bytes of a table, over the buffer from a place on; the place after them.
 fn copy(from: &[u8], n: u8, buffer: &mut [u8], at: usize) -> usize
@@ -86,7 +86,7 @@ fn put_routes(phases: &[u8; 48], n: u8, buffer: &mut [u8], at: usize) -> usize
 
 // What sections and points read, over the first bytes of the buffer; the place after them.
 pub fn put_readings(l: Layout, s: State, buffer: &mut [u8]) -> usize
-    requires { ⌜ Within l × (l .sections + l .points ≤ length (now buffer)) ⌝ }
+    requires { ⌜ FitsTables l × (l .sections + l .points ≤ length (now buffer)) ⌝ }
     ensures { λ r. ⌜ Wrote (now (buffer .entry)) 0 (readingBytes l s) (now (buffer .exit)) r ⌝ }
 {
     let next = copy(&s.section, l.sections, buffer, 0);
@@ -95,7 +95,7 @@ pub fn put_readings(l: Layout, s: State, buffer: &mut [u8]) -> usize
 
 // The bytes of signals, routes and lines, over the buffer from a place on; the place after them.
 pub fn put_objects(l: Layout, s: State, buffer: &mut [u8], at: usize) -> usize
-    requires { ⌜ Within l × (at + (l .signals + l .routes + l .lines) ≤ length (now buffer)) ⌝ }
+    requires { ⌜ FitsTables l × (at + (l .signals + l .routes + l .lines) ≤ length (now buffer)) ⌝ }
     ensures { λ r. ⌜ Wrote (now (buffer .entry)) at (objectBytes l s) (now (buffer .exit)) r ⌝ }
 {
     let rs = l.route;

@@ -19,7 +19,7 @@ use Rattle.fields.proofs.Ranges.{Known, code-known, code-most, code-in, referen
 use Rattle.track.specs.declared.Counts.{Counts}
 use Rattle.track.specs.Objects.{noLine, noRoute, line, route}
 use Rattle.track.specs.Lists.{between, referring, positions}
-use Rattle.track.specs.Ranges.{placed, lineFits, routeFits}
+use Rattle.track.specs.Ranges.{pointsFit, lineFits, routeFits}
 use Rattle.reading.specs.declared.Owned.{Owned}
 use Rattle.reading.specs.declared.Lines.{Lines}
 use Rattle.reading.specs.declared.End.{End}
@@ -41,9 +41,9 @@ unfolding referring
 referring-from n objects xs h = all-from n _ (λ k l. lt-ltb _ objects (h k l))
 
 -- points with positions
-placed-from : (objects : ℕ) (t : Points) → PointsIn objects t → placed objects (t .count) (t .point) (t .position) ≡ true
-unfolding placed positions
-placed-from objects t p =
+pointsFit-from : (objects : ℕ) (t : Points) → PointsIn objects t → pointsFit objects (t .count) (t .point) (t .position) ≡ true
+unfolding pointsFit positions
+pointsFit-from objects t p =
     every-more _ _ _ (le-leb _ 8 (p .most)) (every-more _ _ _ (referring-from _ objects _ (p .points))
     (every-one _ (all-from _ _ (λ k l. let w = p .positions k l in between-from 1 2 _ (w .0) (w .1)))))
 
@@ -98,7 +98,7 @@ module _ (s : List ℕ) (n : Counts) (c : Cursor) where
         b .0,
         every-more _ _ _ (between-from 1 8 _ (b .1 .least) (b .1 .most)) (every-more _ _ _ (referring-from _ _ _ (b .1 .each))
             (every-more _ _ _ (lt-ltb _ _ (innera .1)) (every-more _ _ _ (lt-ltb _ _ (innerb .1)) (every-more _ _ _ (lt-ltb _ _ (entrancea .1))
-            (every-more _ _ _ (lt-ltb _ _ (entranceb .1)) (every-one _ (placed-from (n .points) _ (p .1)))))))),
+            (every-more _ _ _ (lt-ltb _ _ (entranceb .1)) (every-one _ (pointsFit-from (n .points) _ (p .1)))))))),
       )
 
 -- ---- the lines
@@ -171,7 +171,7 @@ module _ (s : List ℕ) (n : Counts) (c : Cursor) where
         every-more _ _ _ (and-both _ _ (lt-ltb _ _ (entry .1)) (le-leb _ _ (code-most s _ 0 2 refl))) (every-more _ _ _ (end .1)
             (every-more _ _ _ (le-leb _ _ (code-most s _ 0 1 refl)) (every-more _ _ _ (between-from 1 8 _ (p .1 .least) (p .1 .most))
             (every-more _ _ _ (referring-from _ _ _ (p .1 .each)) (every-more _ _ _ (le-leb _ 4 (o .1 .most))
-            (every-more _ _ _ (referring-from _ _ _ (o .1 .each)) (every-one _ (placed-from (n .points) _ (q .1))))))))),
+            (every-more _ _ _ (referring-from _ _ _ (o .1 .each)) (every-one _ (pointsFit-from (n .points) _ (q .1))))))))),
       )
 
 -- ---- the routes

@@ -27,7 +27,7 @@ anEnd s c lines =
 
 -- then for kinds 1 and 2 the line and the end; the kind is the number read last
 unfoldable pub lineAndEnd : List ℕ → Cursor → ℕ → End
-lineAndEnd s c lines = if eqb (c .value) 0 then record { cur = c; line = 0; end = 0 } else anEnd s c lines
+lineAndEnd s c lines = if eqb (c .value) innerRoute then record { cur = c; line = 0; end = endA } else anEnd s c lines
 
 -- entry signal, kind (0 inner, 1 entrance, 2 exit), line and end, diverging 0 or 1
 unfoldable pub routeHead : List ℕ → Counts → Cursor → Head

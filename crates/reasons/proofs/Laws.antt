@@ -15,14 +15,14 @@ use Rattle.track.specs.declared.Line.{Line}
 use Rattle.track.specs.Objects.{noLine, line}
 use Rattle.pairs.specs.Pairs.{placeOf}
 use Rattle.tables.specs.Readings.{reading}
-use Rattle.tables.specs.Blocks.{isOpen, unbarred}
+use Rattle.tables.specs.Blocks.{untaken, isOpen, unbarred}
 use Rattle.layout.specs.declared.Layout.{Layout}
 use Rattle.layout.specs.Layout.{lineIn, entryOf, conflict}
 use Rattle.reasons.specs.declared.Refusal.{Refusal}
 use Rattle.reasons.specs.Refusal.{refused, noRefusal, when, found, firstOf}
-use Rattle.searches.specs.Searches.{lacking, conflictsWith, untaken, failing}
+use Rattle.searches.specs.Searches.{lacking, conflictsWith, failing}
 use Rattle.tables.specs.Locks.{locked}
-use Rattle.reasons.specs.Leaves.{notFree, conflicting, blockBarred, blockHeld}
+use Rattle.reasons.specs.Reasons.{notFree, conflicting, blockBarred, blockHeld}
 
 -- ---- the first refusal of a list: v is what the code found of the first
 
@@ -93,12 +93,12 @@ module _ (ls : List Line) (table : List ℕ) (l g : ℕ) (r : Refusal) (b : Line
     (d : g ≡ lowest 64 (failing (untaken table l) (b .blocks) (b .block))) where
   -- by the table of bars
   pub barred-found : r ≡ when (ltb g 64) 11 g → r ≡ blockBarred ls table l
-  unfolding blockBarred unbarred untaken
+  unfolding blockBarred unbarred
   barred-found q = taken-found table l 11 g r b (line ls l) e d q
 
   -- by the table of stages
   pub held-found : r ≡ when (ltb g 64) 10 g → r ≡ blockHeld ls table l
-  unfolding blockHeld isOpen untaken
+  unfolding blockHeld isOpen
   held-found q = taken-found table l 10 g r b (line ls l) e d q
 
 -- ---- past the last line there is no block

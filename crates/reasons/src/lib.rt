@@ -28,7 +28,7 @@ ghost use Rattle.sets.specs.Sets.{joined, union, setOf};
 ghost use Rattle.tables.specs.Blocks.{isOpen, unbarred};
 ghost use Rattle.tables.specs.Locks.{direction, phase, locked};
 ghost use Rattle.reasons.specs.Refusal.{refused, noRefusal, when};
-ghost use Rattle.reasons.specs.Leaves.{notFree, notPlaced, conflicting, byRoute, byLine, exitLocked, blockBarred, blockHeld};
+ghost use Rattle.reasons.specs.Reasons.{notFree, notPlaced, conflicting, byRoute, byLine, exitLocked, blockBarred, blockHeld};
 
 // A refusal: its number and its detail; number 0 where there is none.
 pub struct Refusal {

@@ -15,14 +15,14 @@ use Rattle.tables.specs.Locks.{direction, phase, locked}
 use Rattle.layout.specs.declared.Layout.{Layout}
 use Rattle.reasons.specs.declared.Refusal.{Refusal}
 use Rattle.reasons.specs.Refusal.{noRefusal, when, firstOf}
-use Rattle.reasons.specs.Leaves.{notFree, notPlaced, conflicting, byRoute, byLine, exitLocked, blockBarred, blockHeld}
+use Rattle.reasons.specs.Reasons.{notFree, notPlaced, conflicting, byRoute, byLine, exitLocked, blockBarred, blockHeld}
 
 -- throw: 15, 16, then 7/8 for the point's own section
 unfoldable pub throwRefusal : Layout → List ℕ → List ℕ → List ℕ → ℕ → Refusal
 throwRefusal L sections phases directions p =
     firstOf (byRoute L phases p ∷ byLine L directions p ∷ notFree sections (joined 0 (read 32 0 (L .pointsection) p)) ∷ [])
 
--- an exit route besides: 9, 6 for the line's points, 11, 10 for the block it enters; a train leaves end A, 0, in direction A to B, 1, and end B, 1, in direction B to A, 2
+-- an exit route besides: 9, 6 for the line's points, 11, 10 for the block it enters
 unfoldable pub exitRefusal : List Line → List ℕ → List ℕ → List ℕ → List ℕ → Route → Refusal
 exitRefusal ls points directions stages bars a =
     firstOf (
@@ -32,7 +32,7 @@ exitRefusal ls points directions stages bars a =
     ∷ when (not (isOpen stages (a .line) (nearest (line ls (a .line)) (a .end)))) 10 (nearestSection (line ls (a .line)) (a .end))
     ∷ [])
 
--- what a route's own lists ask: 6, 7/8 over path and overlap; an exit route then 9, 6, 11, 10
+-- set route after 4 and 5: 6, 7/8 over path and overlap; an exit route then 9, 6, 11, 10
 unfoldable pub routeRefusal : List Line → List ℕ → List ℕ → List ℕ → List ℕ → List ℕ → Route → Refusal
 routeRefusal ls sections points directions stages bars a =
     firstOf (
@@ -41,7 +41,7 @@ routeRefusal ls sections points directions stages bars a =
     ∷ (if eqb (a .kind) exitRoute then exitRefusal ls points directions stages bars a else noRefusal)
     ∷ [])
 
--- set route: 4, 5, then what its lists ask
+-- set route: 4, 5, then 6, 7/8, and of an exit route 9, 6, 11, 10
 unfoldable pub setRefusal : Layout → List ℕ → List ℕ → List ℕ → List ℕ → List ℕ → List ℕ → ℕ → Refusal
 setRefusal L sections points phases directions stages bars r =
     firstOf (

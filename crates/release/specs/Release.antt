@@ -9,7 +9,7 @@ use Rattle.laws.specs.Tests.{_and_, _or_, implies}
 use Rattle.track.specs.declared.Line.{Line}
 use Rattle.track.specs.declared.Route.{Route}
 use Rattle.track.specs.Codes.{free, occupied, none, entranceRoute, exitRoute, idle, cancelling}
-use Rattle.track.specs.Objects.{line, nearestSection}
+use Rattle.track.specs.Objects.{line, nearestSection, lastSection}
 use Rattle.tables.specs.Readings.{reading, allFree}
 use Rattle.signals.specs.Signals.{fallen}
 use Rattle.release.specs.declared.Gives.{Gives}
@@ -26,10 +26,10 @@ endBlock ls a = nearestSection (line ls (a .line)) (a .end)
 
 -- the watched pair: for an exit route the last path section, then the block entered; otherwise the last but one and the last path section
 unfoldable pub firstWatched : Route → ℕ
-firstWatched a = if eqb (a .kind) exitRoute then getD (a .path) (a .paths - 1) 0 else getD (a .path) (a .paths - 2) 0
+firstWatched a = if eqb (a .kind) exitRoute then lastSection a else getD (a .path) (a .paths - 2) 0
 
 unfoldable pub secondWatched : List Line → Route → ℕ
-secondWatched ls a = if eqb (a .kind) exitRoute then endBlock ls a else getD (a .path) (a .paths - 1) 0
+secondWatched ls a = if eqb (a .kind) exitRoute then endBlock ls a else lastSection a
 
 -- the steps, from what was given to the first and the second section of the pair, and what they read after the event: 1, the first is given occupied;
 -- 2, the second is given occupied while the first reads occupied; 3, the first is given free. If the first reads free before the second step, or

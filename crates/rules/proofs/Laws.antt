@@ -13,19 +13,17 @@ use Rattle.laws.proofs.Arrays.{read-in, read-past, lent-at}
 use Rattle.laws.proofs.Choice.{if-eq, if-ne}
 use Rattle.track.specs.declared.Line.{Line}
 use Rattle.track.specs.declared.Route.{Route}
-use Rattle.track.specs.Objects.{noLine, line}
+use Rattle.track.specs.Objects.{noLine, line, lastSection}
 use Rattle.sets.specs.Sets.{joined}
-use Rattle.rules.specs.Rules.{hasEntrance, endSection}
+use Rattle.rules.specs.Rules.{hasEntrance}
 use Rattle.rules.specs.Sets.{sideWith}
 
 -- the last section of a path with none is the first entry
-pub last-none : (a : Route) (r : ℕ) → a .paths ≡ 0 → r ≡ getD (a .path) 0 0 → r ≡ endSection a
-unfolding endSection
+pub last-none : (a : Route) (r : ℕ) → a .paths ≡ 0 → r ≡ getD (a .path) 0 0 → r ≡ lastSection a
 last-none a r e q = q ∙ ap (λ k. getD (a .path) k 0) (omega arith)
 
 -- of any other it is the entry before the count's end
-pub last-there : (a : Route) (r : ℕ) → r ≡ getD (a .path) (a .paths - 1) 0 → r ≡ endSection a
-unfolding endSection
+pub last-there : (a : Route) (r : ℕ) → r ≡ getD (a .path) (a .paths - 1) 0 → r ≡ lastSection a
 last-there a r q = q
 
 -- the i-th point of a route, by the position that the code reads

@@ -1,5 +1,5 @@
 -- The rules of section 2, as they bear on one line, on one route and on two routes.
-use Prim.Native.Nat.{ℕ, _-_}
+use Prim.Native.Nat.{ℕ}
 use mathlib.Core.Bool.{Bool, not}
 use mathlib.Core.List.{List, [], _∷_}
 use lib.Dec.{eqb, leb}
@@ -8,10 +8,10 @@ use Rattle.laws.specs.Tests.{_and_, _or_, implies, every, any}
 use Rattle.track.specs.declared.Line.{Line}
 use Rattle.track.specs.declared.Route.{Route}
 use Rattle.track.specs.Codes.{left, right, entranceRoute, exitRoute}
-use Rattle.track.specs.Objects.{line, inner, entrance}
+use Rattle.track.specs.Objects.{line, inner, entrance, lastSection}
 use Rattle.track.specs.Lists.{among, differ}
 
--- some section, or some point, is both: there are at most 64 of them
+-- some section, or some point, passes both tests; there are at most 64 of either
 unfoldable pub share : (ℕ → Bool) → (ℕ → Bool) → Bool
 share p q = any 64 (λ g. p g and q g)
 
@@ -65,17 +65,13 @@ routeLists a = differ (a .paths) (a .path) and differ (a .points) (a .point)
 unfoldable pub routeLength : Route → Bool
 routeLength a = eqb (a .kind) exitRoute or leb 2 (a .paths)
 
--- the last path section
-unfoldable pub endSection : Route → ℕ
-endSection a = getD (a .path) (a .paths - 1) 0
-
 -- rule 5: an entrance route starts at its end's entrance signal and its first path section is that inner section;
 -- an exit route's last path section is its end's inner section; kinds 0 and 2 start at no entrance signal
 unfoldable pub routeEnds : ℕ → List Line → Route → Bool
 routeEnds n ls a = every (
     implies (eqb (a .kind) entranceRoute)
     (eqb (a .entry) (entrance (line ls (a .line)) (a .end)) and eqb (getD (a .path) 0 0) (inner (line ls (a .line)) (a .end)))
-    ∷ implies (eqb (a .kind) exitRoute) (eqb (endSection a) (inner (line ls (a .line)) (a .end)))
+    ∷ implies (eqb (a .kind) exitRoute) (eqb (lastSection a) (inner (line ls (a .line)) (a .end)))
     ∷ (eqb (a .kind) entranceRoute or not (isEntrance n ls (a .entry)))
     ∷ [])
 

@@ -14,8 +14,9 @@ ghost use mathlib.Core.Path.{_≡_};
 ghost use lib.Dec.{eqb};
 ghost use lib.ListN.{length};
 ghost use Rattle.laws.specs.Tests.{_or_};
+ghost use Rattle.track.specs.Objects.{lastSection};
 ghost use Rattle.track.specs.Lists.{differ};
-ghost use Rattle.rules.specs.Rules.{isEntrance, once, lineEnds, linePoints, routeLists, routeLength, endSection, routeEnds};
+ghost use Rattle.rules.specs.Rules.{isEntrance, once, lineEnds, linePoints, routeLists, routeLength, routeEnds};
 ghost use Rattle.rules.specs.Sets.{lineBlocks, blockSet, innerTurn, innerSet, offBlocks, sideWith, sideSet, reachOf, clashing};
 
 // What rule 6 asks of a route: its entry signal, the set of its path sections, of its points to the left, of those to the right.
@@ -183,7 +184,7 @@ pub fn route_length(a: Route) -> bool
 
 // The last section of a route's path.
 fn last_section(a: Route) -> u8
-    ensures { λ r. ⌜ r ≡ endSection a ⌝ }
+    ensures { λ r. ⌜ r ≡ lastSection a ⌝ }
 {
     let path = a.path;
     if a.paths == 0 {

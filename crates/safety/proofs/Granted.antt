@@ -22,7 +22,7 @@ use Rattle.reasons.specs.declared.Refusal.{Refusal}
 use Rattle.reasons.specs.Refusal.{refused, noRefusal, when, found, firstOf}
 use Rattle.searches.specs.Searches.{lacking}
 use Rattle.tables.specs.Locks.{locked, lockedExitBy, lockedExit}
-use Rattle.reasons.specs.Leaves.{notFree, exitLocked}
+use Rattle.reasons.specs.Reasons.{notFree, exitLocked}
 use Rattle.refusals.specs.Orders.{cancelRefusal, manualRefusal}
 use Rattle.refusals.specs.Events.{objects, secondWrong, eventRefusal}
 use Rattle.interlocking.specs.declared.State.{State}

@@ -23,7 +23,7 @@ use Rattle.reasons.specs.declared.Refusal.{Refusal}
 use Rattle.reasons.specs.Refusal.{refused, found}
 use Rattle.searches.specs.Searches.{lacking}
 use Rattle.tables.specs.Locks.{locked, lockedExitBy, lockedExit}
-use Rattle.reasons.specs.Leaves.{notFree, conflicting, exitLocked}
+use Rattle.reasons.specs.Reasons.{notFree, conflicting, exitLocked}
 use Rattle.refusals.specs.Orders.{exitRefusal, routeRefusal, setRefusal, cancelRefusal, secureRefusal, manualRefusal}
 use Rattle.refusals.specs.Events.{eventRefusal}
 use Rattle.refusals.proofs.Granted.{granted-at, when-granted}

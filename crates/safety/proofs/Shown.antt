@@ -4,7 +4,7 @@ use mathlib.Core.List.{[], _∷_, _++_}
 use Rattle.laws.specs.Choice.{if_then_else_}
 use Rattle.laws.specs.Tests.{_or_}
 use Rattle.laws.specs.Tables.{table, read}
-use Rattle.tables.specs.Readings.{reading, lies}
+use Rattle.tables.specs.Readings.{reading, pointReading}
 use Rattle.tables.specs.Blocks.{place}
 use Rattle.layout.specs.declared.Layout.{Layout}
 use Rattle.layout.specs.Layout.{lineIn}
@@ -15,7 +15,7 @@ use Rattle.safety.specs.Shown.{main, into, signalShows, routeShows, line
 -- section and point readings; then main signals, routes and lines; then of each block its stage, its signal A to B and its signal B to A
 pub image-shows : (L : Layout) (s : State) → image L s
     ≡ table (L .sections) (reading (s .section))
-    ++ table (L .points) (lies (s .point))
+    ++ table (L .points) (pointReading (s .point))
     ++ table (L .signals) (λ x. panel L s .signal (main x))
     ++ table (L .routes) (panel L s .route)
     ++ table (L .lines) (panel L s .line)

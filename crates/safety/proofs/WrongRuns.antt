@@ -14,7 +14,7 @@ use Rattle.layout_facts.specs.BranchT.{layoutT}
 use Rattle.safety.specs.Cases.{same}
 use Rattle.safety.specs.History.{History}
 use Rattle.safety.specs.Demand3.{Safe}
-use Rattle.safety.specs.WrongRuns.{twoBlocks, innerIsBlock, sharedBlock, innerPassedBy, kept, Asked, secured, alone, isFree, cleared, Broken, Run, told, Each, unsafe, together, showing, right, Differs, unlike}
+use Rattle.safety.specs.WrongRuns.{twoBlocks, innerIsBlock, sharedBlock, innerPassedBy, kept, Asked, secured, alone, isFree, cleared, Broken, Run, told, Each, unsafe, together, showing, ofTheBox, Differs, unlike}
 use Rattle.safety.proofs.Computed.{runComputed}
 use Rattle.safety.proofs.Tested.{brokenTest, is-broken}
 
@@ -90,10 +90,10 @@ apart xs ys t q = not-both (ap (same xs) (sym q) ∙ is-same xs) (not-true _ t)
     is-same (z ∷ zs) = and-both _ _ (eq-eqb z z refl) (is-same zs)
 
 -- computed
-unlike-tested : passes (λ r. not (same (showing r) (right r))) unlike ≡ true
+unlike-tested : passes (λ r. not (same (showing r) (ofTheBox r))) unlike ≡ true
 unfolding runComputed
 unlike-tested = refl
 
 -- the panel after each run is not the box's
 pub wrong-boxes-differ : Each Differs unlike
-wrong-boxes-differ = each-passes _ (λ r. apart (showing r) (right r)) unlike unlike-tested
+wrong-boxes-differ = each-passes _ (λ r. apart (showing r) (ofTheBox r)) unlike unlike-tested

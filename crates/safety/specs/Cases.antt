@@ -5,6 +5,7 @@ use mathlib.Core.List.{List, [], _∷_, _++_}
 use lib.Dec.{eqb}
 use lib.ListN.{length, getD, replicate, take}
 use Rattle.laws.specs.Tests.{_and_}
+use Rattle.track.specs.Codes.{neutral, aToB, openBlock, stage0, stage1, idle, cancelling}
 use Rattle.layout.specs.declared.Layout.{Layout}
 use Rattle.interlocking.specs.declared.State.{State}
 use Rattle.interlocking.specs.declared.Answer.{Answer}
@@ -71,14 +72,14 @@ cases bytes =
     (8 ∷ 0 ∷ 0 ∷ 0 ∷ 0 ∷ 0 ∷ 0 ∷ 0 ∷ 0 ∷ 0 ∷ 0 ∷ 0 ∷ 10 ∷ 1 ∷ 0 ∷ 0 ∷ 0 ∷ 0 ∷ 0 ∷ 0 ∷ 0 ∷ 0 ∷ 5 ∷ 1 ∷ [])
     -- P2: the cold panel
     ∷ same (image L cold) coldPanel
-    -- P3: route 0 is released, the line secured, the block held in stage 1 (code 2)
-    ∷ same (look (fromCold L (p1 ++ p3))) (0 ∷ 1 ∷ 2 ∷ [])
+    -- P3: route 0 is released, the line secured, the block held in stage 1
+    ∷ same (look (fromCold L (p1 ++ p3))) (idle ∷ aToB ∷ stage1 ∷ [])
     -- P4: the block opens and the line is neutral
-    ∷ same (look (fromCold L (p1 ++ (p3 ++ p4)))) (0 ∷ 0 ∷ 0 ∷ [])
-    -- P5: held in stage 0 (code 1), secured
-    ∷ same (look (fromCold L (p1 ++ (p3 ++ p5)))) (0 ∷ 1 ∷ 1 ∷ [])
-    -- P6: cancelling (phase 3) after 89 seconds, idle after 90
-    ∷ same (route0 (answers (box L) (fromCold L (p1 ++ (event 5 0 0 ∷ []))) (replicate 90 (event 10 0 0)))) (replicate 89 3 ++ (0 ∷ []))
+    ∷ same (look (fromCold L (p1 ++ (p3 ++ p4)))) (idle ∷ neutral ∷ openBlock ∷ [])
+    -- P5: held in stage 0, secured
+    ∷ same (look (fromCold L (p1 ++ (p3 ++ p5)))) (idle ∷ aToB ∷ stage0 ∷ [])
+    -- P6: cancelling after 89 seconds, idle after 90
+    ∷ same (route0 (answers (box L) (fromCold L (p1 ++ (event 5 0 0 ∷ []))) (replicate 90 (event 10 0 0)))) (replicate 89 cancelling ++ (idle ∷ []))
     -- P7: a buffer of 15 bytes gets 27 and length 0 and stays as it was; one of 16 bytes gets the image
     ∷ same (outcome L (replicate 15 9)) (27 ∷ 0 ∷ replicate 15 9)
     ∷ same (outcome L (replicate 16 9)) (0 ∷ 16 ∷ coldPanel)

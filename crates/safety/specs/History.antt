@@ -1,5 +1,5 @@
 -- A run, told by its history: each event, the number of its answer, and what showed after it. What is told of a history looks at nothing else.
--- What sections read is told from the events alone, whatever the box answered: every code of a section that there is counts (section 1).
+-- What sections read is told from the events alone, whatever the box answered: every code counts (section 1).
 use Prim.Native.Nat.{ℕ}
 use mathlib.Core.Path.{_≡_}
 use mathlib.Core.Logic.{_⊎_}

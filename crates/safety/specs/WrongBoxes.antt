@@ -20,14 +20,14 @@ use Rattle.layout.specs.declared.Layout.{Layout}
 use Rattle.reasons.specs.declared.Refusal.{Refusal}
 use Rattle.reasons.specs.Refusal.{when, firstOf}
 use Rattle.tables.specs.Locks.{direction, locked, lockedExit}
-use Rattle.reasons.specs.Leaves.{notFree, exitLocked}
+use Rattle.reasons.specs.Reasons.{notFree, exitLocked}
 use Rattle.refusals.specs.Orders.{routeRefusal}
 use Rattle.refusals.specs.Events.{eventRefusal}
 use Rattle.interlocking.specs.declared.State.{State}
 use Rattle.interlocking.specs.declared.Answer.{Answer}
 use Rattle.interlocking.specs.State.{cold, withSections, withRoutes, withLines}
 use Rattle.interlocking.specs.Own.{blockAt}
-use Rattle.interlocking.specs.Settle.{signals, farProceeds, farDropped, farReading, farSections, routes, passable, wasPassed, lineRelease}
+use Rattle.interlocking.specs.Settle.{signals, farProceeds, farDropped, farReading, farSections, routes, passable, wasInStage2, directionAfter, lineRelease}
 use Rattle.interlocking.specs.Settle as settling
 use Rattle.interlocking.specs.Step.{refusal, meant, gives, own, refusedBy, askedInRun}
 use Rattle.step_facts.specs.Run.{Event, sectionReading, setRoute, cancelRoute, manualRelease, unbar}
@@ -177,7 +177,7 @@ waits89 = stepBy refuses (λ L s e. if eqb (e .kind) cancelRoute then counted (d
 -- line release, where a secured line becomes neutral if this holds
 abbrev pub endBy : (Layout → State → State → ℕ → ℕ → Bool) → Layout → State → State → State
 endBy ended L before s =
-    withLines s (each (L .lines) (λ l was. if eqb was neutral then was else if ended L before s l was then neutral else was) (s .direction)) (s .stage)
+    withLines s (each (L .lines) (directionAfter (ended L before s)) (s .direction)) (s .stage)
 
 -- the box that releases lines so
 abbrev endsWhere : (Layout → State → State → ℕ → ℕ → Bool) → Box
@@ -193,13 +193,13 @@ neverEnds = endsWhere (λ L before s l w. false)
 
 -- a locked exit route is not asked
 abbrev pub endsLocked : Box
-endsLocked = endsWhere (λ L before s l w. wasPassed (before .stage) (line (L .line) l) l w and all (line (L .line) l .blocks) (passable (s .stage) (s .bar) l))
+endsLocked = endsWhere (λ L before s l w. wasInStage2 (before .stage) (line (L .line) l) l w and all (line (L .line) l .blocks) (passable (s .stage) (s .bar) l))
 
 -- a held block is not asked, but for the last in travel
 abbrev pub endsHeld : Box
 endsHeld =
     endsWhere (λ L before s l w. every (
-    wasPassed (before .stage) (line (L .line) l) l w
+    wasInStage2 (before .stage) (line (L .line) l) l w
     ∷ isOpen (s .stage) l (settling.lastBlock (line (L .line) l) w)
     ∷ all (line (L .line) l .blocks) (unbarred (s .bar) l)
     ∷ unlocked L s l
@@ -208,7 +208,7 @@ endsHeld =
 -- a bar is not asked
 abbrev pub endsBarred : Box
 endsBarred =
-    endsWhere (λ L before s l w. every (wasPassed (before .stage) (line (L .line) l) l w ∷ all (line (L .line) l .blocks) (isOpen (s .stage) l) ∷ unlocked L s l ∷ []))
+    endsWhere (λ L before s l w. every (wasInStage2 (before .stage) (line (L .line) l) l w ∷ all (line (L .line) l .blocks) (isOpen (s .stage) l) ∷ unlocked L s l ∷ []))
 
 -- it is not asked that the last block in travel went from stage 2 to open
 abbrev pub endsUnpassed : Box

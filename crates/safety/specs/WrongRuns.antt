@@ -206,12 +206,12 @@ abbrev pub showing : Run → List ℕ
 showing r = image (r .layout) (stateAfter (r .box (r .layout)) (r .start) (r .events))
 
 -- the one that the box shows after its events
-abbrev pub right : Run → List ℕ
-right r = image (r .layout) (stateAfter (boxInRun (r .layout)) cold (r .events))
+abbrev pub ofTheBox : Run → List ℕ
+ofTheBox r = image (r .layout) (stateAfter (boxInRun (r .layout)) cold (r .events))
 
 -- they differ
 abbrev pub Differs : Run → Type 0
-Differs r = showing r ≢ right r
+Differs r = showing r ≢ ofTheBox r
 
 -- the runs
 abbrev pub unlike : List Run

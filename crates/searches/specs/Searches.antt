@@ -13,8 +13,7 @@ use Rattle.track.specs.Codes.{free, neutral}
 use Rattle.track.specs.Objects.{line, route}
 use Rattle.track.specs.Lists.{among}
 use Rattle.pairs.specs.Pairs.{placeOf}
-use Rattle.tables.specs.Readings.{reading, lies}
-use Rattle.tables.specs.Blocks.{place}
+use Rattle.tables.specs.Readings.{reading, pointReading}
 use Rattle.tables.specs.Locks.{direction, locked}
 
 -- section g is in the set and does not read free
@@ -23,7 +22,7 @@ lacking sections set g = holds set g and not (eqb (reading sections g) free)
 
 -- point p is one of the first n and is not read in its position
 unfoldable pub misplaced : List ℕ → ℕ → List ℕ → List ℕ → ℕ → Bool
-misplaced points n ps ws p = any n (λ j. eqb (getD ps j 0) p and not (eqb (lies points p) (getD ws j 0)))
+misplaced points n ps ws p = any n (λ j. eqb (getD ps j 0) p and not (eqb (pointReading points p) (getD ws j 0)))
 
 -- route q is locked, and the table of conflicts has it with r
 unfoldable pub conflictsWith : List ℕ → List ℕ → ℕ → ℕ → Bool
@@ -35,10 +34,6 @@ routeLocks rs phases p r = locked phases r and among (route rs r .points) (route
 
 unfoldable pub lineLocks : List Line → List ℕ → ℕ → ℕ → Bool
 lineLocks ls directions p l = not (eqb (direction directions l) neutral) and among (line ls l .points) (line ls l .point) p
-
--- a table of blocks has 0 of block i of line l: the block is open, by the table of stages; it is not barred, by the table of bars
-unfoldable pub untaken : List ℕ → ℕ → ℕ → Bool
-untaken table l i = eqb (read 64 1 table (place l i)) 0
 
 -- section g is one of the first n blocks of a line, and the test, by a block's number, fails of it
 unfoldable pub failing : (ℕ → Bool) → ℕ → List ℕ → ℕ → Bool

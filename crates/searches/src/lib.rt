@@ -21,9 +21,10 @@ ghost use lib.ListN.{getD};
 ghost use Rattle.laws.specs.Tests.{_and_, lowest};
 ghost use Rattle.laws.specs.Tables.{read};
 ghost use Rattle.pairs.specs.Pairs.{placeOf};
-ghost use Rattle.tables.specs.Readings.{lies};
+ghost use Rattle.tables.specs.Readings.{pointReading};
+ghost use Rattle.tables.specs.Blocks.{untaken};
 ghost use Rattle.tables.specs.Locks.{lockedExit};
-ghost use Rattle.searches.specs.Searches.{lacking, misplaced, conflictsWith, routeLocks, lineLocks, untaken, failing};
+ghost use Rattle.searches.specs.Searches.{lacking, misplaced, conflictsWith, routeLocks, lineLocks, failing};
 
 // The section that point p stands in.
 pub fn section_of(own: [u8; 32], p: u8) -> u8
@@ -61,7 +62,7 @@ pub fn lowest_lacking(sections: &[u8; 64], set: u64) -> u8
 
 // The j-th of these points is p, and p is not read in its position.
 fn misplaced_at(points: &[u8; 32], ps: [u8; 8], ws: [u8; 8], p: u8, j: u8) -> bool
-    ensures { λ r. ⌜ r ≡ eqb (getD ps j 0) p and not (eqb (lies (now (points .entry)) p) (getD ws j 0)) ⌝ }
+    ensures { λ r. ⌜ r ≡ eqb (getD ps j 0) p and not (eqb (pointReading (now (points .entry)) p) (getD ws j 0)) ⌝ }
 {
     let x = at8(ps, j);
     if x != p {

@@ -15,7 +15,7 @@ use Rattle.laws.proofs.Each.{each-at, each-past}
 use Rattle.layout_facts.proofs.Means.{lastly, _also_, _&_, every-means, all-means}
 use Rattle.layout_facts.proofs.Lists.{between-means}
 use Rattle.interlocking.specs.declared.State.{State}
-use Rattle.interlocking.specs.State.{cold, codes, routesInRange, inRange, withSections, withPoints, withRoutes, withLines, withBars}
+use Rattle.interlocking.specs.State.{cold, codes, routesAndLinesInRange, inRange, withSections, withPoints, withRoutes, withLines, withBars}
 use Rattle.step_facts.specs.Range.{In, Within, InRange, Sections, Points, Orders, Phases, Steps, Seconds, Directions, Stages, Bars}
 
 -- ---- the test
@@ -36,7 +36,7 @@ ranged t = record { section = t .0; point = t .1; order = t .2; phase = t .3; st
 
 -- each table of a state
 pub inRange-means : (s : State) → inRange s ≡ true ↔ InRange s
-unfolding inRange routesInRange
+unfolding inRange routesAndLinesInRange
 inRange-means s =
     Iff·trans (every-means (
     codes-means _ _ _ _ also codes-means _ _ _ _ also codes-means _ _ _ _ also lastly (every-means (

@@ -16,7 +16,7 @@ use Rattle.tables.specs.Readings.{recorded}
 use Rattle.layout.specs.declared.Layout.{Layout}
 use Rattle.reasons.specs.declared.Refusal.{Refusal}
 use Rattle.reasons.specs.Refusal.{refused, noRefusal, when, found, firstOf}
-use Rattle.reasons.specs.Leaves.{notFree, notPlaced, conflicting, byRoute, byLine, exitLocked, blockBarred, blockHeld}
+use Rattle.reasons.specs.Reasons.{notFree, notPlaced, conflicting, byRoute, byLine, exitLocked, blockBarred, blockHeld}
 use Rattle.refusals.specs.Orders.{throwRefusal, exitRefusal, routeRefusal, setRefusal, cancelRefusal, secureRefusal, manualRefusal}
 use Rattle.refusals.specs.Events.{secondWrong, eventRefusal}
 use Rattle.refusals.proofs.Granted.{granted-at, granted-second}

@@ -1,6 +1,6 @@
 -- The search finds the lowest such line, which is the detail.
 use borrow.Author.Needs.{needs}
-use Rattle.reasons.specs.Leaves.{byLine}
+use Rattle.reasons.specs.Reasons.{byLine}
 use Rattle.reasons.specs.Refusal.{found}
 use Rattle.reasons.proofs.by_line.Statement.{statement}
 use Rattle.reasons.proofs.by_line.Tie as tie

@@ -1,6 +1,6 @@
 -- The search finds the lowest such route, which is the detail.
 use borrow.Author.Needs.{needs}
-use Rattle.reasons.specs.Leaves.{byRoute}
+use Rattle.reasons.specs.Reasons.{byRoute}
 use Rattle.reasons.specs.Refusal.{found}
 use Rattle.reasons.proofs.by_route.Statement.{statement}
 use Rattle.reasons.proofs.by_route.Tie as tie

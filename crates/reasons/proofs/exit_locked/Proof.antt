@@ -1,6 +1,6 @@
 -- The search finds the lowest such route, which is the detail.
 use borrow.Author.Needs.{needs}
-use Rattle.reasons.specs.Leaves.{exitLocked}
+use Rattle.reasons.specs.Reasons.{exitLocked}
 use Rattle.reasons.specs.Refusal.{found}
 use Rattle.reasons.proofs.exit_locked.Statement.{statement}
 use Rattle.reasons.proofs.exit_locked.Tie as tie

@@ -1,6 +1,6 @@
 -- The search finds the lowest such point, which is the detail.
 use borrow.Author.Needs.{needs}
-use Rattle.reasons.specs.Leaves.{notPlaced}
+use Rattle.reasons.specs.Reasons.{notPlaced}
 use Rattle.reasons.specs.Refusal.{found}
 use Rattle.reasons.proofs.not_placed.Statement.{statement}
 use Rattle.reasons.proofs.not_placed.Tie as tie

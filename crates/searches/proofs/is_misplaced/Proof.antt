@@ -6,13 +6,13 @@ use mathlib.Core.Bool.{not}
 use Rattle.laws.proofs.Loops.{Failed, anys}
 use Rattle.laws.specs.Tests.{_and_}
 use Rattle.searches.specs.Searches.{misplaced}
-use Rattle.tables.specs.Readings.{lies}
+use Rattle.tables.specs.Readings.{pointReading}
 use Rattle.searches.proofs.is_misplaced.Statement.{statement}
 use Rattle.searches.proofs.is_misplaced.Tie as tie
 
 -- each entry before j is another point or is in position
 abbrev Inv-loop : tie.InvT-loop
-Inv-loop points n ps ws p j₀ j = Failed n (λ k. eqb (getD ps k 0) p and not (eqb (lies points p) (getD ws k 0))) j
+Inv-loop points n ps ws p j₀ j = Failed n (λ k. eqb (getD ps k 0) p and not (eqb (pointReading points p) (getD ws k 0))) j
 
 -- the entries left
 abbrev μ-loop : tie.MeasureT-loop

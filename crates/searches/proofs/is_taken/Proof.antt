@@ -5,7 +5,8 @@ use lib.ListN.{getD}
 use mathlib.Core.Bool.{not}
 use Rattle.laws.proofs.Loops.{Failed, anys}
 use Rattle.laws.specs.Tests.{_and_}
-use Rattle.searches.specs.Searches.{untaken, failing}
+use Rattle.tables.specs.Blocks.{untaken}
+use Rattle.searches.specs.Searches.{failing}
 use Rattle.searches.proofs.is_taken.Statement.{statement}
 use Rattle.searches.proofs.is_taken.Tie as tie
 

@@ -1,7 +1,8 @@
 -- A search that leaves at the first section that is a block which is taken.
 use Prim.Native.Nat.{_-_}
 use Rattle.laws.proofs.Searches.{Sought, seeks}
-use Rattle.searches.specs.Searches.{untaken, failing}
+use Rattle.tables.specs.Blocks.{untaken}
+use Rattle.searches.specs.Searches.{failing}
 use Rattle.searches.proofs.lowest_taken.Statement.{statement}
 use Rattle.searches.proofs.lowest_taken.Tie as tie
 
