@@ -57,6 +57,7 @@ use Rattle.cabinet.specs.Cabinet.{reply}
 use Rattle.cabinet.specs.declared.Reply.{Reply}
 use Rattle.cabinet.proofs.Reply as P
 use Rattle.cabinet.proofs.Reply.Laws as P′
+use Rattle.cabinet.proofs.Values.{valS, valL}
 use Rattle.cabinet.proofs.event.Key.{name as #cabinet·event}
 use Rattle.cabinet.proofs.event as event
 use Rattle.cabinet.proofs.event.Statement as stated
@@ -71,32 +72,20 @@ Arg = RefT State × (Layout × Nums)
 abbrev stayed : Stays (event.ended .signature .params) (event.ended .kept)
 stayed = (stay-ref (0 ∷ []) tt (plain (λ _. S.the-row)), (stay-none (λ _. L.the-row) yes, (stay-none (λ _. u32) yes, (stay-none (λ _. u32) yes, (stay-none (λ _. u32) yes, tt)))))
 
--- the machine values of a state, a layout and a reply
-abbrev valS : State → Val
-valS = LL.val S.the-type S′.the-laws
-
-abbrev valL : Layout → Val
-valL = LL.val L.the-type L′.the-laws
-
+-- the machine value of a reply
 abbrev valP : Reply → Val
 valP = LL.val P.the-type P′.the-laws
 
--- what whoever holds an answer knows of its parts
+-- whoever holds an answer knows its next state
 next-is : (r : Answer) (vs : List Val) → Is N.the-row r vs → Is S.the-row (r .next) (valS (r .next) ∷ [])
 next-is r vs is = LL.owed N.the-type N′.the-laws r vs is .1 .1 .0
-
-number-fits : (r : Answer) (vs : List Val) → Is N.the-row r vs → r .number < 2 ^ 8
-number-fits r vs is = LL.owed N.the-type N′.the-laws r vs is .0 .1
-
-detail-fits : (r : Answer) (vs : List Val) → Is N.the-row r vs → r .detail < 2 ^ 32
-detail-fits r vs is = LL.owed N.the-type N′.the-laws r vs is .1 .0 .1
 
 -- what is told of an answer
 abbrev told : Answer → Reply
 told r = record { number = r .number; detail = r .detail }
 
 told-is : (r : Answer) (vs : List Val) → Is N.the-row r vs → Is P.the-row (told r) (valP (told r) ∷ [])
-told-is r vs is = LL.owes P.the-type P′.the-laws (told r) ((refl, number-fits r vs is), ((refl, detail-fits r vs is), tt))
+told-is r vs is = let are = LL.owed N.the-type N′.the-laws r vs is in LL.owes P.the-type P′.the-laws (told r) (are .0, (are .1 .0, tt))
 
 told-of : {a r : Answer} → r ≡ a → told r ≡ reply a
 unfolding reply

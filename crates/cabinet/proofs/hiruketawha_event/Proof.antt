@@ -50,6 +50,7 @@ use Rattle.cabinet.proofs.event as evt
 use Rattle.cabinet.proofs.event.Symbol as evt-def
 use Rattle.cabinet.proofs.event.Symbol.{name as #cabinet·event}
 use Rattle.cabinet.proofs.event.Met as evt-thm
+use Rattle.cabinet.proofs.Values.{valL}
 use Rattle.cabinet.proofs.hiruketawha_event.Key.{name as #cabinet·hiruketawha-event}
 use Rattle.cabinet.proofs.hiruketawha_event as entry
 use Rattle.cabinet.proofs.hiruketawha_event.Statement as stated
@@ -57,10 +58,6 @@ use Rattle.cabinet.proofs.hiruketawha_event.Code as code
 
 abbrev stayed : Stays (entry.ended .signature .params) (entry.ended .kept)
 stayed = (gave-ref (0 ∷ []) tt (plain (λ _. S.the-row)), (stay-none-ref (1 ∷ []) tt (plain (λ _. L.the-row)) yes, (stay-none (λ _. u32) yes, (stay-none (λ _. u32) yes, (stay-none (λ _. u32) yes, tt)))))
-
--- the machine value of a layout
-abbrev valL : Layout → Val
-valL = LL.val L.the-type L′.the-laws
 
 module _ {M : Type 1} (𝓤 : URA M) (H : Heap 𝓤) (A : Atoms 𝓤) (at-mem : Memory → SProp 𝓤) (run : Routine → Fun 𝓤) where
   -- the contract that the proof cites

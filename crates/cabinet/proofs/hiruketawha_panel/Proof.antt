@@ -52,6 +52,7 @@ use Rattle.panel.proofs.panel as pan
 use Rattle.panel.proofs.panel.Symbol as pan-def
 use Rattle.panel.proofs.panel.Symbol.{name as #panel·panel}
 use Rattle.panel.proofs.panel.Met as pan-thm
+use Rattle.cabinet.proofs.Values.{valS, valL}
 use Rattle.cabinet.proofs.hiruketawha_panel.Key.{name as #cabinet·hiruketawha-panel}
 use Rattle.cabinet.proofs.hiruketawha_panel as entry
 use Rattle.cabinet.proofs.hiruketawha_panel.Statement as stated
@@ -59,13 +60,6 @@ use Rattle.cabinet.proofs.hiruketawha_panel.Code as code
 
 abbrev stayed : Stays (entry.ended .signature .params) (entry.ended .kept)
 stayed = (stay-none-ref (0 ∷ []) tt (plain (λ _. S.the-row)) yes, (stay-none-ref (1 ∷ []) tt (plain (λ _. L.the-row)) yes, (gave-slice (2 ∷ []) tt (plain (λ _. u8)), tt)))
-
--- the machine values of a state and of a layout
-abbrev valS : State → Val
-valS = LL.val S.the-type S′.the-laws
-
-abbrev valL : Layout → Val
-valL = LL.val L.the-type L′.the-laws
 
 module _ {M : Type 1} (𝓤 : URA M) (H : Heap 𝓤) (A : Atoms 𝓤) (at-mem : Memory → SProp 𝓤) (run : Routine → Fun 𝓤) where
   -- the contract that the proof cites
