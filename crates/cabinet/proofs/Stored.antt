@@ -51,10 +51,11 @@ module _ (T : Declared) where
         (code.seq (code.assign (code.place 0 []) (code.rvOpd code.opdUnit)) code.return));
   }
 
-  -- the signatures of the function that makes the record, and of the one that stores it
+  -- the signature of the function that makes the record
   abbrev pub making : Ended
   making = record { signature = record { lifetimes = 0; outlives = []; params = []; result = plain (λ κs. row T) }; kept = tt }
 
+  -- and of the one that stores it
   abbrev pub lent : Ended
   lent = record {
     signature = record { lifetimes = 1; outlives = []; params = RefMutOf (0 ∷ []) tt (plain (λ κs. row T)) (λ κs. tt) ∷ []; result = plain (λ κs. unit) };
@@ -66,14 +67,16 @@ module _ (T : Declared) where
   stayed = (stay-ref (0 ∷ []) tt (plain (λ _. row T)), tt)
 
 module _ (T : Declared) (made : T .D) {M : Type 1} (𝓤 : URA M) where
-  -- the contracts of both: it is the record that is made, and it stands behind the reference
+  -- what is promised: it is the record that is made
   abbrev pub makes : Clauses 𝓤 (making T)
   makes κs a = record { ghost = Unit {0}; requires = λ g. emp 𝓤; ensures = λ g r e. fact 𝓤 (r ≡ made) }
 
+  -- it stands behind the reference
   abbrev pub stores : Clauses 𝓤 (lent T)
   stores κs a = record { ghost = Unit {0}; requires = λ g. emp 𝓤; ensures = λ g r e. fact 𝓤 (now (e .0) ≡ made) }
 
   module _ (H : Heap 𝓤) (A : Atoms 𝓤) where
+    -- the contract of the function that makes it
     abbrev pub Maker : Contract 𝓤
     Maker = tripleOf 𝓤 H A (making T .signature) (closing 𝓤 H A (making T) makes)
 
@@ -88,13 +91,15 @@ value-is T L h w is = LL.owes T L h (LL.owed T L h _ is)
 module _ (T : Declared) (L : LL.Laws T) (facts : Plains (fields T)) (made : T .D) (maker : code.Name)
     {M : Type 1} (𝓤 : URA M) (H : Heap 𝓤) (A : Atoms 𝓤) (W : Given 𝓤 H A) where
   module _ (κ : Lft) (q : Share) (b o : ℕ) (γ : GName) (g : T .D) where
-    -- the parameter, its value, and what is to hold at the end
+    -- the parameter
     abbrev x : RefT (T .D) × Unit {0}
     x = (record { ptr = (b, o); name = γ; now = g }, tt)
 
+    -- its value
     abbrev at : List Val × Unit {0}
     at = (vptr b o ∷ [], tt)
 
+    -- what is to hold at the end
     abbrev Post : Val → SProp 𝓤
     Post = walkOf 𝓤 H A (lent T) (stayed T) (stores T made 𝓤) .post (((κ, tt), (q, tt), tt, x, at), tt)
 
@@ -143,7 +148,7 @@ module _ (T : Declared) (L : LL.Laws T) (facts : Plains (fields T)) (made : T .D
   walks C Λ fm known = walked 𝓤 H A (lent T) (stayed T) (stores T made 𝓤) (WpFn 𝓤 H C Λ (storing T maker)) (λ κs. (ptr-vals, tt)) (λ κs. (mut-tells (named 0) (κs .0) (row T), tt))
       (λ κs qs bounds a g are. via 𝓤 _ (fst∗ 𝓤 _ (emp 𝓤)) (walk (κs .0) (qs .0) (a .0 .ptr .0) (a .0 .ptr .1) (a .0 .name) (a .0 .now) C Λ fm known))
 
-  -- the parameter is what it was at exit
+  -- what is had of the parameter at exit is what the contract asks of it
   goes : AllGo 𝓤 H A W 1 (lent T .signature .params) (lent T .kept) (stayed T)
   goes = (goes-ref 𝓤 H A W 1 0 tt (plain (λ _. row T)), tt)
 

@@ -127,7 +127,7 @@ module _ (L : Layout) (S : Sound L) (s : State) (h : History) (I : Inv L s h) (e
   -- "to stop" follows from "from proceed" on a sound layout: within the event a far section that reads occupied holds its signal at stop. The next block
   -- would be open and read free; a route in from the line would have the inner section free in its path
   pub stop-follows : (w : ℕ) → farReading L (lit L s e) l i w ≡ 2 → farProceeds L (lit L s e) l i w ≡ false
-  unfolding farReading lineIn isOpen after settle lineRelease withLines routes routesBy withRoutes farSections signals
+  unfolding farReading farReadingBy lineIn isOpen after settle lineRelease withLines routes routesBy withRoutes farSections signals
   stop-follows w taken =
       far-proceeds (lit L s e) few (there w)
       ∙ fails-from _ (λ t.

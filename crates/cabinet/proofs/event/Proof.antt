@@ -57,47 +57,41 @@ use Rattle.cabinet.specs.Cabinet.{reply}
 use Rattle.cabinet.specs.declared.Reply.{Reply}
 use Rattle.cabinet.proofs.Reply as P
 use Rattle.cabinet.proofs.Reply.Laws as P′
+use Rattle.cabinet.proofs.Values.{valS, valL}
 use Rattle.cabinet.proofs.event.Key.{name as #cabinet·event}
 use Rattle.cabinet.proofs.event as event
 use Rattle.cabinet.proofs.event.Statement as stated
 use Rattle.cabinet.proofs.event.Code as code
 
+-- the three numbers of an event
 abbrev Nums : Type 0
 Nums = ℕ × (ℕ × (ℕ × Unit {0}))
 
+-- the arguments: the state that is lent, the layout, the numbers
 abbrev Arg : Type 0
 Arg = RefT State × (Layout × Nums)
 
+-- how each parameter stands at exit
 abbrev stayed : Stays (event.ended .signature .params) (event.ended .kept)
 stayed = (stay-ref (0 ∷ []) tt (plain (λ _. S.the-row)), (stay-none (λ _. L.the-row) yes, (stay-none (λ _. u32) yes, (stay-none (λ _. u32) yes, (stay-none (λ _. u32) yes, tt)))))
 
--- the machine values of a state, a layout and a reply
-abbrev valS : State → Val
-valS = LL.val S.the-type S′.the-laws
-
-abbrev valL : Layout → Val
-valL = LL.val L.the-type L′.the-laws
-
+-- the machine value of a reply
 abbrev valP : Reply → Val
 valP = LL.val P.the-type P′.the-laws
 
--- what whoever holds an answer knows of its parts
+-- whoever holds an answer knows its next state
 next-is : (r : Answer) (vs : List Val) → Is N.the-row r vs → Is S.the-row (r .next) (valS (r .next) ∷ [])
 next-is r vs is = LL.owed N.the-type N′.the-laws r vs is .1 .1 .0
-
-number-fits : (r : Answer) (vs : List Val) → Is N.the-row r vs → r .number < 2 ^ 8
-number-fits r vs is = LL.owed N.the-type N′.the-laws r vs is .0 .1
-
-detail-fits : (r : Answer) (vs : List Val) → Is N.the-row r vs → r .detail < 2 ^ 32
-detail-fits r vs is = LL.owed N.the-type N′.the-laws r vs is .1 .0 .1
 
 -- what is told of an answer
 abbrev told : Answer → Reply
 told r = record { number = r .number; detail = r .detail }
 
+-- its parts are two of the answer's
 told-is : (r : Answer) (vs : List Val) → Is N.the-row r vs → Is P.the-row (told r) (valP (told r) ∷ [])
-told-is r vs is = LL.owes P.the-type P′.the-laws (told r) ((refl, number-fits r vs is), ((refl, detail-fits r vs is), tt))
+told-is r vs is = let are = LL.owed N.the-type N′.the-laws r vs is in LL.owes P.the-type P′.the-laws (told r) (are .0, (are .1 .0, tt))
 
+-- the reply to the answer that the step gives
 told-of : {a r : Answer} → r ≡ a → told r ≡ reply a
 unfolding reply
 told-of e = ap told e
@@ -116,15 +110,19 @@ module _ {M : Type 1} (𝓤 : URA M) (H : Heap 𝓤) (A : Atoms 𝓤) (W : Given
   abbrev x : Arg
   x = (record { ptr = (b, o); name = γ; now = h }, (l, (k, (m, (n, tt)))))
 
+  -- their values, one list for each
   abbrev at : List Val × (List Val × (List Val × (List Val × (List Val × Unit {0}))))
   at = (vptr b o ∷ [], (valL l ∷ [], (vint w32 k ∷ [], (vint w32 m ∷ [], (vint w32 n ∷ [], tt)))))
 
+  -- the same as one list
   abbrev args : List Val
   args = vptr b o ∷ valL l ∷ vint w32 k ∷ vint w32 m ∷ vint w32 n ∷ []
 
+  -- what is to hold at the end
   abbrev Post : Val → SProp 𝓤
   Post = walkOf 𝓤 H A event.ended stayed (event.clauses 𝓤 H A at-mem run) .post (((κ, tt), (q, tt), tt, x, at), tt)
 
+  -- the borrow was closed at the next state
   exits : (r : Answer) (vs : List Val) → Is N.the-row r vs → r ≡ step l h k m n
       → ent 𝓤 (⋆ 𝓤 H A (‵ (fobs γ (S.the-row .coded .code (r .next))) ∷ ‵ (fbor κ (Body (mem S.the-row) b o γ)) ∷ ‵ (flft κ q) ∷ [])) (Post (valP (told r)))
   exits r vs is e =
@@ -154,6 +152,7 @@ module _ {M : Type 1} (𝓤 : URA M) (H : Heap 𝓤) (A : Atoms 𝓤) (W : Given
       owned ! S.the-row (Is S.the-row) (LL.makes S.the-type S′.the-plain 𝓤 H A) h _ was $ fjoin ! $ move ! (1 ∷ 0 ∷ []) $ join ! $ frame ! $ done !
 
   module _ (C : Calls 𝓤 H) (Λ : Loops 𝓤 H) (fm : FmC 𝓤 H (W .laws) C) (known : Triple 𝓤 (C #interlocking·State·step) (Step 𝓤 H A at-mem run)) where
+    -- statement by statement
     walk : ent 𝓤 (onEntry 𝓤 H A event.signature (κ, tt) (q, tt) x at) (WpFn 𝓤 H C Λ code.function args Post)
     walk =
         qed W ((‵ (flft κ q) ⊛ ‵ ftrue) ∷ ‵ (owns (MutRef (named 0) κ S.the-row ∷ L.the-row ∷ u32 ∷ u32 ∷ u32 ∷ []) x at) ∷ []) ∵ split ! $ move ! (2 ∷ []) $ fsplit ! $ fsplit3 ! $ drop ! $ move ! (0 ∷ 1 ∷ 3 ∷ []) $ keep ! (0 ∷ 1 ∷ 2 ∷ []) $
@@ -190,6 +189,7 @@ module _ {M : Type 1} (𝓤 : URA M) (H : Heap 𝓤) (A : Atoms 𝓤) (W : Given
         keep ! (0 ∷ 1 ∷ 2 ∷ []) $ by ! (exits r _ is e)))))))))))))))
 
 module _ {M : Type 1} (𝓤 : URA M) (H : Heap 𝓤) (A : Atoms 𝓤) (W : Given 𝓤 H A) (at-mem : Memory → SProp 𝓤) (run : Routine → Fun 𝓤) where
+  -- from all arguments
   event-walks : (C : Calls 𝓤 H) (Λ : Loops 𝓤 H) → FmC 𝓤 H (W .laws) C → Triple 𝓤 (C #interlocking·State·step) (Step 𝓤 H A at-mem run) → Walks 𝓤 H A event.ended stayed (WpFn 𝓤 H C Λ code.function) (event.clauses 𝓤 H A at-mem run)
   event-walks C Λ fm known = walked 𝓤 H A event.ended stayed (event.clauses 𝓤 H A at-mem run) (WpFn 𝓤 H C Λ code.function)
       (λ κs. (ptr-vals, (LL.vals L.the-type L′.the-laws, (uint-vals w32, (uint-vals w32, (uint-vals w32, tt))))))
@@ -197,9 +197,11 @@ module _ {M : Type 1} (𝓤 : URA M) (H : Heap 𝓤) (A : Atoms 𝓤) (W : Given
       (λ κs qs bounds a g are. via 𝓤 _ (fst∗ 𝓤 _ (emp 𝓤)) (walk 𝓤 H A W at-mem run (κs .0) (qs .0) (a .0 .ptr .0) (a .0 .ptr .1) (a .0 .name) (a .0 .now) (a .1 .0) (a .1 .1 .0) (a .1 .1 .1 .0) (a .1 .1 .1 .1 .0)
       (are .1 .0) (are .1 .1 .0 .1) (are .1 .1 .1 .0 .1) (are .1 .1 .1 .1 .0 .1) C Λ fm known))
 
+  -- what is had of the parameters at exit is what the contract asks of them
   goes : AllGo 𝓤 H A W 1 (event.signature .params) (event.ended .kept) stayed
   goes = (goes-ref 𝓤 H A W 1 0 tt (plain (λ _. S.the-row)), (goes-none 𝓤 H A W 1 (λ _. L.the-row) yes (λ κs x f. refl), (goes-none 𝓤 H A W 1 (λ _. u32) yes (λ κs x f. refl), (goes-none 𝓤 H A W 1 (λ _. u32) yes (λ κs x f. refl), (goes-none 𝓤 H A W 1 (λ _. u32) yes (λ κs x f. refl), tt)))))
 
+-- so the code meets the contract wherever `step` meets its own
 event-meets : {M : Type 1} (𝓤 : URA M) (H : Heap 𝓤) (A : Atoms 𝓤) (W : Given 𝓤 H A) (at-mem : Memory → SProp 𝓤) (run : Routine → Fun 𝓤) (𝓣 : Tables 𝓤 H) → Triple 𝓤 (𝓣 .C #interlocking·State·step) (Step 𝓤 H A at-mem run)
     → Meets 𝓤 H A event.signature (WpFn 𝓤 H (𝓣 .C) (𝓣 .Λ) code.function) (event.spec 𝓤 H A at-mem run)
 event-meets 𝓤 H A W at-mem run 𝓣 known = walk-meets 𝓤 H A event.ended stayed W (goes 𝓤 H A W at-mem run) (event.clauses 𝓤 H A at-mem run) (WpFn 𝓤 H (𝓣 .C) (𝓣 .Λ) code.function) (WpFn-mono 𝓤 H (W .laws) 𝓣 code.function)

@@ -50,17 +50,15 @@ use Rattle.cabinet.proofs.event as evt
 use Rattle.cabinet.proofs.event.Symbol as evt-def
 use Rattle.cabinet.proofs.event.Symbol.{name as #cabinet·event}
 use Rattle.cabinet.proofs.event.Met as evt-thm
+use Rattle.cabinet.proofs.Values.{valL}
 use Rattle.cabinet.proofs.hiruketawha_event.Key.{name as #cabinet·hiruketawha-event}
 use Rattle.cabinet.proofs.hiruketawha_event as entry
 use Rattle.cabinet.proofs.hiruketawha_event.Statement as stated
 use Rattle.cabinet.proofs.hiruketawha_event.Code as code
 
+-- how each parameter stands at exit
 abbrev stayed : Stays (entry.ended .signature .params) (entry.ended .kept)
 stayed = (gave-ref (0 ∷ []) tt (plain (λ _. S.the-row)), (stay-none-ref (1 ∷ []) tt (plain (λ _. L.the-row)) yes, (stay-none (λ _. u32) yes, (stay-none (λ _. u32) yes, (stay-none (λ _. u32) yes, tt)))))
-
--- the machine value of a layout
-abbrev valL : Layout → Val
-valL = LL.val L.the-type L′.the-laws
 
 module _ {M : Type 1} (𝓤 : URA M) (H : Heap 𝓤) (A : Atoms 𝓤) (at-mem : Memory → SProp 𝓤) (run : Routine → Fun 𝓤) where
   -- the contract that the proof cites
@@ -72,15 +70,19 @@ module _ {M : Type 1} (𝓤 : URA M) (H : Heap 𝓤) (A : Atoms 𝓤) (W : Given
   abbrev s : RefT State
   s = record { ptr = (b, o); name = γ; now = h }
 
+  -- the arguments
   abbrev Arg : Type 0
   Arg = RefT State × (RefT Layout × (ℕ × (ℕ × (ℕ × Unit {0}))))
 
+  -- the state and the layout that are lent, and the numbers
   abbrev x : Arg
   x = (s, (record { ptr = (b′, o′); name = γ′; now = l }, (k, (m, (n, tt)))))
 
+  -- their values, one list for each
   abbrev at : List Val × (List Val × (List Val × (List Val × (List Val × Unit {0}))))
   at = (vptr b o ∷ [], (vptr b′ o′ ∷ [], (vint w32 k ∷ [], (vint w32 m ∷ [], (vint w32 n ∷ [], tt)))))
 
+  -- the same as one list
   abbrev args : List Val
   args = vptr b o ∷ vptr b′ o′ ∷ vint w32 k ∷ vint w32 m ∷ vint w32 n ∷ []
 
@@ -92,9 +94,11 @@ module _ {M : Type 1} (𝓤 : URA M) (H : Heap 𝓤) (A : Atoms 𝓤) (W : Given
   abbrev Said : Reply → State → Type 0
   Said r z = (r ≡ reply (step l h k m n)) × (z ≡ step l h k m n .next)
 
+  -- what is to hold at the end
   abbrev Post : Val → SProp 𝓤
   Post = walkOf 𝓤 H A entry.ended stayed (entry.clauses 𝓤 H A at-mem run) .post (((κ, (κ′, tt)), (q, (q′, tt)), tt, x, at), tt)
 
+  -- the state's borrow went to `event`, which said what it is at the end
   exits : (r : Reply) (w : Val) (z : State) → Said r z
       → ent 𝓤 (⋆ 𝓤 H A (‵ (P.the-row .own r (w ∷ [])) ∷ (‵ (flft κ q) ⊛ ‵ ftrue) ∷ ‵ (fres γ (S.the-row .coded .code z)) ∷ ‵ (flft κ′ q′) ∷ ‵ (fshr-bor κ′ (λ p. partAt L.the-row p l b′ o′)) ∷ ‵ (fres γ′ (L.the-row .coded .code l)) ∷ [])) (Post w)
   exits r w z e =
@@ -114,6 +118,7 @@ module _ {M : Type 1} (𝓤 : URA M) (H : Heap 𝓤) (A : Atoms 𝓤) (W : Given
   abbrev to-event : Event 𝓤 H A at-mem run .Ghost
   to-event = (((κ, tt), (q, tt), tt, (s, (l, (k, (m, (n, tt))))), (vptr b o ∷ [], (valL l ∷ [], (vint w32 k ∷ [], (vint w32 m ∷ [], (vint w32 n ∷ [], tt)))))), tt)
 
+  -- the state's borrow is lent on; the rest is plain data
   goes-event : Is L.the-row l (valL l ∷ []) → ent 𝓤 (sep 𝓤 (A .lft κ q) (sem 𝓤 H A Own)) (Event 𝓤 H A at-mem run .pre to-event)
   goes-event l-is =
       qed W (‵ (flft κ q) ∷ ‵ Own ∷ []) ∵ nothing ! $ move ! (1 ∷ 0 ∷ []) $ join ! $ nothing ! $
@@ -123,6 +128,7 @@ module _ {M : Type 1} (𝓤 : URA M) (H : Heap 𝓤) (A : Atoms 𝓤) (W : Given
       owned ! L.the-row (Is L.the-row) (LL.makes L.the-type L′.the-plain 𝓤 H A) l _ l-is $ fjoin ! $ move ! (2 ∷ 0 ∷ []) $ fjoin ! $ move ! (1 ∷ 0 ∷ []) $ join ! $ frame ! $ done !
 
   module _ (C : Calls 𝓤 H) (Λ : Loops 𝓤 H) (fm : FmC 𝓤 H (W .laws) C) (known : Triple 𝓤 (C #cabinet·event) (Event 𝓤 H A at-mem run)) where
+    -- statement by statement
     walk : ent 𝓤 (onEntry 𝓤 H A entry.signature (κ, (κ′, tt)) (q, (q′, tt)) x at) (WpFn 𝓤 H C Λ code.function args Post)
     walk =
         qed W ((‵ (flft κ q) ⊛ ‵ (flft κ′ q′) ⊛ ‵ ftrue) ∷ ‵ (owns (MutRef (named 0) κ S.the-row ∷ ShrRef (named 1) κ′ L.the-row ∷ u32 ∷ u32 ∷ u32 ∷ []) x at) ∷ []) ∵
@@ -158,6 +164,7 @@ module _ {M : Type 1} (𝓤 : URA M) (H : Heap 𝓤) (A : Atoms 𝓤) (W : Given
         by ! (exits r w (zs .0) e))))))))))))))))
 
 module _ {M : Type 1} (𝓤 : URA M) (H : Heap 𝓤) (A : Atoms 𝓤) (W : Given 𝓤 H A) (at-mem : Memory → SProp 𝓤) (run : Routine → Fun 𝓤) where
+  -- from all arguments
   entry-walks : (C : Calls 𝓤 H) (Λ : Loops 𝓤 H) → FmC 𝓤 H (W .laws) C → Triple 𝓤 (C #cabinet·event) (Event 𝓤 H A at-mem run) → Walks 𝓤 H A entry.ended stayed (WpFn 𝓤 H C Λ code.function) (entry.clauses 𝓤 H A at-mem run)
   entry-walks C Λ fm known = walked 𝓤 H A entry.ended stayed (entry.clauses 𝓤 H A at-mem run) (WpFn 𝓤 H C Λ code.function)
       (λ κs. (ptr-vals, (ptr-vals, (uint-vals w32, (uint-vals w32, (uint-vals w32, tt))))))
@@ -165,9 +172,11 @@ module _ {M : Type 1} (𝓤 : URA M) (H : Heap 𝓤) (A : Atoms 𝓤) (W : Given
       (λ κs qs bounds a g are. via 𝓤 _ (fst∗ 𝓤 _ (emp 𝓤)) (walk 𝓤 H A W at-mem run (κs .0) (κs .1 .0) (qs .0) (qs .1 .0) (a .0 .ptr .0) (a .0 .ptr .1) (a .0 .name) (a .0 .now) (a .1 .0 .ptr .0) (a .1 .0 .ptr .1) (a .1 .0 .name) (a .1 .0 .now)
       (a .1 .1 .0) (a .1 .1 .1 .0) (a .1 .1 .1 .1 .0) (are .1 .1 .0 .1) (are .1 .1 .1 .0 .1) (are .1 .1 .1 .1 .0 .1) C Λ fm known))
 
+  -- what is had of the parameters at exit is what the contract asks of them
   goes : AllGo 𝓤 H A W 2 (entry.signature .params) (entry.ended .kept) stayed
   goes = (goes-gave-ref 𝓤 H A W 2 0 tt (plain (λ _. S.the-row)), (goes-none-ref 𝓤 H A W 2 (1 ∷ []) tt (plain (λ _. L.the-row)) yes, (goes-none 𝓤 H A W 2 (λ _. u32) yes (λ κs x f. refl), (goes-none 𝓤 H A W 2 (λ _. u32) yes (λ κs x f. refl), (goes-none 𝓤 H A W 2 (λ _. u32) yes (λ κs x f. refl), tt)))))
 
+-- so the code meets the contract wherever `event` meets its own
 entry-meets : {M : Type 1} (𝓤 : URA M) (H : Heap 𝓤) (A : Atoms 𝓤) (W : Given 𝓤 H A) (at-mem : Memory → SProp 𝓤) (run : Routine → Fun 𝓤) (𝓣 : Tables 𝓤 H) → Triple 𝓤 (𝓣 .C #cabinet·event) (Event 𝓤 H A at-mem run)
     → Meets 𝓤 H A entry.signature (WpFn 𝓤 H (𝓣 .C) (𝓣 .Λ) code.function) (entry.spec 𝓤 H A at-mem run)
 entry-meets 𝓤 H A W at-mem run 𝓣 known = walk-meets 𝓤 H A entry.ended stayed W (goes 𝓤 H A W at-mem run) (entry.clauses 𝓤 H A at-mem run) (WpFn 𝓤 H (𝓣 .C) (𝓣 .Λ) code.function) (WpFn-mono 𝓤 H (W .laws) 𝓣 code.function)

@@ -52,20 +52,15 @@ use Rattle.panel.proofs.panel as pan
 use Rattle.panel.proofs.panel.Symbol as pan-def
 use Rattle.panel.proofs.panel.Symbol.{name as #panel·panel}
 use Rattle.panel.proofs.panel.Met as pan-thm
+use Rattle.cabinet.proofs.Values.{valS, valL}
 use Rattle.cabinet.proofs.hiruketawha_panel.Key.{name as #cabinet·hiruketawha-panel}
 use Rattle.cabinet.proofs.hiruketawha_panel as entry
 use Rattle.cabinet.proofs.hiruketawha_panel.Statement as stated
 use Rattle.cabinet.proofs.hiruketawha_panel.Code as code
 
+-- how each parameter stands at exit
 abbrev stayed : Stays (entry.ended .signature .params) (entry.ended .kept)
 stayed = (stay-none-ref (0 ∷ []) tt (plain (λ _. S.the-row)) yes, (stay-none-ref (1 ∷ []) tt (plain (λ _. L.the-row)) yes, (gave-slice (2 ∷ []) tt (plain (λ _. u8)), tt)))
-
--- the machine values of a state and of a layout
-abbrev valS : State → Val
-valS = LL.val S.the-type S′.the-laws
-
-abbrev valL : Layout → Val
-valL = LL.val L.the-type L′.the-laws
 
 module _ {M : Type 1} (𝓤 : URA M) (H : Heap 𝓤) (A : Atoms 𝓤) (at-mem : Memory → SProp 𝓤) (run : Routine → Fun 𝓤) where
   -- the contract that the proof cites
@@ -81,15 +76,19 @@ module _ {M : Type 1} (𝓤 : URA M) (H : Heap 𝓤) (A : Atoms 𝓤) (W : Given
   abbrev v : Val
   v = sliceVal (b″, o″) (length ys)
 
+  -- the arguments
   abbrev Arg : Type 0
   Arg = RefT State × (RefT Layout × (RefT (List ℕ) × Unit {0}))
 
+  -- the state, the layout and the buffer that are lent
   abbrev x : Arg
   x = (record { ptr = (b, o); name = γ; now = h }, (record { ptr = (b′, o′); name = γ′; now = l }, (s, tt)))
 
+  -- their values, one list for each
   abbrev at : List Val × (List Val × (List Val × Unit {0}))
   at = (vptr b o ∷ [], (vptr b′ o′ ∷ [], (v ∷ [], tt)))
 
+  -- the same as one list
   abbrev args : List Val
   args = vptr b o ∷ vptr b′ o′ ∷ v ∷ []
 
@@ -101,9 +100,11 @@ module _ {M : Type 1} (𝓤 : URA M) (H : Heap 𝓤) (A : Atoms 𝓤) (W : Given
   abbrev Said : Drawn → List ℕ → Type 0
   Said r zs = (r ≡ answer l h (length ys)) × (zs ≡ drawn l h ys)
 
+  -- what is to hold at the end
   abbrev Post : Val → SProp 𝓤
   Post = walkOf 𝓤 H A entry.ended stayed (entry.clauses 𝓤 H A at-mem run) .post (((κ, (κ′, (κ″, tt))), (q, (q′, (q″, tt))), tt, x, at), tt)
 
+  -- the buffer's borrow went to `panel`, which said what it is at the end
   exits : (r : Drawn) (w : Val) (zs : List ℕ) → Said r zs → length zs ≡ length ys
       → ent 𝓤 (⋆ 𝓤 H A (‵ (D.the-row .own r (w ∷ [])) ∷ (‵ (flft κ″ q″) ⊛ ‵ ftrue) ∷ ‵ (finally u8 γ″ zs) ∷ ‵ (flft κ′ q′) ∷ ‵ (fshr-bor κ′ (λ p. partAt L.the-row p l b′ o′)) ∷ ‵ (flft κ q) ∷ ‵ (fshr-bor κ (λ p. partAt S.the-row p h b o))
       ∷ ‵ (fres γ (S.the-row .coded .code h)) ∷ ‵ (fres γ′ (L.the-row .coded .code l)) ∷ [])) (Post w)
@@ -122,6 +123,7 @@ module _ {M : Type 1} (𝓤 : URA M) (H : Heap 𝓤) (A : Atoms 𝓤) (W : Given
   abbrev to-panel : Panel 𝓤 H A at-mem run .Ghost
   to-panel = (((κ″, tt), (q″, tt), tt, (h, (l, (s, tt))), (valS h ∷ [], (valL l ∷ [], (v ∷ [], tt)))), tt)
 
+  -- the buffer's borrow is lent on; the rest is plain data
   goes-panel : Is S.the-row h (valS h ∷ []) → Is L.the-row l (valL l ∷ []) → ent 𝓤 (sep 𝓤 (A .lft κ″ q″) (sem 𝓤 H A Own)) (Panel 𝓤 H A at-mem run .pre to-panel)
   goes-panel h-is l-is =
       qed W (‵ (flft κ″ q″) ∷ ‵ Own ∷ []) ∵ nothing ! $ move ! (1 ∷ 0 ∷ []) $ join ! $ nothing ! $ move ! (2 ∷ 0 ∷ []) $ fjoin ! $
@@ -129,6 +131,7 @@ module _ {M : Type 1} (𝓤 : URA M) (H : Heap 𝓤) (A : Atoms 𝓤) (W : Given
       owned ! S.the-row (Is S.the-row) (LL.makes S.the-type S′.the-plain 𝓤 H A) h _ h-is $ fjoin ! $ move ! (1 ∷ 0 ∷ []) $ join ! $ frame ! $ done !
 
   module _ (C : Calls 𝓤 H) (Λ : Loops 𝓤 H) (fm : FmC 𝓤 H (W .laws) C) (known : Triple 𝓤 (C #panel·panel) (Panel 𝓤 H A at-mem run)) where
+    -- statement by statement
     walk : Room u8 (length ys) → ent 𝓤 (onEntry 𝓤 H A entry.signature (κ, (κ′, (κ″, tt))) (q, (q′, (q″, tt))) x at) (WpFn 𝓤 H C Λ code.function args Post)
     walk room =
         qed W ((‵ (flft κ q) ⊛ ‵ (flft κ′ q′) ⊛ ‵ (flft κ″ q″) ⊛ ‵ ftrue) ∷ ‵ (owns (ShrRef (named 0) κ S.the-row ∷ ShrRef (named 1) κ′ L.the-row ∷ MutSlice (named 2) κ″ u8 ∷ []) x at) ∷ []) ∵
@@ -172,15 +175,18 @@ module _ {M : Type 1} (𝓤 : URA M) (H : Heap 𝓤) (A : Atoms 𝓤) (W : Given
         by ! (exits r w (zs .1 .1 .0) e len)))))))))))))))))))
 
 module _ {M : Type 1} (𝓤 : URA M) (H : Heap 𝓤) (A : Atoms 𝓤) (W : Given 𝓤 H A) (at-mem : Memory → SProp 𝓤) (run : Routine → Fun 𝓤) where
+  -- from all arguments
   panel-walks : (C : Calls 𝓤 H) (Λ : Loops 𝓤 H) → FmC 𝓤 H (W .laws) C → Triple 𝓤 (C #panel·panel) (Panel 𝓤 H A at-mem run) → Walks 𝓤 H A entry.ended stayed (WpFn 𝓤 H C Λ code.function) (entry.clauses 𝓤 H A at-mem run)
   panel-walks C Λ fm known = walked 𝓤 H A entry.ended stayed (entry.clauses 𝓤 H A at-mem run) (WpFn 𝓤 H C Λ code.function) (λ κs. (ptr-vals, (ptr-vals, (slice-vals, tt))))
       (λ κs. (shr-tells (named 0) (κs .0) S.the-row, (shr-tells (named 1) (κs .1 .0) L.the-row, (mut-slice-tells (named 2) (κs .1 .1 .0) u8, tt))))
       (λ κs qs bounds a g are. via 𝓤 _ (fst∗ 𝓤 _ (emp 𝓤)) (walk 𝓤 H A W at-mem run (κs .0) (κs .1 .0) (κs .1 .1 .0) (qs .0) (qs .1 .0) (qs .1 .1 .0) (a .0 .ptr .0) (a .0 .ptr .1) (a .0 .name) (a .0 .now) (a .1 .0 .ptr .0) (a .1 .0 .ptr .1) (a .1 .0 .name) (a .1 .0 .now)
       (a .1 .1 .0 .ptr .0) (a .1 .1 .0 .ptr .1) (a .1 .1 .0 .name) (a .1 .1 .0 .now) C Λ fm known (are .1 .1 .0 .0 .1)))
 
+  -- what is had of the parameters at exit is what the contract asks of them
   goes : AllGo 𝓤 H A W 3 (entry.signature .params) (entry.ended .kept) stayed
   goes = (goes-none-ref 𝓤 H A W 3 (0 ∷ []) tt (plain (λ _. S.the-row)) yes, (goes-none-ref 𝓤 H A W 3 (1 ∷ []) tt (plain (λ _. L.the-row)) yes, (goes-gave-slice 𝓤 H A W 3 2 tt (plain (λ _. u8)), tt)))
 
+-- so the code meets the contract wherever `panel` meets its own
 panel-meets : {M : Type 1} (𝓤 : URA M) (H : Heap 𝓤) (A : Atoms 𝓤) (W : Given 𝓤 H A) (at-mem : Memory → SProp 𝓤) (run : Routine → Fun 𝓤) (𝓣 : Tables 𝓤 H) → Triple 𝓤 (𝓣 .C #panel·panel) (Panel 𝓤 H A at-mem run)
     → Meets 𝓤 H A entry.signature (WpFn 𝓤 H (𝓣 .C) (𝓣 .Λ) code.function) (entry.spec 𝓤 H A at-mem run)
 panel-meets 𝓤 H A W at-mem run 𝓣 known = walk-meets 𝓤 H A entry.ended stayed W (goes 𝓤 H A W at-mem run) (entry.clauses 𝓤 H A at-mem run) (WpFn 𝓤 H (𝓣 .C) (𝓣 .Λ) code.function) (WpFn-mono 𝓤 H (W .laws) 𝓣 code.function)
