@@ -12,6 +12,7 @@ use Rattle.fields.specs.Fields.{code, reference}
 use Rattle.fields.specs.Lists.{items, points}
 use Rattle.track.specs.declared.Counts.{Counts}
 use Rattle.track.specs.declared.Route.{Route}
+use Rattle.track.specs.Codes.{endA, innerRoute}
 use Rattle.track.specs.Objects.{noRoute}
 use Rattle.reading.specs.declared.End.{End}
 use Rattle.reading.specs.declared.Head.{Head}
