@@ -24,10 +24,12 @@ use Rattle.interlocking.specs.Settle.{Proceeds, farProceedsBy, farDroppe
 
 -- ---- a route and a line of the table, as the code reads them
 
+-- a route that there is stands in the table, so the default is not read
 pub route-in : (rs : List Route) (r n : ℕ) (d : Route) → length rs ≡ 48 → r < n → n ≤ 48 → getD rs r d ≡ route rs r
 unfolding route
 route-in rs r n d q b few = read-in rs r 48 d noRoute q (omega arith)
 
+-- so does the line of a place below 64
 pub line-in : (ls : List Line) (k m : ℕ) (d : Line) → length ls ≡ 8 → k < m → m ≤ 64 → getD ls (k / 8) d ≡ line ls (k / 8)
 unfolding line
 line-in ls k m d q b few = read-in ls (k / 8) 8 d noLine q (omega arith)
@@ -36,10 +38,12 @@ line-in ls k m d q b few = read-in ls (k / 8) 8 d noLine q (omega arith)
 
 -- the block signal: of a line that is not secured that way it shows stop; else the block decides
 module _ (ls : List Line) (directions points stages bars : List ℕ) (l i w d : ℕ) (e : d ≡ read 8 0 directions l) where
+  -- the direction is another: stop
   pub shows-other-way : (d ≡ w → ⊥) → false ≡ blockProceeds ls directions points stages bars l i w
   unfolding blockProceeds _and_
   shows-other-way h = rw (ne-eqb (read 8 0 directions l) w (λ z. h (e ∙ z)))
 
+  -- the direction is that one: what lets a train into the block decides
   pub shows-that-way : (r : Bool) (b : Line) → b ≡ line ls l → d ≡ w → r ≡ enterableBy b points stages bars l i
       → r ≡ blockProceeds ls directions points stages bars l i w
   unfolding blockProceeds enterable _and_
@@ -58,10 +62,12 @@ module _ (ls : List Line) (shown : Proceeds) (l i w j : ℕ) (v : Bool) (b : Lin
 
 -- the far signal showed stop before, or it is asked again
 module _ (ls : List Line) (before shown : Proceeds) (l i w : ℕ) (v : Bool) (e : v ≡ farProceedsBy ls before l i w) where
+  -- what showed stop before has not dropped
   pub dropped-stop : not v ≡ true → false ≡ farDroppedBy ls before shown l i w
   unfolding farDroppedBy _and_
   dropped-stop h = rw (← e, not-true v h)
 
+  -- what showed proceed before has dropped just if it shows stop now
   pub dropped-now : (u : Bool) → not v ≡ false → u ≡ farProceedsBy ls shown l i w → not u ≡ farDroppedBy ls before shown l i w
   unfolding farDroppedBy _and_
   dropped-now u h q = rw (← e, not-false v h, q)
@@ -115,6 +121,7 @@ far-idle directions far dropped k was h =
 
 -- ---- line release
 
+-- a locked exit route by its record is one by its number, since the table has that record there
 pub exit-at : (rs : List Route) (phases : List ℕ) (k r n : ℕ) (d : Route) {v : Bool} → length rs ≡ 48 → r < n → n ≤ 48
     → v ≡ lockedExitBy phases (getD rs r d) k r → v ≡ lockedExit rs phases k r
 unfolding lockedExit
@@ -123,15 +130,18 @@ exit-at rs phases k r n d q b few e = e ∙ ap (λ (a : Route). lockedExitBy pha
 -- by the test at which it fails
 module _ (b : Line) (n : ℕ) (rs : List Route) (before stages bars phases : List ℕ) (k w : ℕ) (v : Bool)
     (p : v ≡ wasInStage2 before b k w) where
+  -- the last block in travel was not in stage 2
   pub ends-unpassed : not v ≡ true → false ≡ endsBy b n rs before stages bars phases k w
   unfolding endsBy
   ends-unpassed h = every-stops _ _ v p h
 
   module _ (u : Bool) (q : u ≡ all (b .blocks) (passable stages bars k)) (h : not v ≡ false) where
+    -- it was, but a block is held or barred
     pub ends-held : not u ≡ true → false ≡ endsBy b n rs before stages bars phases k w
     unfolding endsBy
     ends-held g = every-passes _ _ v _ false p h (every-stops _ _ u q g)
 
+    -- both hold: a locked exit route decides
     pub ends-unless-locked : (x : Bool) → x ≡ any n (lockedExit rs phases k) → not u ≡ false → not x ≡ endsBy b n rs before stages bars phases k w
     unfolding endsBy
     ends-unless-locked x r g = every-passes _ _ v _ (not x) p h (every-passes _ _ u _ (not x) q g (every-last _ (not x) (ap not r)))

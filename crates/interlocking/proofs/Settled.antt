@@ -69,15 +69,18 @@ module _ (ls : List Line) (rs : List Route) (n : ℕ) (s : State) (r : ℕ) (b :
   module _ (e : Gives) (d : Route) (x : Settled) (q : length rs ≡ 48) (live : getD (s .phase) r 0 ≡ 0 → ⊥)
       (g : x ≡ settled ls (s .section) (s .point) (s .stage) (s .bar) (getD rs r d) e
       (record { phase = getD (s .phase) r 0; step = getD (s .step) r 0; second = getD (s .second) r 0 })) where
+    -- what the route holds once its signal has fallen
     held : Held
     held = record { phase = fallenAt ls rs s r (getD (s .phase) r 0); step = getD (s .step) r 0; second = getD (s .second) r 0 }
 
+    -- the turn gives the fallen phase and what becomes of that, for the route in the table
     turned : x ≡ settledFrom (fallenAt ls rs s r (getD (s .phase) r 0)) (heldAfter ls (s .section) (route rs r) e held)
     unfolding settled held fallenAt
     turned =
         g ∙ ap (λ (a : Route). settled ls (s .section) (s .point) (s .stage) (s .bar) a e
         (record { phase = getD (s .phase) r 0; step = getD (s .step) r 0; second = getD (s .second) r 0 })) (route-in rs r n d q b few)
 
+    -- the fallen state holds the same of the route: its tables are read at a route that there is
     same-held : held ≡ heldOf (fell ls rs n s) r
     unfolding held heldOf fell withRoutes
     same-held =
@@ -85,28 +88,34 @@ module _ (ls : List Line) (rs : List Route) (n : ℕ) (s : State) (r : ℕ) (b :
         ∙ ap₂ (λ (y z : ℕ). record { phase = read 48 0 (each n (fallenAt ls rs s) (s .phase)) r; step = y; second = z })
         (read-entry (s .step) r (omega arith)) (read-entry (s .second) r (omega arith))
 
+    -- so the same becomes of it
     becomes : heldAfter ls (s .section) (route rs r) e held ≡ routeAfter ls rs (fell ls rs n s) e r
     unfolding routeAfter fell withRoutes
     becomes = ap (heldAfter ls (s .section) (route rs r) e) same-held
 
+    -- the first that the turn gives is the fallen phase
     pub signal-falls : x .fallen ≡ fallenAt ls rs s r (getD (s .phase) r 0)
     unfolding settledFrom
     signal-falls = ap (λ (y : Settled). y .fallen) turned
 
+    -- a route that is not idle is not idle once its signal has fallen, so it takes each part of what becomes of it
     takes : (f : Held → ℕ) (was : ℕ) → f (heldAfter ls (s .section) (route rs r) e held) ≡ unlessIdle (fell ls rs n s) r was (f (routeAfter ls rs (fell ls rs n s) e r))
     unfolding unlessIdle fell withRoutes fallenAt
     takes f was =
         if-ne (read 48 0 (each n (fallenAt ls rs s) (s .phase)) r) 0 _ _ _
         (λ z. fallen-live ls (s .section) (s .point) (s .stage) (s .bar) (route rs r) (getD (s .phase) r 0) live (sym fell-at ∙ z)) (ap f becomes)
 
+    -- its phase
     pub phase-takes : (was : ℕ) → x .phase ≡ unlessIdle (fell ls rs n s) r was (routeAfter ls rs (fell ls rs n s) e r .phase)
     unfolding settledFrom
     phase-takes was = ap (λ (y : Settled). y .phase) turned ∙ takes (λ h. h .phase) was
 
+    -- its step
     pub step-takes : (was : ℕ) → x .step ≡ unlessIdle (fell ls rs n s) r was (routeAfter ls rs (fell ls rs n s) e r .step)
     unfolding settledFrom
     step-takes was = ap (λ (y : Settled). y .step) turned ∙ takes (λ h. h .step) was
 
+    -- its seconds
     pub second-takes : (was : ℕ) → x .second ≡ unlessIdle (fell ls rs n s) r was (routeAfter ls rs (fell ls rs n s) e r .second)
     unfolding settledFrom
     second-takes was = ap (λ (y : Settled). y .second) turned ∙ takes (λ h. h .second) was
@@ -114,18 +123,22 @@ module _ (ls : List Line) (rs : List Route) (n : ℕ) (s : State) (r : ℕ) (b :
 -- ---- the table of fallen phases, while it is made
 
 module _ (ls : List Line) (rs : List Route) (n : ℕ) (s : State) (r : ℕ) (ys : List ℕ) (h : Redone 48 n (fallenAt ls rs s) (s .phase) ys r) where
+  -- the table has an entry for each route
   pub phases-there : length (s .phase) ≡ 48
   unfolding Redone
   phases-there = h .2
 
+  -- the entry of a route that the walk has not reached is what it was
   not-yet : getD ys r 0 ≡ getD (s .phase) r 0
   unfolding Redone
   not-yet = h .5 r (omega arith)
 
+  -- an idle route has no signal to fall
   pub idle-kept : getD (s .phase) r 0 ≡ 0 → getD ys r 0 ≡ fallenAt ls rs s r (getD ys r 0)
   unfolding fallenAt
   idle-kept z = fallen-idle ls (s .section) (s .point) (s .stage) (s .bar) (route rs r) (getD ys r 0) (not-yet ∙ z)
 
+  -- so a signal falls from what the table still has
   pub falls-on : (x : ℕ) → x ≡ fallenAt ls rs s r (getD (s .phase) r 0) → x ≡ fallenAt ls rs s r (getD ys r 0)
   falls-on x e = e ∙ ap (fallenAt ls rs s r) (sym not-yet)
 
@@ -139,6 +152,7 @@ main-same n rs zeros phases x few =
     any-same n _ _ (λ r b. ap (λ m. eqb (read 48 0 phases r) 1 and eqb m x) (sym (read-entry _ r (omega arith)) ∙ each-at n (λ r was. route rs r .entry) zeros r b))
 
 module _ (L : Layout) (before s : State) (e : Gives) (few : L .routes ≤ 48) (len : length (s .phase) ≡ 48) where
+  -- the state whose signals have fallen
   abbrev after-fall : State
   after-fall = fell (L .line) (L .route) (L .routes) s
 
@@ -180,6 +194,7 @@ module _ (L : Layout) (before s : State) (e : Gives) (few : L .routes ≤ 48) (l
     mains-same : (phases : List ℕ) → mainShows (L .routes) entry phases ≡ mainProceeds (L .routes) (L .route) phases
     mains-same phases = ap (λ xs. mainShows (L .routes) xs phases) e₁ ∙ fun-ext (λ x. main-same (L .routes) (L .route) zeros phases x few)
 
+    -- the stages move by the fallen state: main signals show the same by the table and by the routes
     stages-moved : stage ≡ each (8 * L .lines) (farAfter (s .direction) (farReading L after-fall) (farDropped L before after-fall)) (s .stage)
     unfolding farReading farDropped proceedsIn fell withRoutes
     stages-moved =
@@ -188,15 +203,18 @@ module _ (L : Layout) (before s : State) (e : Gives) (few : L .routes ≤ 48) (l
         (record { main = g; block = blockProceeds (L .line) (s .direction) (s .point) (s .stage) (s .bar) }))) (s .stage))
         (mains-same (before .phase)) (mains-same fallen ∙ ap (mainProceeds (L .routes) (L .route)) e₂)
 
+    -- the phases are those made from the fallen ones
     phases-moved : phase ≡ each (L .routes) (λ r was. unlessIdle after-fall r was (routeAfter (L .line) (L .route) after-fall e r .phase)) (after-fall .phase)
     phases-moved = e₃ ∙ from-fallen (λ r. routeAfter (L .line) (L .route) after-fall e r .phase)
 
+    -- the directions go by the stages and the phases after both
     directions-moved : direction ≡ each (L .lines) (directionAfter (ends L before (routes L (farSections L before (signals L s)) e))) (s .direction)
     unfolding directionAfter ends routes routesBy farSections signals withRoutes withLines fell unlessIdle routeAfter heldOf
     directions-moved =
         e₇ ∙ ap₂ (λ (xs ys : List ℕ). each (L .lines) (λ l. directionAfter (endsBy (line (L .line) l) (L .routes) (L .route) (before .stage) xs (s .bar) ys) l) (s .direction))
         stages-moved phases-moved
 
+    -- so the tables together are the state that follows
     pub settled-made : record {
       section = s .section;
       point = s .point;

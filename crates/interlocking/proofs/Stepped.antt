@@ -36,9 +36,11 @@ module _ (isSound : Bool) (L : Layout) (s : State) (k a b : ℕ) (f : Refusal) (
 
 -- what is known of an event that is not refused there, from what the code found
 module _ (isSound : Bool) (L : Layout) (k a b : ℕ) (f : Refusal) (e : f ≡ eventRefusal isSound L k a b) (h : f .number ≡ 0) where
+  -- what the code found is the refusal of the definition
   none-found : eventRefusal isSound L k a b .number ≡ 0
   none-found = sym (ap (λ (x : Refusal). x .number) e) ∙ h
 
+  -- its kind is one of those that there are
   pub kind-known : k ≤ 10
   kind-known = granted-most isSound L k a b none-found
 
@@ -58,15 +60,18 @@ module _ (isSound : Bool) (L : Layout) (k a b : ℕ) (f : Refusal) (e : f ≡ ev
 
 -- and of one that is not refused at all
 module _ (isSound : Bool) (L : Layout) (s : State) (k a b : ℕ) (f : Refusal) (e : f ≡ refusal isSound L s k a b) where
+  -- a refusal is the answer
   pub refused-at-all : (r : Answer) → (f .number ≡ 0 → ⊥) → r ≡ refusedBy f s → r ≡ stepWhere isSound L s k a b
   unfolding stepWhere answer
   refused-at-all r h q =
       if-ne (refusal isSound L s k a b .number) 0 _ _ r (λ z. h (ap (λ (x : Refusal). x .number) e ∙ z)) (q ∙ ap (λ x. refusedBy x s) e)
 
   module _ (h : f .number ≡ 0) where
+    -- no refusal was found, so there is none
     granted : refusal isSound L s k a b .number ≡ 0
     granted = sym (ap (λ (x : Refusal). x .number) e) ∙ h
 
+    -- nothing is refused of it as of any event: that comes first
     pub passed-first : eventRefusal isSound L k a b .number ≡ 0
     unfolding refusal
     passed-first = granted-at _ granted 0
@@ -79,9 +84,11 @@ module _ (isSound : Bool) (L : Layout) (s : State) (k a b : ℕ) (f : Refusal) (
         if-eq (refusal isSound L s k a b .number) 0 _ _ _ granted
         (ap (λ x. record { number = 0; detail = 0; next = x }) (u ∙ ap₂ (settle L s) p q))
 
+    -- soundness was found, so what that gives is there
     pub lines-few : (isSound ≡ true → (L .lines ≤ 8) × (L .routes ≤ 48)) → (L .lines ≤ 8) × (L .routes ≤ 48)
     lines-few g = g (granted-sound isSound L k a b passed-first)
 
+    -- its second number is not wrong
     pub second-right : secondWrong L k a b ≡ false
     second-right = granted-second isSound L k a b passed-first
 

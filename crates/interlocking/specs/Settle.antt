@@ -59,20 +59,23 @@ farDroppedBy ls before shown l i w = farProceedsBy ls before l i w and not (farP
 unfoldable pub farReadingBy : List Line → List ℕ → ℕ → ℕ → ℕ → ℕ
 farReadingBy ls sections l i w = reading sections (farSection (line ls l) w i)
 
--- the same in a state
+-- in a state the far signal shows proceed
 unfoldable pub farProceeds : Layout → State → ℕ → ℕ → ℕ → Bool
 farProceeds L s l i w = farProceedsBy (L .line) (proceedsIn L s) l i w
 
+-- it goes from proceed in the state before to stop
 unfoldable pub farDropped : Layout → State → State → ℕ → ℕ → ℕ → Bool
 farDropped L before s l i w = farDroppedBy (L .line) (proceedsIn L before) (proceedsIn L s) l i w
 
+-- what the far section reads in a state
 unfoldable pub farReading : Layout → State → ℕ → ℕ → ℕ → ℕ
 farReading L s l i w = farReadingBy (L .line) (s .section) l i w
 
--- the stage of the block at place k, by what far sections read and which far signals dropped; in neutral there is no far section
+-- the stage of the block at place k in direction w, by what far sections read and which far signals dropped
 unfoldable pub farMoved : (ℕ → ℕ → ℕ → ℕ) → (ℕ → ℕ → ℕ → Bool) → ℕ → ℕ → ℕ → ℕ
 farMoved far dropped k w was = farStage (far (k / 8) (k % 8) w) (dropped (k / 8) (k % 8) w) was
 
+-- the same in the direction of its line; in neutral there is no far section
 unfoldable pub farAfter : List ℕ → (ℕ → ℕ → ℕ → ℕ) → (ℕ → ℕ → ℕ → Bool) → ℕ → ℕ → ℕ
 farAfter directions far dropped k was =
     if eqb (direction directions (k / 8)) neutral then was else farMoved far dropped k (direction directions (k / 8)) was
@@ -84,10 +87,11 @@ farSections L before s =
 
 -- ---- routes (section 6)
 
--- what the state holds of route r, and what becomes of it
+-- what the state holds of route r
 unfoldable pub heldOf : State → ℕ → Held
 heldOf s r = record { phase = phase (s .phase) r; step = read 48 0 (s .step) r; second = read 48 0 (s .second) r }
 
+-- what becomes of it
 unfoldable pub routeAfter : List Line → List Route → State → Gives → ℕ → Held
 routeAfter ls rs s e r = heldAfter ls (s .section) (route rs r) e (heldOf s r)
 
@@ -137,6 +141,7 @@ ends L before s l w = endsBy (line (L .line) l) (L .routes) (L .route) (before .
 unfoldable pub directionAfter : (ℕ → ℕ → Bool) → ℕ → ℕ → ℕ
 directionAfter ended l was = if eqb was neutral then was else if ended l was then neutral else was
 
+-- all lines
 unfoldable pub lineRelease : Layout → State → State → State
 lineRelease L before s = withLines s (each (L .lines) (directionAfter (ends L before s)) (s .direction)) (s .stage)
 

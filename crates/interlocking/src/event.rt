@@ -181,10 +181,8 @@ pub fn event_answered(
         waited[r as usize] = x.second;
         r += 1;
     }
-    let stages = s.stage;
     let directions = s.direction;
     let stage = far_stages(
-        stages,
         8 * m,
         ls,
         n,

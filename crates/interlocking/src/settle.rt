@@ -9,6 +9,7 @@ use track::codes::STAGE_1;
 ghost use mathlib.Core.Path.{_≡_};
 ghost use mathlib.Core.List.{List};
 ghost use Prim.Native.Nat.{_≤_};
+ghost use lib.ListN.{length};
 ghost use Rattle.laws.specs.Tables.{each, read};
 ghost use Rattle.track.specs.declared.Line.{Line};
 ghost use Rattle.track.specs.Objects.{line, entrance};
@@ -166,7 +167,6 @@ fn far_reading(b: Line, sections: &[u8; 64], i: u8, w: u8) -> u8
 // The stages of the first m places. An open block, one held in stage 0, and one of a neutral line are left at once;
 // the far signal is asked only where it matters.
 pub fn far_stages<'a>(
-    now_stages: [u8; 64],
     m: u8,
     ls: [Line; 8],
     n: u8,
@@ -183,10 +183,10 @@ pub fn far_stages<'a>(
     stages: &'a [u8; 64],
     bars: &'a [u8; 64],
 ) -> [u8; 64]
-    requires { ⌜ m ≤ 64 ⌝ }
-    ensures { λ x. ⌜ x ≡ each m (farAfter (now (directions .entry)) (farReadingBy ls (now (sections .entry))) (farDroppedBy ls (record { main = mainShows n (now (entries .entry)) (now («old_phases» .entry)); block = blockProceeds ls (now («old_directions» .entry)) (now («old_points» .entry)) (now («old_stages» .entry)) (now («old_bars» .entry)) }) (record { main = mainShows n (now (entries .entry)) (now (phases .entry)); block = blockProceeds ls (now (directions .entry)) (now (points .entry)) (now (stages .entry)) (now (bars .entry)) }))) «now_stages» ⌝ }
+    requires { ⌜ (m ≤ 64) × (length (now stages) ≡ 64) ⌝ }
+    ensures { λ x. ⌜ x ≡ each m (farAfter (now (directions .entry)) (farReadingBy ls (now (sections .entry))) (farDroppedBy ls (record { main = mainShows n (now (entries .entry)) (now («old_phases» .entry)); block = blockProceeds ls (now («old_directions» .entry)) (now («old_points» .entry)) (now («old_stages» .entry)) (now («old_bars» .entry)) }) (record { main = mainShows n (now (entries .entry)) (now (phases .entry)); block = blockProceeds ls (now (directions .entry)) (now (points .entry)) (now (stages .entry)) (now (bars .entry)) }))) (now (stages .entry)) ⌝ }
 {
-    let mut stage = now_stages;
+    let mut stage = *stages;
     let mut k: u8 = 0;
     while k < m {
         let was = stage[k as usize];

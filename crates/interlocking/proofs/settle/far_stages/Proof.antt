@@ -40,7 +40,7 @@ asked c =
     let r = c .before .before .before in
     let w = r .before .before in
     let j = w .before .before .before .before .loop .inv in
-    let there = line-in _ _ _ _ (j .0) (w .before .before .before .loop-test .taken) (w .before .before .before .before .before .pre) in (
+    let there = line-in _ _ _ _ (j .0) (w .before .before .before .loop-test .taken) (w .before .before .before .before .before .before .pre .0) in (
       j .0,
       redo-on _ _ _ _ _ _ _ (j .1) (search needs)
           (far-asked _ _ _ _ _ _ (w .before .direction-of .ensures) _ _ (w .if2 .left)
@@ -53,7 +53,7 @@ moot c =
     let r = c .before .before in
     let w = r .before .before in
     let j = w .before .before .before .before .loop .inv in
-    let there = line-in _ _ _ _ (j .0) (w .before .before .before .loop-test .taken) (w .before .before .before .before .before .pre) in (
+    let there = line-in _ _ _ _ (j .0) (w .before .before .before .loop-test .taken) (w .before .before .before .before .before .before .pre .0) in (
       j .0,
       redo-on _ _ _ _ _ _ _ (j .1) (search needs)
           (far-moot _ _ _ _ _ _ (w .before .direction-of .ensures) _ _ (w .if2 .left)
@@ -66,7 +66,7 @@ far-stages-spec =
     (tie.spec
     Inv-loop
     μ-loop
-    (λ c. (search (needs, length-mapped), redo-start _ _ _ _ (c .pre) (search needs)))
+    (λ c. (search (needs, length-mapped), redo-start _ _ _ _ (c .before .pre .0) (c .before .pre .1)))
     (λ c. search redoes)
     (λ c. search redoes)
     (λ c. search redoes)
