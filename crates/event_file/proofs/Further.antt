@@ -11,7 +11,7 @@ use lib.Seq.{getD-append-add}
 use Rattle.laws.specs.Choice.{if_then_else_}
 use Rattle.numbers.specs.declared.Number.{Number}
 use Rattle.numbers.specs.declared.Number.the-variants.{Value, Fault}
-use Rattle.numbers.specs.Number.{maxGroups, largest, joined, groupsAt, atMost, numberAt}
+use Rattle.numbers.specs.Number.{maxGroups, largest, withGroup, groupsAt, atMost, numberAt}
 use Rattle.event_file.specs.declared.Next.{Next}
 use Rattle.event_file.specs.declared.Next.the-variants.{Taken, Bad, Nothing}
 use Rattle.event_file.specs.Read.{withSecond, withFirst, withKind, eventAt}
@@ -36,10 +36,10 @@ choice-further d true n m = refl
 choice-further d false n m = refl
 
 -- a group below the others moves no place of its own
-joined-further : (d first low : ℕ) (n : Number) → joined (d + first) low (further d n) ≡ further d (joined first low n)
-unfolding joined
-joined-further d first low (Value value next) = choice-further d (eqb value 0) (Fault 22 first) (Value (low + 128 * value) next)
-joined-further d first low (Fault number at) = refl
+withGroup-further : (d first low : ℕ) (n : Number) → withGroup (d + first) low (further d n) ≡ further d (withGroup first low n)
+unfolding withGroup
+withGroup-further d first low (Value value next) = choice-further d (eqb value 0) (Fault 22 first) (Value (low + 128 * value) next)
+withGroup-further d first low (Fault number at) = refl
 
 -- nor does the limit
 most-further : (d first limit : ℕ) (n : Number) → atMost (d + first) limit (further d n) ≡ further d (atMost first limit n)
@@ -49,11 +49,11 @@ most-further d first limit (Fault number at) = refl
 
 -- by the two tests of a byte
 tests-further : (d first at b : ℕ) (t u : Bool) (n : Number)
-    → if t then (if u then Value b (d + at + 1) else joined (d + first) (b - 128) (further d n)) else Fault 21 (d + first)
-    ≡ further d (if t then (if u then Value b (at + 1) else joined first (b - 128) n) else Fault 21 first)
+    → if t then (if u then Value b (d + at + 1) else withGroup (d + first) (b - 128) (further d n)) else Fault 21 (d + first)
+    ≡ further d (if t then (if u then Value b (at + 1) else withGroup first (b - 128) n) else Fault 21 first)
 unfolding if_then_else_
 tests-further d first at b true true n = let e : d + at + 1 ≡ d + (at + 1) = omega arith in ap (Value b) e
-tests-further d first at b true false n = joined-further d first (b - 128) n
+tests-further d first at b true false n = withGroup-further d first (b - 128) n
 tests-further d first at b false u n = refl
 
 -- before the end, or at it

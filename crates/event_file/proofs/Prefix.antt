@@ -11,7 +11,7 @@ use lib.ListN.{length, getD, length-append, List·getD-append}
 use Rattle.laws.specs.Choice.{if_then_else_}
 use Rattle.numbers.specs.declared.Number.{Number}
 use Rattle.numbers.specs.declared.Number.the-variants.{Value, Fault}
-use Rattle.numbers.specs.Number.{maxGroups, largest, joined, groupsAt, atMost, numberAt}
+use Rattle.numbers.specs.Number.{maxGroups, largest, withGroup, groupsAt, atMost, numberAt}
 use Rattle.event_file.specs.declared.Next.{Next}
 use Rattle.event_file.specs.declared.Next.the-variants.{Bad}
 use Rattle.event_file.specs.Read.{withSecond, withFirst, withKind, eventAt}
@@ -27,10 +27,10 @@ Same n m = ((place : ℕ) × (n ≡ Bad 21 place)) ⊎ (n ≡ m)
 -- ---- a number
 
 -- 21 in the groups above is 21 of the whole number
-joined-kept : (first low : ℕ) (n m : Number) → Kept n m → Kept (joined first low n) (joined first low m)
-unfolding joined
-joined-kept first low n m (inl e) = inl (e .0, rw (e .1))
-joined-kept first low n m (inr e) = inr (ap (joined first low) e)
+withGroup-kept : (first low : ℕ) (n m : Number) → Kept n m → Kept (withGroup first low n) (withGroup first low m)
+unfolding withGroup
+withGroup-kept first low n m (inl e) = inl (e .0, rw (e .1))
+withGroup-kept first low n m (inr e) = inr (ap (withGroup first low) e)
 
 -- the limit leaves 21 as it is
 most-kept : (first limit : ℕ) (n m : Number) → Kept n m → Kept (atMost first limit n) (atMost first limit m)
@@ -49,11 +49,11 @@ module _ (xs ys : List ℕ) (first : ℕ) where
 
   -- by the byte there
   by-byte : (k at b : ℕ) (t : Bool) → Kept (groupsAt k xs first (at + 1)) (groupsAt k (xs ++ ys) first (at + 1))
-      → Kept (if t then Value b (at + 1) else joined first (b - 128) (groupsAt k xs first (at + 1)))
-      (if t then Value b (at + 1) else joined first (b - 128) (groupsAt k (xs ++ ys) first (at + 1)))
+      → Kept (if t then Value b (at + 1) else withGroup first (b - 128) (groupsAt k xs first (at + 1)))
+      (if t then Value b (at + 1) else withGroup first (b - 128) (groupsAt k (xs ++ ys) first (at + 1)))
   unfolding if_then_else_
   by-byte k at b true rest = inr refl
-  by-byte k at b false rest = joined-kept first (b - 128) _ _ rest
+  by-byte k at b false rest = withGroup-kept first (b - 128) _ _ rest
 
   -- inside the prefix, or at its end
   by-place : (k at : ℕ) (t : Bool) → ltb at (length xs) ≡ t → Kept (groupsAt k xs first (at + 1)) (groupsAt k (xs ++ ys) first (at + 1))
