@@ -17,7 +17,7 @@ module _ (first low : ℕ) (n : Number) where
   unfolding withGroup
   withGroup-zero e z = rw e (search choices)
 
-  -- the groups after a group are a number
+  -- the groups after a group are a number other than 0
   pub withGroup-value : {v next : ℕ} → n ≡ Value v next → (v ≡ 0 → ⊥) → Value (low + 128 * v) next ≡ withGroup first low n
   unfolding withGroup
   withGroup-value e z = rw e (search choices)
@@ -28,12 +28,12 @@ module _ (first low : ℕ) (n : Number) where
   withGroup-fault e = rw e
 
 module _ (first limit : ℕ) (n : Number) where
-  -- a number that is too large
+  -- a number above the limit
   pub most-over : {v next : ℕ} → n ≡ Value v next → limit < v → Fault 22 first ≡ atMost first limit n
   unfolding atMost
   most-over e l = rw e (search choices)
 
-  -- a number that is not
+  -- a number up to the limit
   pub most-within : {v next : ℕ} → n ≡ Value v next → v ≤ limit → Value v next ≡ atMost first limit n
   unfolding atMost
   most-within e l = rw e (search choices)

@@ -29,7 +29,7 @@ module _ (s : List ℕ) (first : ℕ) where
       (groups-cut k (at + 1) (record { few = omega arith; more = λ i a h. c .more i (omega arith) h })))
       (eq-zero-or-pos (length s - at))
 
-  -- no byte may be taken any more
+  -- each of the k bytes that may be taken has its top bit set
   groups-long : (k at : ℕ) → at + k ≤ length s → ((i : ℕ) → at ≤ i → i < at + k → 128 ≤ getD s i 0) → groupsAt k s first at ≡ Fault 22 first
   groups-long zero at l t = sym (groups-none s first at 0 refl)
   groups-long (suc k) at l t =

@@ -68,7 +68,7 @@ unfolding numberAt encode
 accepts s at n post h e =
     sym (most-within at largest (groupsAt maxGroups s at at) (decodes s at post (maxGroups - 1) n at (omega arith) e) h)
 
--- what is accepted is at most the largest, and is what is written for it
+-- a number that is read is at most the largest, and what stands there, up to the place after it, is the form that is written for it
 pub exact : (s : List ℕ) (at v next : ℕ) → Bytes s → numberAt s at ≡ Value v next
     → (v ≤ largest) × (next ≡ at + length (encode v)) × (drop at s ≡ encode v ++ drop next s)
 exact s at v next h e =

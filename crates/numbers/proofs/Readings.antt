@@ -65,11 +65,11 @@ module _ (s : List ℕ) (first : ℕ) where
           let r : v / 128 ≡ w = omega arith in
           (omega (arith, pow-suc 128 k, f .2 h .0), rw (← encode-more k v p, q, r) (from-place at l ∙ ap (λ x. getD s at 0 ∷ x) (f .2 h .1)))
 
-  -- the string ends at a place
+  -- the string ends at a place or before it
   cut-here : (k at : ℕ) → length s ≤ at → Cut (suc k) s at
   cut-here k at l = record { few = omega arith; more = λ i a b. absurd (omega arith) }
 
-  -- the string ends early too from a byte on that is not the last
+  -- where the string ends early after a byte that is not a last one, it ends early from that byte on too
   cut-before : (k at : ℕ) → at < length s → 128 ≤ getD s at 0 → Cut k s (at + 1) → Cut (suc k) s at
   cut-before k at l b c = record {
     few = omega arith;
@@ -95,7 +95,7 @@ module _ (s : List ℕ) (first : ℕ) where
       (λ b. reading-withGroup k at (groupsAt k s first (at + 1)) (ltb-true at (length s) l) (ltb-false (getD s at 0) 128 b) (reads k (at + 1))))
       (λ l. (refl, inr (refl, cut-here k at (ltb-false at (length s) l))))
 
--- a number of at most eight groups can be multiplied by 128
+-- a number of at most eight groups is below 2 to the 56th
 pub groups-small : (k : ℕ) (s : List ℕ) (first at v next : ℕ) → Bytes s → k ≤ 8 → groupsAt k s first at ≡ Value v next → v < 2 ^ 56
 groups-small k s first at v next h l e =
     omega (arith, subst (Reading s first k at) e (reads s first k at) .2 h .0, pow-le-pow-right {n = 128} (lit< tt) {i = k} {j = 8} l)
@@ -135,7 +135,7 @@ module _ (s : List ℕ) (at : ℕ) where
     pub number-inside : n ≡ numberAt s at → n ≡ Value v next → next ≤ length s
     number-inside e f = subst (Reading s at maxGroups at) f (number-reading e) .1
 
-    -- a number is the form that is written for it
+    -- a number stands there in the form that is written for it
     pub number-written : Bytes s → n ≡ numberAt s at → n ≡ Value v next → drop at s ≡ encode v ++ drop next s
     unfolding encode
     number-written h e f = subst (Reading s at maxGroups at) f (number-reading e) .2 h .1

@@ -15,16 +15,16 @@ use Rattle.laws.proofs.wide.Reads as wide-reads
 use Rattle.numbers.proofs.+groups.{statement}
 use Rattle.numbers.proofs.+groups.Tie.{close}
 
--- the bytes that are left fall with each call
+-- the bytes that may be taken: one less with each call
 abbrev μ-groups : Measures 1 groups-kinds.ps ℕ
 μ-groups κs a = a .1 .1 .1 .0
 
 module _ (t : ℕ) where
-  -- a call with t bytes left
+  -- a call that may take t bytes
   abbrev groups-at : In 1 groups-kinds.ps
   groups-at = and 1 groups-kinds.ps (is 1 groups-kinds.ps μ-groups t) groups.Pre
 
-  -- a call with fewer
+  -- a call that may take fewer
   abbrev groups-below : In 1 groups-kinds.ps
   groups-below = and 1 groups-kinds.ps (falls 1 groups-kinds.ps _<_ μ-groups t) groups.Pre
 

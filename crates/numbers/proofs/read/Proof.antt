@@ -1,4 +1,4 @@
--- A byte below 128 is the whole number; any other is read group by group.
+-- A byte below 128 is the whole number; anything else, the string's end too, is read group by group.
 use borrow.Author.Needs.{needs}
 use Rattle.numbers.proofs.Cases.{cases}
 use Rattle.numbers.proofs.read.Statement.{statement}
