@@ -57,7 +57,7 @@ module _ (a : List ℕ) (at places : ℕ) (text : List ℕ) where
   unfolding fitting
   put-fitting b m h p = subst⁻ (if-ge (length a) (at + places) _ _ _ h refl) p
     where
-      -- what is written stays written under another name of the text
+      -- where a list was written, so was any list equal to it
       subst⁻ : {xs ys : List ℕ} → ys ≡ xs → Put a at xs places b m → Put a at ys places b m
       subst⁻ e q = rw e q
 

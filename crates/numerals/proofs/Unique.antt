@@ -1,4 +1,5 @@
--- No second result, and no second buffer, meets the contract of a public function. `Post` is the contract itself, as the function is proved to meet it.
+-- No second result and no second buffer meet the contract of a public function.
+-- `Post` is the contract itself, as the function is proved to meet it.
 use mathlib.Core.Path.{_≡_}
 use mathlib.Core.List.{List}
 use Prim.Native.Nat.{ℕ}

@@ -8,7 +8,7 @@ use lib.ListN.{length, set, length-append}
 use lib.Seq.{sets, length-sets}
 use Rattle.numerals.specs.Writes.{Put}
 
--- what is written after what was written is written in one go
+-- writing xs and then ys right after them is writing both in one go
 sets-append : (xs ys l : List ℕ) (i : ℕ) → sets (sets l i xs) (i + length xs) ys ≡ sets l i (xs ++ ys)
 sets-append [] ys l i = ap (λ k. sets l k ys) (add-zero i)
 sets-append (x ∷ xs) ys l i =
