@@ -20,9 +20,9 @@ use Rattle.fields.specs.declared.Points.{Points}
 use Rattle.fields.specs.Fields.{failed, judge, field, code, reference}
 use Rattle.fields.specs.Lists.{itemTurn, items, pointTurn, points}
 
--- ---- whatever was met, the number is below the limit
+-- ---- whatever was met, the number is below any m above 0 that is at least the limit
 
--- of what was judged: in range it is below the limit, and a fault's number is 0
+-- of what was judged: in range it is below the limit, and with a fault it is 0
 judge-below : (n : Number) (at low limit fault m : ℕ) → limit ≤ m → 0 < m → judge n at low limit fault .value < m
 unfolding judge failed
 judge-below (Value v next) at low limit fault m l h =
@@ -41,7 +41,7 @@ pub code-most : (s : List ℕ) (c : Cursor) (low high : ℕ) {d : Cursor} → d 
 unfolding code
 code-most s c low high e = rw e (omega (arith, field-below s c low (high + 1) 23 (high + 1) (omega arith) (omega arith)))
 
--- a reference is below whatever the number of objects does not pass; with no objects it is 0
+-- a reference, even with a fault, is below any m above 0 that is at least the number of objects
 pub reference-below : (s : List ℕ) (c : Cursor) (objects m : ℕ) {d : Cursor} → d ≡ reference s c objects → objects ≤ m → 0 < m → d .value < m
 unfolding reference
 reference-below s c objects m e l h = rw e (field-below s c 0 objects 24 m l h)
@@ -60,12 +60,12 @@ Known c = (c .fault ≡ 0) ⊎ Bad (c .fault)
 abbrev Judged : ℕ → ℕ → Cursor → Type 0
 Judged low limit c = ((c .fault ≡ 0) × (low ≤ c .value) × (c .value < limit)) ⊎ Bad (c .fault)
 
--- a fault of the number form
+-- a fault of the number form is one that a number can bring
 pub form-bad : (s : List ℕ) (at number place : ℕ) → Fault number place ≡ numberAt s at → Bad number
 form-bad s at number place e =
     ⊎-elim (λ (f : number ≡ 22). (omega arith, omega arith)) (λ f. let g : number ≡ 21 = f .0 in (omega arith, omega arith)) (fault-number s at e refl)
 
--- what is judged is the one or the other
+-- what is judged is a number in its range, or a fault that a number can bring
 judge-says : (s : List ℕ) (at low limit fault : ℕ) → Bad fault → (n : Number) → n ≡ numberAt s at → Judged low limit (judge n at low limit fault)
 unfolding judge failed
 judge-says s at low limit fault bad (Value v next) e =
@@ -74,14 +74,14 @@ judge-says s at low limit fault bad (Value v next) e =
 judge-says s at low limit fault bad (Fault number place) e = inr (form-bad s at number place e)
 
 module _ (s : List ℕ) (c : Cursor) (low limit fault : ℕ) (bad : Bad fault) where
-  -- a fault that stays is as known as it was
+  -- where the fault before is known, so is that of the next number
   field-known : Known c → Known (field s c low limit fault)
   unfolding field failed
   field-known k =
       if-both Known (eqb (c .fault) 0)
       (λ t. ⊎-elim (λ g. inl (g .0)) inr (judge-says s (c .at) low limit fault bad (numberAt s (c .at)) refl)) (λ t. k)
 
-  -- with no fault the number was judged
+  -- with no fault there was none before, and the number lies in its range
   field-in : field s c low limit fault .fault ≡ 0
       → (c .fault ≡ 0) × (low ≤ field s c low limit fault .value) × (field s c low limit fault .value < limit)
   unfolding field failed
@@ -91,18 +91,18 @@ module _ (s : List ℕ) (c : Cursor) (low limit fault : ℕ) (bad : Bad fault) w
       (λ t e. absurd (eqb-false (c .fault) 0 t e))
 
 module _ (s : List ℕ) (c : Cursor) (low high : ℕ) where
-  -- a code's fault is known
+  -- a code's fault is known where the fault before is
   pub code-known : Known c → Known (code s c low high)
   unfolding code
   code-known = field-known s c low (high + 1) 23 (omega arith, omega arith)
 
-  -- with no fault a code is at least its lowest; it is never more than its highest
+  -- with no fault there was none before, and a code is at least its lowest; code-most says that it is at most its highest
   pub code-in : code s c low high .fault ≡ 0 → (c .fault ≡ 0) × (low ≤ code s c low high .value)
   unfolding code
   code-in e = let r = field-in s c low (high + 1) 23 (omega arith, omega arith) e in (r .0, r .1)
 
 module _ (s : List ℕ) (c : Cursor) (objects : ℕ) where
-  -- a reference's fault is known
+  -- a reference's fault is known where the fault before is
   pub reference-known : Known c → Known (reference s c objects)
   unfolding reference
   reference-known = field-known s c 0 objects 24 (omega arith, omega arith)
@@ -121,7 +121,7 @@ pub record ItemsIn (low high objects : ℕ) (t : Items) : Type 0 where
   pub each : (k : ℕ) → k < t .count → getD (t .item) k 0 < objects
 
 module _ (s : List ℕ) (c : Cursor) (low high objects : ℕ) where
-  -- its fault is known
+  -- its fault is known where the fault before is
   pub items-known : Known c → Known (items s c low high objects .cur)
   unfolding items itemTurn
   items-known p =
@@ -156,7 +156,7 @@ module _ (s : List ℕ) (c : Cursor) (objects : ℕ) where
   abbrev way : Points → Cursor
   way t = code s (reference s (t .cur) objects) 1 2
 
-  -- their fault is known
+  -- their fault is known where the fault before is
   pub points-known : Known c → Known (points s c objects .cur)
   unfolding points pointTurn
   points-known p =
