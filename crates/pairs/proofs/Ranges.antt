@@ -20,7 +20,7 @@ use Rattle.pairs.specs.Pairs.{placeOf, noPairs, counted, pairCount, orde
 
 -- ---- the number of pairs
 
--- its fault is known, as a code's is
+-- its fault is known where the fault before is, as a code's is
 count-known : (s : List ℕ) (c : Cursor) → Known c → Known (pairCount s c .cur)
 unfolding pairCount counted
 count-known s c k = code-known s c 0 1128 k
@@ -33,7 +33,7 @@ count-before s c e = code-in s c 0 1128 e .0
 -- ---- a pair's order
 
 module _ (a b : Cursor) (last : ℕ) where
-  -- its fault is known
+  -- its fault is known where that of the second number is
   ordered-known : Known b → Known (ordered a b last)
   unfolding ordered failed
   ordered-known k =
@@ -68,7 +68,7 @@ said-same : (m k : List ℕ) (routes i j : ℕ) → getD k (placeOf i j) 0 ≡ g
 said-same m k routes i j p q (neither e f) = neither (p ∙ e) (q ∙ f)
 said-same m k routes i j p q (both e f d a b) = both (p ∙ e) (q ∙ f) d a b
 
--- no pairs
+-- the table of no pairs says 0 both ways of any two routes
 none-said : (routes i j : ℕ) → Said noPairs routes i j
 unfolding noPairs
 none-said routes i j = neither (nothing-at 2304 0 (placeOf i j)) (nothing-at 2304 0 (placeOf j i))
@@ -95,7 +95,7 @@ module _ (m : List ℕ) (routes a b : ℕ) (size : length m ≡ 2304) (few : rou
   at-other : (k : ℕ) → (k ≡ placeOf a b → ⊥) → (k ≡ placeOf b a → ⊥) → getD marked k 0 ≡ getD m k 0
   at-other k p q = getD-set-other (set m (placeOf a b) 1) (placeOf b a) k 1 0 q ∙ getD-set-other m (placeOf a b) k 1 0 p
 
-  -- it says of any two routes what it should
+  -- where the table said of two routes what it should, the marked table does
   mark-said : (i j : ℕ) → i < 48 → j < 48 → Dec (placeOf i j ≡ placeOf a b) → Dec (placeOf i j ≡ placeOf b a) → Said m routes i j → Said marked routes i j
   unfolding placeOf
   mark-said i j x y (yes e) d s =
@@ -118,14 +118,14 @@ unfolding named
 named-all routes few = if-both (λ r. r ≡ routes) (ltb routes 48) (λ t. refl) (λ t. omega (arith, ltb-false routes 48 t))
 
 module _ (s : List ℕ) (routes : ℕ) (c : Cursor) where
-  -- their fault is known
+  -- their fault is known where the fault before is
   pub pairs-known : Known c → Known (pairs s routes c .cur)
   unfolding pairs pairsFrom pairTurn aPair
   pairs-known k =
       iter-keeps (λ i (t : Pairs). Known (t .cur)) (pairTurn s (named routes)) _ _ (count-known s c k)
       (λ i t l q. ordered-known _ _ (t .last) (reference-known s _ _ (reference-known s (t .cur) _ q)))
 
-  -- with no fault the table is in order
+  -- with no fault there was none before, and of any two numbers below 48 the table says what it should
   pub pairs-in : routes ≤ 48 → pairs s routes c .cur .fault ≡ 0
       → (c .fault ≡ 0) × ((i j : ℕ) → i < 48 → j < 48 → Said (pairs s routes c .conflict) routes i j)
   unfolding pairs pairsFrom pairTurn aPair noPairs
@@ -134,7 +134,7 @@ module _ (s : List ℕ) (routes : ℕ) (c : Cursor) where
       let r = iter-keeps Table (pairTurn s routes) _ _ (length-replicate {A = ℕ} 2304 0, λ w. (w, λ i j x y. none-said routes i j)) turn .1 e in
       (count-before s c (r .0), r .1))
     where
-      -- after any turn the table is whole, and in order with no fault
+      -- after any turn the table has its 2,304 entries and, with no fault, says of any two routes what it should
       Table : ℕ → Pairs → Type 0
       Table i t = (length (t .conflict) ≡ 2304)
           × (t .cur .fault ≡ 0 → (pairCount s c .cur .fault ≡ 0) × ((i j : ℕ) → i < 48 → j < 48 → Said (t .conflict) routes i j))

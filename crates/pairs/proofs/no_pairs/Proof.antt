@@ -1,4 +1,4 @@
--- Nothing anywhere.
+-- The code and the definition are the same 2,304 zeros.
 use mathlib.Core.Path.{refl}
 use Rattle.pairs.specs.Pairs.{noPairs}
 use Rattle.pairs.proofs.no_pairs.Statement.{statement}
