@@ -1,4 +1,4 @@
--- A line, a route and a turn, put together from what was read.
+-- A line, and the turns that read lines and routes, put together from what was read.
 use Prim.Native.Nat.{ℕ, _≤_}
 use mathlib.Core.Path.{_≡_}
 use mathlib.Core.List.{List}

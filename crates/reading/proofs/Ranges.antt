@@ -55,7 +55,7 @@ pub record OwnedIn (objects : ℕ) (t : Owned) : Type 0 where
   pub each : (k : ℕ) → k < t .count → getD (t .section) k 0 < objects
 
 module _ (s : List ℕ) (c : Cursor) (objects : ℕ) where
-  -- their fault is known
+  -- their fault is known where the fault before is
   pub sections-known : Known c → Known (sections s c objects .cur)
   unfolding sections sectionTurn
   sections-known p =
@@ -79,7 +79,7 @@ module _ (s : List ℕ) (c : Cursor) (objects : ℕ) where
 -- ---- a line
 
 module _ (s : List ℕ) (n : Counts) (c : Cursor) where
-  -- its fault is known
+  -- its fault is known where the fault before is
   line-known : Known c → Known (aLine s n c .cur)
   unfolding aLine
   line-known k =
@@ -109,7 +109,7 @@ pub record LinesIn (n : Counts) (t : Lines) : Type 0 where
   pub each : (k : ℕ) → k < t .count → lineFits n (line (t .line) k) ≡ true
 
 module _ (s : List ℕ) (n : Counts) (c : Cursor) where
-  -- their fault is known
+  -- their fault is known where the fault before is
   pub lines-known : Known c → Known (lines s n c .cur)
   unfolding lines linesFrom lineTurn
   lines-known p = iter-keeps (λ i (t : Lines). Known (t .cur)) (lineTurn s n) _ _ (code-known s c 0 8 p) (λ i t l q. line-known s n (t .cur) q)
@@ -132,7 +132,7 @@ module _ (s : List ℕ) (n : Counts) (c : Cursor) where
 -- ---- a route
 
 module _ (s : List ℕ) (c : Cursor) (lines : ℕ) where
-  -- the fault of a line and an end is known
+  -- the fault of a line and an end is known where the fault before is
   end-known : Known c → Known (lineAndEnd s c lines .cur)
   unfolding lineAndEnd anEnd
   end-known k = if-both (λ (e : End). Known (e .cur)) (eqb (c .value) 0) (λ t. k) (λ t. code-known s _ 0 1 (reference-known s c lines k))
@@ -149,7 +149,7 @@ module _ (s : List ℕ) (c : Cursor) (lines : ℕ) where
       (l .0, or-right _ _ (and-both _ _ (lt-ltb _ _ (l .1)) (le-leb _ _ (code-most s (reference s c lines) 0 1 refl)))))
 
 module _ (s : List ℕ) (n : Counts) (c : Cursor) where
-  -- its fault is known
+  -- its fault is known where the fault before is
   route-known : Known c → Known (aRoute s n c .cur)
   unfolding aRoute routeHead
   route-known k =
@@ -182,7 +182,7 @@ pub record RoutesIn (n : Counts) (t : Routes) : Type 0 where
   pub each : (k : ℕ) → k < t .count → routeFits n (route (t .route) k) ≡ true
 
 module _ (s : List ℕ) (n : Counts) (c : Cursor) where
-  -- their fault is known
+  -- their fault is known where the fault before is
   pub routes-known : Known c → Known (routes s n c .cur)
   unfolding routes routesFrom routeTurn
   routes-known p = iter-keeps (λ i (t : Routes). Known (t .cur)) (routeTurn s n) _ _ (code-known s c 0 48 p) (λ i t l q. route-known s n (t .cur) q)
