@@ -18,13 +18,13 @@ use Rattle.track.specs.Lists.{among}
 use Rattle.rules.specs.Rules.{share, hasBlock, isBlock, hasInner, isInner, inPath, hasPoint, clashes}
 use Rattle.rules.specs.Sets.{lineBlocks, blockSet, innerTurn, innerSet, offBlocks, sideWith, sideSet, reachOf, clashing}
 
--- two sets have an element in common just where some number passes both of the tests that they stand for
+-- two sets have an element in common just where some number below 64 passes both of the tests that they stand for
 pub common-is : (a b : ℕ) (p q : ℕ → Bool) → ((g : ℕ) → g < 64 → holds a g ≡ p g) → ((g : ℕ) → g < 64 → holds b g ≡ q g)
     → common a b ≡ share p q
 unfolding common share
 common-is a b p q f h = any-same 64 _ _ (λ g l. rw (f g l, h g l))
 
--- of three tests one holds, whichever two are taken together first
+-- the `or` of three tests is the same whichever two are taken together first
 or-regroup : (a b c : Bool) → a or b or c ≡ a or (b or c)
 unfolding _or_
 or-regroup true b c = refl
@@ -87,7 +87,7 @@ pub again-is : (ls : List Line) (l : ℕ)
     → common (setOf (line ls l .blocks) (line ls l .block)) (blockSet l ls) ≡ share (λ g. hasBlock ls g l) (isBlock l ls)
 again-is ls l = common-is _ _ _ _ (holds-blocks ls l) (holds-blockSet l ls)
 
--- rule 1, a path section that is a block
+-- rule 1, no path section is a block
 pub offBlocks-is : (n : ℕ) (ls : List Line) (a : Route) → offBlocks (blockSet n ls) a ≡ not (share (isBlock n ls) (inPath a))
 unfolding offBlocks
 offBlocks-is n ls a = ap not (common-is _ _ _ _ (holds-blockSet n ls) (holds-path a))
@@ -96,7 +96,7 @@ offBlocks-is n ls a = ap not (common-is _ _ _ _ (holds-blockSet n ls) (holds-pat
 pub inner-is : (n : ℕ) (ls : List Line) → common (blockSet n ls) (innerSet n ls) ≡ share (isBlock n ls) (isInner n ls)
 inner-is n ls = common-is _ _ _ _ (holds-blockSet n ls) (holds-innerSet n ls)
 
--- rule 6
+-- rule 6, two routes that clash
 pub clashing-is : (a b : Route) → clashing (reachOf a) (reachOf b) ≡ clashes a b
 unfolding clashing reachOf clashes
 clashing-is a b =

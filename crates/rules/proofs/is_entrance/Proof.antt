@@ -33,7 +33,7 @@ returns-2 : tie.Need-returns-2 Inv-loop μ-loop
 unfolding isEntrance
 returns-2 c = search (anys, length-mapped, entrance-here)
 
--- the line has it not: one line more without it
+-- the line does not have it: one line more without it
 loop-again-2 : tie.Need-loop-again-2 Inv-loop μ-loop
 loop-again-2 c = search (anys, length-mapped, entrance-here)
 

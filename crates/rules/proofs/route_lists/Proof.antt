@@ -1,4 +1,4 @@
--- The path is tested and the list of points is.
+-- The path is tested, and so is the list of points.
 use borrow.Author.Needs.{needs}
 use Rattle.laws.specs.Tests.{_and_}
 use Rattle.rules.specs.Rules.{routeLists}

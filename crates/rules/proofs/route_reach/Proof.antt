@@ -1,4 +1,4 @@
--- The set of its path and the sets of its points to either side.
+-- Its entry signal, the set of its path, and the sets of its points to the left and to the right.
 use borrow.Author.Needs.{needs}
 use Rattle.rules.specs.Sets.{reachOf}
 use Rattle.rules.proofs.route_reach.Statement.{statement}
