@@ -1,4 +1,4 @@
--- Loading, put together from what was read, and its cases.
+-- What loading reads, put together from its parts; then the first broken rule, soundness and the answer of loading, by cases.
 use Prim.Native.Nat.{ℕ, _≤_}
 use mathlib.Core.Path.{_≡_, refl, sym, ap, _∙_}
 use mathlib.Core.Bool.{Bool, true, false, not}
@@ -71,12 +71,12 @@ late true false c d e f k r p q s = absurd (omega arith)
 late true true false d e f k r p q s = absurd (omega arith)
 late true true true d e f k r p q s = s
 
--- so of the rules 1 to 3
+-- one of the rules 1 to 3 is broken: the first broken rule is the first of those
 pub broken-first : (L : Layout) (k : ℕ) → k ≡ firstFailed 1 (rule1 L ∷ rule2 L ∷ rule3 L ∷ []) → (k ≡ 0 → ⊥) → k ≡ broken L
 unfolding broken
 broken-first L k p q = early _ _ _ (rule4 L) (rule5 L) (rule6 L) k p q
 
--- and of the rules 4 to 6
+-- none of them is: it is the first broken one of the rules 4 to 6, if any
 pub broken-last : (L : Layout) (k r : ℕ) → k ≡ firstFailed 1 (rule1 L ∷ rule2 L ∷ rule3 L ∷ []) → k ≡ 0
     → r ≡ firstFailed 4 (rule4 L ∷ rule5 L ∷ rule6 L ∷ []) → r ≡ broken L
 unfolding broken

@@ -31,7 +31,7 @@ use Rattle.layout.specs.Walks.{lineKeeps, routeKeeps, blocksApart, lists
 
 -- ---- an entry of an array of routes, as the code reads it
 
--- what a route keeps
+-- whether a route keeps rule k
 pub kept-at : (rs : List Route) (i n : ℕ) (d : Route) (k : ℕ) (c : Counts) (ls : List Line) (blocks : ℕ) {v : Bool} → length rs ≡ 48 → i < n → n ≤ 48
     → v ≡ routeKeeps k c ls blocks (getD rs i d) → v ≡ routeKeeps k c ls blocks (route rs i)
 unfolding route
@@ -50,7 +50,7 @@ row-at m t r q d n h l e = e ∙ ap₂ (pairKeeps m r q) (read-in t r 48 d noRea
 
 -- ---- rule 6 for two routes: what is listed keeps it, and what is not must not clash
 
--- what implies a thing that fails must fail
+-- a test implies one that fails just where it fails itself
 not-implies : (t : Bool) → not t ≡ implies t false
 unfolding implies
 not-implies true = refl
@@ -139,7 +139,7 @@ module _ (L : Layout) where
   unfolding routeIn routeKeeps if_then_else_
   routes-fit-is = all-same _ _ _ (λ r h. refl)
 
-  -- the two walks and the tests between them are the whole test
+  -- the walks over lines and routes, with the other tests, are the whole test
   pub fits-made : (c : Counts) (a b d e : Bool) → c ≡ counts L → a ≡ between 1 64 (L .sections) → b ≡ sectionsFit (L .points) (L .sections) (L .pointsection)
       → d ≡ all (c .lines) (lineKeeps 0 c (L .line)) → e ≡ all (L .routes) (λ r. routeKeeps 0 c (L .line) 0 (route (L .route) r))
       → a && (leb (L .points) 32 && (b && (leb (L .signals) 32 && (leb (L .lines) 8 && (d && (leb (L .routes) 48 && e)))))) ≡ fits L

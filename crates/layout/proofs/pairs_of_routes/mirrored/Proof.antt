@@ -1,11 +1,11 @@
--- Each route is tested, and the first whose conflicts are not both ways ends it.
+-- Each route is tested, and the first that conflicts with itself, or whose conflicts are not both ways, ends it.
 use Prim.Native.Nat.{_-_}
 use Rattle.laws.proofs.Loops.{Held, alls}
 use Rattle.layout.specs.Sound.{rowMirrors}
 use Rattle.layout.proofs.pairs_of_routes.mirrored.Statement.{statement}
 use Rattle.layout.proofs.pairs_of_routes.mirrored.Tie as tie
 
--- the conflicts of each route before r with those before it are both ways
+-- each route before r is not in conflict with itself, and its conflicts with those before it are both ways
 abbrev Inv-loop : tie.InvT-loop
 Inv-loop m n r₀ r = Held n (rowMirrors m) r
 

@@ -1,4 +1,4 @@
--- The two entries are read and compared.
+-- The two entries are read and tested: that they are the same, and are 0 or 1.
 use borrow.Author.Needs.{needs}
 use Rattle.laws.specs.Tests.{_and_}
 use Rattle.layout.specs.Sound.{pairMirrors}

@@ -5,7 +5,7 @@ use Rattle.layout.specs.Sound.{pairMirrors}
 use Rattle.layout.proofs.pairs_of_routes.pairs_mirror.Statement.{statement}
 use Rattle.layout.proofs.pairs_of_routes.pairs_mirror.Tie as tie
 
--- of r and each route before q the table says the same both ways
+-- of r and each route before q the table says the same both ways, 0 or 1
 abbrev Inv-loop : tie.InvT-loop
 Inv-loop m r q₀ q = Held r (pairMirrors m r) q
 

@@ -32,7 +32,7 @@ returns c =
     rows-stop _ _ _ _ _ (j .before .before .before .loop .inv) (search needs) (j .loop2 .inv) (search needs)
     (row-at _ _ _ _ _ (search (needs, length-mapped)) (search needs) (search needs) (c .before .pair-keeps .ensures)) (c .if1 .taken)
 
--- r keeps it with q: one before r more
+-- r keeps it with q: one more of the routes before r
 loop2-again : tie.Need-loop2-again Inv-loop2 μ-loop2 Inv-loop μ-loop
 loop2-again c =
     let j = c .before .before .before .before .loop2 in

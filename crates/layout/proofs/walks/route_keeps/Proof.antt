@@ -1,4 +1,4 @@
--- Each return is the test of the rule with that number.
+-- Each return is the test of the rule with that number, and for 0 that of the ranges.
 use Rattle.laws.proofs.Choice.{choices}
 use Rattle.layout.specs.Walks.{routeKeeps}
 use Rattle.layout.proofs.walks.route_keeps.Statement.{statement}
