@@ -22,10 +22,6 @@ use Rattle.rules.specs.Sets.{sideWith}
 pub last-none : (a : Route) (r : ℕ) → a .paths ≡ 0 → r ≡ getD (a .path) 0 0 → r ≡ lastSection a
 last-none a r e q = q ∙ ap (λ k. getD (a .path) k 0) (omega arith)
 
--- of any other it is the entry before the count's end
-pub last-there : (a : Route) (r : ℕ) → r ≡ getD (a .path) (a .paths - 1) 0 → r ≡ lastSection a
-last-there a r q = q
-
 -- the i-th point of a route, by the position that the code reads
 module _ (w : ℕ) (ps ws : List ℕ) (i set r at : ℕ) (e : at ≡ read 8 0 ws i) (n : length ws ≡ 8) where
   -- it lies that way: it joins the set
