@@ -34,7 +34,7 @@ use Rattle.event_file.proofs.PanelText.{text-room, line-room}
 use Rattle.event_file.proofs.Onward.{fromPlace}
 use Rattle.event_file.proofs.Outcomes.{Outcome, goes, waits, ends, fails, piece-outcome}
 
--- where there is room the text is there
+-- where there is room for the most bytes that a text may have, it is written whole
 room-text : (room most : ℕ) (text : List ℕ) → most ≤ room → text ≡ fitting room 0 most text
 unfolding fitting
 room-text room most text h = if-ge room (0 + most) [] text text (omega arith) refl
@@ -44,7 +44,7 @@ fault-room : (room : ℕ) (panel : Bool) (word : List ℕ) (number detail : ℕ)
     → faultLine word number detail ≡ faultIn room word number detail
 fault-room room panel word number detail h = room-text room mostFault _ (omega (arith, text-room panel, line-room panel))
 
--- the last read is the one after which none is
+-- where nothing more is to be read, no bytes are left
 last-none : (reads : List (List ℕ)) → isLast reads ≡ true → flatten reads ≡ []
 unfolding isLast flatten
 last-none [] e = refl
@@ -108,7 +108,7 @@ module _ (f : State → Event → Answer) (panel : Bool) (L : Layout) (room : �
       sym (on-prints calls (listInCalls calls f panel L room) (calls-print calls) gone bytes reads s n at _ cut few
       (piece-outcome f panel L file gone bytes (isLast reads) (flatten reads) cut (last-none reads) room r s n at h))
 
--- the bytes of the first read and of the reads after it are the file; there are calls for every byte and every read
+-- however the file is cut into reads, with more calls than bytes and later reads together its list is printed
 cut-list-same : (f : State → Event → Answer) (panel : Bool) (L : Layout) (calls room : ℕ) (first : List ℕ) (reads : List (List ℕ)) (s : State) (n : ℕ)
     → mostLine panel ≤ room → length (flatten (first ∷ reads)) + length reads < calls
     → listInCalls calls f panel L room first reads 0 s n 0
@@ -117,10 +117,10 @@ unfolding flatten
 cut-list-same f panel L calls room first reads s n r few =
     calls-print f panel L room r (first ++ flatten reads) calls [] first reads s n 0 refl (omega arith) (omega (arith, length-append first (flatten reads)))
 
--- ---- the step that is asked for soundness once
+-- ---- soundness asked once, before the first event
 
 module _ (panel : Bool) (L : Layout) (file : List ℕ) (h : sound L ≡ true) where
-  -- an answer of the one is an answer of the other, and leaves a state in range for what follows it
+  -- from a state in range the step of a run answers what the step does, and leaves a state in range for what follows
   next-asked-once : (rest other : State → ℕ → List ℕ) → ((t : State) (next : ℕ) → inRange t ≡ true → rest t next ≡ other t next)
       → (s : State) (n : ℕ) (x : Next) → inRange s ≡ true → listNext (boxInRun L) panel L s n rest x ≡ listNext (box L) panel L s n other x
   unfolding listNext box boxInRun
@@ -130,7 +130,7 @@ module _ (panel : Bool) (L : Layout) (file : List ℕ) (h : sound L ≡ true) wh
   next-asked-once rest other same s n (Bad number at) e = refl
   next-asked-once rest other same s n Nothing e = refl
 
-  -- so both print the same list, by the events that are allowed
+  -- so both print the same list, by how many events are allowed
   list-asked-once : (most : ℕ) (s : State) (n at : ℕ) → inRange s ≡ true
       → listFrom most (boxInRun L) panel L file s n at ≡ listFrom most (box L) panel L file s n at
   unfolding listFrom
@@ -146,7 +146,7 @@ unfolding if_then_else_
 choice-same true x y z w p q = p refl
 choice-same false x y z w p q = q refl
 
--- whatever the cutting, with room for a line and calls for every byte and every read, the program prints what is printed of the two files
+-- with room for a line, and more calls than bytes and later reads together, the program prints what is printed of the two files
 pub cut-print-same : (calls room : ℕ) (panel : Bool) (layoutFile first : List ℕ) (reads : List (List ℕ)) → mostLine panel ≤ room
     → length (flatten (first ∷ reads)) + length reads < calls
     → printedInCalls calls room panel layoutFile first reads ≡ printed panel layoutFile (flatten (first ∷ reads))

@@ -1,4 +1,4 @@
--- What stands at a place of a string stands as far behind where other bytes go before it.
+-- What stands at a place of a string stands as many places further on as other bytes are put before the string.
 use Prim.Native.Nat.{ℕ, zero, suc, _+_, _-_, _*_}
 use mathlib.Core.Path.{_≡_, refl, sym, ap, _∙_}
 use mathlib.Core.Bool.{Bool, true, false}
@@ -29,19 +29,19 @@ furtherNext d Nothing = Nothing
 
 -- ---- a number
 
--- of either of two
+-- of two numbers the one that is chosen is moved
 choice-further : (d : ℕ) (t : Bool) (n m : Number) → if t then further d n else further d m ≡ further d (if t then n else m)
 unfolding if_then_else_
 choice-further d true n m = refl
 choice-further d false n m = refl
 
--- a group below the others moves no place of its own
+-- a group is put below the others before the move or after it, with the same result
 withGroup-further : (d first low : ℕ) (n : Number) → withGroup (d + first) low (further d n) ≡ further d (withGroup first low n)
 unfolding withGroup
 withGroup-further d first low (Value value next) = choice-further d (eqb value 0) (Fault 22 first) (Value (low + 128 * value) next)
 withGroup-further d first low (Fault number at) = refl
 
--- nor does the limit
+-- and so is the limit asked
 most-further : (d first limit : ℕ) (n : Number) → atMost (d + first) limit (further d n) ≡ further d (atMost first limit n)
 unfolding atMost
 most-further d first limit (Value value next) = choice-further d (ltb limit value) (Fault 22 first) (Value value next)
@@ -63,7 +63,7 @@ end-further d true x = refl
 end-further d false x = refl
 
 module _ (front s : List ℕ) where
-  -- a place is inside the string, or it is not
+  -- a place is inside the string just where, moved, it is inside the longer one
   inside-further : (at : ℕ) → ltb (length front + at) (length (front ++ s)) ≡ ltb at (length s)
   inside-further at = by-test (ltb at (length s)) refl
     where
@@ -88,7 +88,7 @@ module _ (front s : List ℕ) where
       let e : length front + at + 1 ≡ length front + (at + 1) = omega arith in
       groups-more-further k first at (ap (groupsAt k (front ++ s) (length front + first)) e ∙ groups-further k first (at + 1))
 
-  -- a whole number
+  -- a number, of all its groups
   number-further : (at : ℕ) → numberAt (front ++ s) (length front + at) ≡ further (length front) (numberAt s at)
   unfolding numberAt
   number-further at =
@@ -96,19 +96,19 @@ module _ (front s : List ℕ) where
 
   -- ---- an event
 
-  -- the third number of an event
+  -- the second number of an event
   second-further : (kind first : ℕ) (n : Number) → withSecond kind first (further (length front) n) ≡ furtherNext (length front) (withSecond kind first n)
   unfolding withSecond
   second-further kind first (Value value next) = refl
   second-further kind first (Fault number at) = refl
 
-  -- the second, with the third behind it
+  -- the first number, with the second behind it
   first-further : (kind : ℕ) (n : Number) → withFirst (front ++ s) kind (further (length front) n) ≡ furtherNext (length front) (withFirst s kind n)
   unfolding withFirst
   first-further kind (Value value next) = ap (withSecond kind value) (number-further next) ∙ second-further kind value (numberAt s next)
   first-further kind (Fault number at) = refl
 
-  -- the first, with both behind it
+  -- the kind, with both numbers behind it
   kind-further : (n : Number) → withKind (front ++ s) (further (length front) n) ≡ furtherNext (length front) (withKind s n)
   unfolding withKind
   kind-further (Value value next) = ap (withFirst (front ++ s) value) (number-further next) ∙ first-further value (numberAt s next)

@@ -13,7 +13,7 @@ use Rattle.panel.specs.Writes.{Wrote}
 use Rattle.panel.proofs.Writes.{join-on}
 use Rattle.event_file.specs.Lines.{decimal, two, three, afterSpace, spaced}
 
--- as the panel's image is written
+-- text that is put is written, as the bytes of a panel's image are
 put-wrote : {a xs b : List ℕ} {at most m : ℕ} → Put a at xs most b m → Wrote a at xs b m
 put-wrote p = record { buffer = p .buffer; place = p .place }
 

@@ -26,7 +26,7 @@ use Rattle.event_file.proofs.Reading.{event-none}
 module _ (file : List ℕ) where
   -- ---- an event ends behind the place where it begins and not past the file's end, and a fault is 21 or 22
 
-  -- what is said so of what stands at a place
+  -- it is so of what stands at a place
   abbrev pub Past : ℕ → Next → Type 0
   Past at (Taken kind first second next) = (at < next) × (next ≤ length file)
   Past at (Bad number place) = (number ≡ 21) ⊎ (number ≡ 22)
@@ -36,20 +36,20 @@ module _ (file : List ℕ) where
   fault-past : (place : ℕ) {m p : ℕ} → Fault m p ≡ numberAt file place → (m ≡ 21) ⊎ (m ≡ 22)
   fault-past place e = ⊎-elim (λ z. inr z) (λ z. inl (z .0)) (fault-number file place e refl)
 
-  -- each number begins where the one before it ends
+  -- the second number of an event, read at the place or behind it
   second-past : (at kind first place : ℕ) (n : Number) → at ≤ place → n ≡ numberAt file place → Past at (withSecond kind first n)
   unfolding withSecond
   second-past at kind first place (Value value next) h e = (omega (arith, number-after file place e refl), number-inside file place e refl)
   second-past at kind first place (Fault number p) h e = fault-past place e
 
-  -- the second, with the third behind it
+  -- the first number, with the second behind it
   first-past : (at kind place : ℕ) (n : Number) → at ≤ place → n ≡ numberAt file place → Past at (withFirst file kind n)
   unfolding withFirst
   first-past at kind place (Value value next) h e =
       second-past at kind value next (numberAt file next) (omega (arith, number-after file place e refl)) refl
   first-past at kind place (Fault number p) h e = fault-past place e
 
-  -- the first, with both behind it
+  -- the kind, with both numbers behind it
   kind-past : (at place : ℕ) (n : Number) → at ≤ place → n ≡ numberAt file place → Past at (withKind file n)
   unfolding withKind
   kind-past at place (Value value next) h e =

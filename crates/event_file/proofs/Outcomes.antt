@@ -29,7 +29,7 @@ use Rattle.event_file.proofs.Further.{furtherNext, event-further}
 use Rattle.event_file.proofs.Onward.{Past, event-past, fromPlace, from-taken, from-bad, from-none}
 
 module _ (f : State → Event → Answer) (panel : Bool) (L : Layout) (file gone bytes : List ℕ) (last : Bool) where
-  -- the list from a place of the buffer on, which `gone` goes before
+  -- the list from a place of the buffer on; `gone` is what the file has before the buffer
   abbrev pub listAt : State → ℕ → ℕ → List ℕ
   listAt s n at = fromPlace file f panel L s n (length gone + at)
 
@@ -45,7 +45,7 @@ module _ (f : State → Event → Answer) (panel : Bool) (L : Layout) (file gone
   -- ---- one event
 
   module _ (s : State) (n at : ℕ) (h : at ≤ length bytes) where
-    -- what stands at a place of the buffer is read alike in the whole file
+    -- what stands at a place of the buffer and is read alike in the whole file, taken as in the last piece
     read-outcome : (x : Next) → Past bytes at x → eventAt file (length gone + at) ≡ furtherNext (length gone) x
         → Outcome s n at (suc at) (nextOf f panel L true s n at x)
     unfolding nextOf took stopped if_then_else_
@@ -56,7 +56,7 @@ module _ (f : State → Event → Answer) (panel : Bool) (L : Layout) (file gone
         (fails (⊎-elim (λ z. omega (arith, z)) (λ z. omega (arith, z)) p) (from-bad file f panel L s n (length gone + at) number (length gone + place) e))
     read-outcome Nothing p e = ends refl (from-none file f panel L s n (length gone + at) e)
 
-    -- it lies past the bytes in the buffer
+    -- the next event lies past the bytes in the buffer, and more is to come: it waits
     past-outcome : last ≡ false → Outcome s n at (suc at) (stopped s n at 2)
     unfolding stopped
     past-outcome e = waits refl e (omega arith) h refl
@@ -95,7 +95,7 @@ module _ (f : State → Event → Answer) (panel : Bool) (L : Layout) (file gone
               rw z (rw z at whole)
       more-outcome q Nothing e p = past-outcome q
 
-      -- either
+      -- whether the bytes are the last or not
       next-outcome : (last ≡ true → later ≡ []) → (t : Bool) → last ≡ t → Outcome s n at (suc at) (nextOf f panel L t s n at (eventAt bytes at))
       next-outcome none true q = last-outcome (none q)
       next-outcome none false q = more-outcome q (eventAt bytes at) refl (event-past bytes at)
@@ -110,7 +110,7 @@ module _ (f : State → Event → Answer) (panel : Bool) (L : Layout) (file gone
     roomy-outcome room s n at h r =
         subst (Outcome s n at (suc at)) (if-ge room (mostLine panel) _ _ _ r refl) (next-outcome s n at h later cut none last refl)
 
-    -- a lower place
+    -- what came past a place came as far as the place
     lower : (s : State) (n at : ℕ) (g : Run) → Outcome s n at (suc at) g → Outcome s n at at g
     lower s n at g (goes a b c e) = goes a (omega arith) c e
     lower s n at g (waits a b c d e) = waits a b c d e
@@ -143,7 +143,7 @@ module _ (f : State → Event → Answer) (panel : Bool) (L : Layout) (file gone
       run-outcome room g z (ends a e) = absurd (omega arith)
       run-outcome room g z (fails a e) = absurd (omega arith)
 
-      -- one that stopped stays as it is
+      -- so a turn keeps how far it came: a run that stopped stays as it is
       turned-outcome : (room : ℕ) (g : Run) → Outcome s n at low g → Outcome s n at low (turnRun f panel L last bytes room g)
       unfolding turnRun
       turned-outcome room g o =
@@ -156,7 +156,7 @@ module _ (f : State → Event → Answer) (panel : Bool) (L : Layout) (file gone
       turns-outcome zero = roomy-outcome (room - 0) s n at h (omega arith)
       turns-outcome (suc i) = turned-outcome s n at (suc at) (omega arith) room _ (turns-outcome i)
 
-      -- so a call with room for a line comes to one of the four, and takes an event unless it stops for good
+      -- so a call with room for a line comes to one of the four, and where it goes on in the same bytes it took an event
       pub piece-outcome : Outcome s n at (suc at) (pieceOf f panel L last bytes room s n at)
       unfolding pieceOf
       piece-outcome = turns-outcome 65535

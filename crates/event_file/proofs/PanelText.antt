@@ -20,7 +20,7 @@ use Rattle.numerals.proofs.Writes.{put-one, put-then, put-within}
 
 -- ---- what a panel's answer says of its length
 
--- no more than there is room for; the whole image with answer 0, and nothing else
+-- no more than there is room for; with answer 0 that of the whole image, with any other 0
 record Said (L : Layout) (s : State) (room : ℕ) (d : Drawn) : Type 0 where
   pub fits : d .length ≤ room
   pub whole : d .number ≡ 0 → d .length ≡ length (image L s)
@@ -40,13 +40,13 @@ module _ (L : Layout) (s : State) (room : ℕ) where
       (λ e. if-both (Said L s room) _ (λ f. said-refused 27 (λ z. let y : 27 ≡ 0 = z in omega arith))
       (λ f. record { fits = ltb-false _ _ f; whole = λ z. refl; none = λ h. absurd (h refl) }))
 
--- it is no more than the buffer holds
+-- the length that is answered is no more than the room
 pub drawn-fits : (L : Layout) (s : State) (room : ℕ) (d : Drawn) → d ≡ answer L s room → d .length ≤ room
 drawn-fits L s room d e = rw e (answer-says L s room .fits)
 
 -- ---- the bytes that are drawn, as text
 
--- pieces that are the same one by one
+-- runs of bytes that are the same one by one are the same joined
 join-same : (n : ℕ) (f g : ℕ → List ℕ) → ((k : ℕ) → k < n → f k ≡ g k) → join n f ≡ join n g
 unfolding join
 join-same zero f g h = refl

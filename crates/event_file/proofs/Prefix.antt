@@ -68,28 +68,28 @@ module _ (xs ys : List ℕ) (first : ℕ) where
   groups-kept zero at = inr refl
   groups-kept (suc k) at = by-place k at (ltb at (length xs)) refl (groups-kept k (at + 1))
 
--- a whole number
+-- a number, of all its groups
 number-kept : (xs ys : List ℕ) (at : ℕ) → Kept (numberAt xs at) (numberAt (xs ++ ys) at)
 unfolding numberAt
 number-kept xs ys at = most-kept at largest _ _ (groups-kept xs ys at maxGroups at)
 
 -- ---- an event
 
--- 21 in the third number is 21 of the event
+-- 21 in the second number is 21 of the event
 second-same : (kind first : ℕ) (n m : Number) → Kept n m → Same (withSecond kind first n) (withSecond kind first m)
 unfolding withSecond
 second-same kind first n m (inl e) = inl (e .0, rw (e .1))
 second-same kind first n m (inr e) = inr (ap (withSecond kind first) e)
 
 module _ (xs ys : List ℕ) where
-  -- in the second, or in what follows it
+  -- 21 in the first number, or in what follows it
   first-same : (kind : ℕ) (n m : Number) → Kept n m → Same (withFirst xs kind n) (withFirst (xs ++ ys) kind m)
   unfolding withFirst
   first-same kind n m (inl e) = inl (e .0, rw (e .1))
   first-same kind (Value v next) m (inr e) = rw (← e) (second-same kind v _ _ (number-kept xs ys next))
   first-same kind (Fault v place) m (inr e) = rw (← e) (inr refl)
 
-  -- in the first, or in what follows it
+  -- 21 in the kind, or in what follows it
   kind-same : (n m : Number) → Kept n m → Same (withKind xs n) (withKind (xs ++ ys) m)
   unfolding withKind
   kind-same n m (inl e) = inl (e .0, rw (e .1))

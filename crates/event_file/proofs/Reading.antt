@@ -18,7 +18,7 @@ pub read-small : (file : List ℕ) (at : ℕ) (n : Number) → n ≡ numberAt fi
 read-small file at n e value next f = number-most file at e f
 
 module _ (n : Number) (kind first : ℕ) where
-  -- the third number is there
+  -- the second number is there
   pub second-taken : {second next : ℕ} → n ≡ Value second next → Taken kind first second next ≡ withSecond kind first n
   unfolding withSecond
   second-taken e = rw e
@@ -29,7 +29,7 @@ module _ (n : Number) (kind first : ℕ) where
   second-bad e = rw e
 
 module _ (file : List ℕ) (n : Number) (kind : ℕ) where
-  -- the second number is there, and what follows it is read behind it
+  -- the first number is there, and what follows it is read behind it
   pub first-taken : {first next : ℕ} (m : Number) (r : Next) → n ≡ Value first next → m ≡ numberAt file next → r ≡ withSecond kind first m
       → r ≡ withFirst file kind n
   unfolding withFirst
@@ -41,7 +41,7 @@ module _ (file : List ℕ) (n : Number) (kind : ℕ) where
   first-bad e = rw e
 
 module _ (file : List ℕ) (n : Number) where
-  -- the first number is there, and what follows it is read behind it
+  -- the kind is there, and what follows it is read behind it
   pub kind-taken : {kind next : ℕ} (m : Number) (r : Next) → n ≡ Value kind next → m ≡ numberAt file next → r ≡ withFirst file kind m
       → r ≡ withKind file n
   unfolding withKind

@@ -22,7 +22,7 @@ module _ (from till : ℕ) (a : List ℕ) where
   rest-start = record { buffer = refl; place = refl; near = omega arith; long = refl }
 
   module _ (b : List ℕ) (i at : ℕ) (p : Put a 0 (take i (rest from till a)) i b i) (e : at ≡ from + i) where
-    -- what was written lies before the byte that is read
+    -- the byte that is read is still what it was, since what was written lies before it
     rest-byte : at < till → at < length b → getD b at 0 ≡ getD (rest from till a) i 0
     unfolding rest
     rest-byte h k =

@@ -21,7 +21,7 @@ use Rattle.panel.proofs.Laws.{length-image}
 use Rattle.event_file.specs.Lines.{shown}
 
 module _ (L : Layout) (w : Ranges L) where
-  -- a line has at most eight blocks
+  -- the first n lines have at most 8 * n blocks
   blocks-most : (n : ℕ) → n ≤ L .lines → blocks n (L .line) ≤ 8 * n
   unfolding blocks lineIn
   blocks-most zero h = omega arith
@@ -36,7 +36,7 @@ module _ (L : Layout) (w : Ranges L) where
       omega (arith, w .sectionCount .1, w .pointCount, w .signalCount, w .routeCount)
 
 module _ (L : Layout) (s : State) (h : sound L ≡ true) (e : inRange s ≡ true) where
-  -- the line's 512 bytes are enough, so the answer is 0
+  -- 512 bytes are enough, so the answer is 0 with the image's length
   drawn-whole : record { number = 0; length = length (image L s) } ≡ answer L s 512
   unfolding answer _and_
   drawn-whole =

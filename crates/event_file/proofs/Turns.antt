@@ -34,7 +34,7 @@ use Rattle.event_file.proofs.Onward.{Past, event-past}
 
 -- ---- why a run ends
 
--- an event past the piece's end is no fault where more is to come
+-- two tests of which the second fails do not both hold
 pub both-fail : (t u : Bool) → u ≡ false → t and u ≡ false
 unfolding _and_
 both-fail true u z = z
@@ -95,7 +95,7 @@ module _ (a : List ℕ) (p r : Piece) (most : ℕ) where
     stops = h;
   })
 
-  -- one way or another
+  -- with one of two such ends
   either-ended : (t : Bool) (at why place number : ℕ) → (why ≡ 0 → ⊥) → (number ≡ 0 → ⊥)
       → r ≡ (if t then halted p at why else halted p place number)
       → Ended a (p .written) most r (if t then stopped (p .state) (p .count) at why else stopped (p .state) (p .count) place number)
@@ -133,13 +133,13 @@ unfolding soFar
 run-within a b s n at written g w = omega (arith, w .text .near, w .text .long)
 
 module _ (f : State → Event → Answer) (panel : Bool) (L : Layout) (last : Bool) (bytes : List ℕ) where
-  -- room
+  -- with room for a line: by what stands at the place
   turn-goes : (room v : ℕ) (s : State) (n at : ℕ) (x : Next) → v ≡ mostLine panel → v ≤ room → x ≡ eventAt bytes at
       → nextOf f panel L last s n at x ≡ turnOf f panel L last bytes room s n at
   unfolding turnOf
   turn-goes room v s n at x d h e = if-ge room (mostLine panel) _ _ _ (omega (arith, d)) (ap (nextOf f panel L last s n at) e)
 
-  -- none
+  -- with no room for it: it stops
   turn-full : (room v : ℕ) (s : State) (n at : ℕ) → v ≡ mostLine panel → room < v
       → stopped s n at 1 ≡ turnOf f panel L last bytes room s n at
   unfolding turnOf

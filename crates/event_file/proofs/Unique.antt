@@ -1,4 +1,5 @@
--- No second result, and no second buffer, meets the contract of a public function. Each `Post` is the contract itself, as the function is proved to meet it.
+-- No second result, and no second buffer, meets the contract of a public function.
+-- Each `Post` is the contract itself, as the function is proved to meet it.
 use Prim.Native.Nat.{ℕ}
 use mathlib.Core.Path.{_≡_}
 use denote.Ref.{now}
@@ -33,7 +34,7 @@ events-fault-determined κs a r q s t p o = (only (p .place) (o .place), only (p
 pub bring-rest-determined : DeterminesBytes (λ κs s. now (s .0)) bring-rest.Post
 bring-rest-determined κs a r q s t p o = (only (p .place) (o .place), only (p .buffer) (o .buffer))
 
--- two records with the same parts
+-- two records with the same parts are the same
 same-piece : {s t : State} {n m at to from till x y : ℕ} → s ≡ t → n ≡ m → at ≡ to → from ≡ till → x ≡ y
     → _≡_ {A = Piece} (record { state = s; count = n; at = at; written = from; stop = x }) (record { state = t; count = m; at = to; written = till; stop = y })
 same-piece a b c d e = rw (a, b, c, d, e)

@@ -61,7 +61,7 @@ pub ruleset faults = (needs, put-no-room, put-room)
 -- ---- what stands before the first event
 
 module _ (L : Layout) (a b : List ℕ) (m : ℕ) where
-  -- the line of the state that the code takes for the cold start's
+  -- the state whose line is written is the cold start
   pub cold-made : (s : State) → s ≡ cold → Put a 0 (lineOf true L s 0 0 0) (mostLine true) b m → Put a 0 (lineOf true L cold 0 0 0) (mostLine true) b m
   cold-made s e p = rw (← e) p
 
@@ -86,7 +86,7 @@ module _ (L : Layout) (a b : List ℕ) (m : ℕ) where
 pub cold-room : (p : Bool) (v n : ℕ) → v ≡ mostLine p → v ≤ n → p ≡ true → mostLine true ≤ n
 cold-room p v n e h t = rw (← t) (omega (arith, e))
 
--- the header is shorter than any line
+-- the header has room where any line has
 pub header-room : (p : Bool) (v n : ℕ) → v ≡ mostLine p → v ≤ n → 20 ≤ n
 header-room p v n e h = omega (arith, e, text-room p, line-room p)
 

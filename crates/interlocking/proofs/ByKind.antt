@@ -137,17 +137,17 @@ module _ (ls : List Line) (n : ℕ) (s : State) (k a b : ℕ) (t : State) where
       if-ne k 1 _ _ t h₁ (if-ne k 2 _ _ t h₂ (if-ne k 3 _ _ t h₃ (if-ne k 4 _ _ t h₄ (if-ne k 5 _ _ t h₅ (if-ne k 6 _ _ t h₆
       (if-ne k 7 _ _ t h₇ (if-ne k 8 _ _ t h₈ (if-ne k 9 _ _ t h₉ e))))))))
 
--- a position and a direction that are not wrong are small
+-- a position or a direction that is not wrong is at most 2
 small : (b : ℕ) → not (between 1 2 b) ≡ false → b ≤ 2
 unfolding between
 small b h = leb-true b 2 (and-right _ _ (not-false (leb 1 b and leb b 2) h))
 
--- a position: of kind 3 the test of the second number is that one
+-- kind 3, a position: where the second number is not wrong it is at most 2
 pub throw-small : (L : Layout) (k a b : ℕ) → k ≡ 3 → secondWrong L k a b ≡ false → b ≤ 2
 unfolding secondWrong if_then_else_ _or_
 throw-small L k a b h w = small b (ap (λ n. secondWrong L n a b) (sym h) ∙ w)
 
--- a direction: of kind 6 likewise
+-- kind 6, a direction: likewise
 pub secure-small : (L : Layout) (k a b : ℕ) → k ≡ 6 → secondWrong L k a b ≡ false → b ≤ 2
 unfolding secondWrong if_then_else_ _or_
 secure-small L k a b h w = small b (ap (λ n. secondWrong L n a b) (sym h) ∙ w)

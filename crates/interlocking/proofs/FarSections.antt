@@ -36,9 +36,9 @@ line-in ls k m d q b few = read-in ls (k / 8) 8 d noLine q (omega arith)
 
 -- ---- far sections
 
--- the block signal: of a line that is not secured that way it shows stop; else the block decides
+-- the block signal: where the line is not secured that way it does not show proceed; else the block decides
 module _ (ls : List Line) (directions points stages bars : List ℕ) (l i w d : ℕ) (e : d ≡ read 8 0 directions l) where
-  -- the direction is another: stop
+  -- the direction is another: no proceed
   pub shows-other-way : (d ≡ w → ⊥) → false ≡ blockProceeds ls directions points stages bars l i w
   unfolding blockProceeds _and_
   shows-other-way h = rw (ne-eqb (read 8 0 directions l) w (λ z. h (e ∙ z)))
@@ -60,14 +60,14 @@ module _ (ls : List Line) (shown : Proceeds) (l i w j : ℕ) (v : Bool) (b : Lin
   unfolding farProceedsBy
   far-next h q = rw (← g) (if-ne (nextBlock b w i) 8 _ _ v (λ z. h (f ∙ z)) (q ∙ ap (λ x. (shown .block) l x w) f))
 
--- the far signal showed stop before, or it is asked again
+-- the far signal did not show proceed before, or it is asked again
 module _ (ls : List Line) (before shown : Proceeds) (l i w : ℕ) (v : Bool) (e : v ≡ farProceedsBy ls before l i w) where
-  -- what showed stop before has not dropped
+  -- what did not show proceed before has not dropped
   pub dropped-stop : not v ≡ true → false ≡ farDroppedBy ls before shown l i w
   unfolding farDroppedBy _and_
   dropped-stop h = rw (← e, not-true v h)
 
-  -- what showed proceed before has dropped just if it shows stop now
+  -- what showed proceed before has dropped just where it does not show it now
   pub dropped-now : (u : Bool) → not v ≡ false → u ≡ farProceedsBy ls shown l i w → not u ≡ farDroppedBy ls before shown l i w
   unfolding farDroppedBy _and_
   dropped-now u h q = rw (← e, not-false v h, q)
@@ -106,7 +106,7 @@ module _ (directions : List ℕ) (far : ℕ → ℕ → ℕ → ℕ) (dropped : 
     unfolding farMoved
     far-asked y p q = moved (q ∙ ap₂ (λ (a : ℕ) (z : Bool). farStage a z was) f p)
 
-    -- or does not matter
+    -- or it does not matter: the block is not in stage 1, or its far section does not read occupied
     pub far-moot : eqb was 2 && eqb x 2 ≡ false → v ≡ farStage x false was → v ≡ farAfter directions far dropped k was
     unfolding farMoved
     far-moot g q = moved (q ∙ far-same x was (dropped (k / 8) (k % 8) w) g ∙ ap (λ a. farStage a (dropped (k / 8) (k % 8) w) was) f)
@@ -127,7 +127,7 @@ pub exit-at : (rs : List Route) (phases : List ℕ) (k r n : ℕ) (d : Route) {v
 unfolding lockedExit
 exit-at rs phases k r n d q b few e = e ∙ ap (λ (a : Route). lockedExitBy phases a k r) (route-in rs r n d q b few)
 
--- by the test at which it fails
+-- whether a line is released, by the test at which it fails
 module _ (b : Line) (n : ℕ) (rs : List Route) (before stages bars phases : List ℕ) (k w : ℕ) (v : Bool)
     (p : v ≡ wasInStage2 before b k w) where
   -- the last block in travel was not in stage 2
@@ -146,7 +146,7 @@ module _ (b : Line) (n : ℕ) (rs : List Route) (before stages bars phases : Lis
     unfolding endsBy
     ends-unless-locked x r g = every-passes _ _ v _ (not x) p h (every-passes _ _ u _ (not x) q g (every-last _ (not x) (ap not r)))
 
--- the direction of a line of the table
+-- the direction of a line by its record is the one by its number, since the table has that record there
 pub direction-at : (ls : List Line) (n : ℕ) (rs : List Route) (before stages bars phases : List ℕ) (k m was v : ℕ) (d : Line) → length ls ≡ 8 → k < m → m ≤ 8
     → v ≡ directionAfter (endsBy (getD ls k d) n rs before stages bars phases) k was → v ≡ directionAfter (endsBy (line ls k) n rs before stages bars phases) k was
 unfolding line

@@ -24,20 +24,20 @@ use Rattle.interlocking.proofs.FarSections.{line-in}
 
 -- ---- one store
 
--- inside the table
+-- a store in a table of n
 pub put-inside : (n : ℕ) (xs : List ℕ) (a v : ℕ) {ys : List ℕ} → length xs ≡ n → ys ≡ set xs a v → ys ≡ put n xs a v
 put-inside n xs a v q e = e ∙ put-set n xs a v q
 
--- past its end nothing is stored
+-- past the table's end nothing is stored
 pub put-past : (n : ℕ) (xs : List ℕ) (a v : ℕ) {ys : List ℕ} → length xs ≡ n → n ≤ a → ys ≡ xs → ys ≡ put n xs a v
 put-past n xs a v q b e = e ∙ sym (set-out xs a v (omega arith)) ∙ put-set n xs a v q
 
--- the point reads what it is thrown to already
+-- the point already reads the position that it is thrown to: it reads that
 pub throw-kept : (points : List ℕ) (p w x r : ℕ) → x ≡ pointReading points p → x ≡ w → r ≡ w → r ≡ throwReading points p w
 unfolding throwReading
 throw-kept points p w x r e h q = if-eq (pointReading points p) w _ _ r (sym e ∙ h) q
 
--- or not
+-- it does not: it reads none
 pub throw-lost : (points : List ℕ) (p w x r : ℕ) → x ≡ pointReading points p → (x ≡ w → ⊥) → r ≡ 3 → r ≡ throwReading points p w
 unfolding throwReading
 throw-lost points p w x r e h q = if-ne (pointReading points p) w _ _ r (λ z. h (e ∙ z)) q

@@ -36,11 +36,11 @@ module _ (isSound : Bool) (L : Layout) (s : State) (k a b : ℕ) (f : Refusal) (
 
 -- what is known of an event that is not refused there, from what the code found
 module _ (isSound : Bool) (L : Layout) (k a b : ℕ) (f : Refusal) (e : f ≡ eventRefusal isSound L k a b) (h : f .number ≡ 0) where
-  -- what the code found is the refusal of the definition
+  -- the code found no refusal there, so there is none
   none-found : eventRefusal isSound L k a b .number ≡ 0
   none-found = sym (ap (λ (x : Refusal). x .number) e) ∙ h
 
-  -- its kind is one of those that there are
+  -- its kind is at most 10
   pub kind-known : k ≤ 10
   kind-known = granted-most isSound L k a b none-found
 
@@ -58,7 +58,7 @@ module _ (isSound : Bool) (L : Layout) (k a b : ℕ) (f : Refusal) (e : f ≡ ev
       go (yes z) = let y : a ≡ 0 = granted-unused isSound L k a b none-found z .0 in omega arith
       go (no z) = let y : a < objects L k = granted-object isSound L k a b none-found z in omega (arith, few, y)
 
--- and of one that is not refused at all
+-- the answer, from the refusal that the code found
 module _ (isSound : Bool) (L : Layout) (s : State) (k a b : ℕ) (f : Refusal) (e : f ≡ refusal isSound L s k a b) where
   -- a refusal is the answer
   pub refused-at-all : (r : Answer) → (f .number ≡ 0 → ⊥) → r ≡ refusedBy f s → r ≡ stepWhere isSound L s k a b
@@ -84,7 +84,7 @@ module _ (isSound : Bool) (L : Layout) (s : State) (k a b : ℕ) (f : Refusal) (
         if-eq (refusal isSound L s k a b .number) 0 _ _ _ granted
         (ap (λ x. record { number = 0; detail = 0; next = x }) (u ∙ ap₂ (settle L s) p q))
 
-    -- soundness was found, so what that gives is there
+    -- the event is not refused by 18, so what soundness gives is so: at most 8 lines and at most 48 routes
     pub lines-few : (isSound ≡ true → (L .lines ≤ 8) × (L .routes ≤ 48)) → (L .lines ≤ 8) × (L .routes ≤ 48)
     lines-few g = g (granted-sound isSound L k a b passed-first)
 

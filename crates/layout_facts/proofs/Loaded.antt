@@ -27,7 +27,7 @@ use Rattle.layout_facts.specs.Loaded.{Answered}
 
 -- ---- the whole file
 
--- its fault is known
+-- it has no fault, or one of 21 to 24
 whole-known : (s : List ℕ) → Known (whole s .cur)
 unfolding whole heading
 whole-known s =
@@ -86,7 +86,7 @@ ending w n =
     (λ u. if-both (Ending w) (eqb (broken (w .layout)) 0) (λ v. no-fault (eqb-true _ 0 t) (eqb-true _ 0 v)) (λ v. rule-broken (eqb-false _ 0 v))) (λ u. bytes-left))
     (λ t. fault-met (eqb-false _ 0 t))
 
--- the ending of the answer 0
+-- the answer 0 has the layout of a file with no fault, and it breaks no rule
 ended-well : (w : Whole) (a : Loaded) → Ending w a → a .number ≡ 0 → (w .cur .fault ≡ 0) × (broken (w .layout) ≡ 0) × (a .layout ≡ w .layout)
 unfolding refused
 ended-well w a (no-fault e f) z = (e, f, refl)
@@ -106,7 +106,7 @@ loaded-sound s e =
     let p = loaded-whole s e in
     rw (p .2) (every-more _ _ _ (whole-fits s (p .0)) (every-more _ _ _ (whole-mirrored s (p .0)) (every-one _ (eq-eqb _ 0 (p .1)))))
 
--- the endings of the other answers
+-- any other answer has the layout with no objects
 ended-empty : (w : Whole) (a : Loaded) → Ending w a → (a .number ≡ 0 → ⊥) → a .layout ≡ noLayout
 unfolding refused
 ended-empty w a (no-fault e f) z = absurd (z refl)

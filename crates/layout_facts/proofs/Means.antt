@@ -26,7 +26,7 @@ leb-means m n = (leb-true m n, le-leb m n)
 -- ---- tests of tests
 
 module _ {a : Bool} {P : Type 0} (p : a ≡ true ↔ P) where
-  -- the test fails where the statement does not hold
+  -- the test fails just where the statement does
   pub not-means : not a ≡ true ↔ ¬ P
   not-means = (λ t s. not-both (p .1 s) (not-true _ t), λ f. fails-not _ (fails-from _ (λ t. f (p .0 t))))
 

@@ -5,7 +5,7 @@ use mathlib.Core.Logic.{_↔_, _≢_, _⊎_, inl, inr, ⊎-elim}
 use native.Mathlib.Omega.{arith}
 use native.Mathlib.Decide.{ℕ-discrete, decLt}
 
--- what holds of a number and each one before it, and then the other way round, holds of any two
+-- what holds of a number and each one before it, and then the other way round, holds of any two that differ
 pub either-order : {n : ℕ} {P : ℕ → ℕ → Type 0} → ((i j : ℕ) → i < n → j < n → P i j → P j i) → ((i : ℕ) → i < n → (j : ℕ) → j < i → P i j)
     → (i j : ℕ) → i < n → j < n → i ≢ j → P i j
 either-order {n} {P} turn h i j hi hj d = go (decLt j i)

@@ -31,7 +31,7 @@ module _ (s : Reader) (byte size : ℕ) (word : List ℕ) (e : word ≡ set (s .
   word-other r d t =
       if-false _ _ _ _ (fails-from _ (λ b. not-both (and-right (ltb (s .doing) 2) (isDigit byte) b) (sym d ∙ t))) (rw (e, f))
 
-  -- a byte of a word that is no number already
+  -- a byte of a word that already is no number
   pub word-no-number : 2 ≤ s .doing
       → _≡_ {A = Reader} (record { line = s .line; doing = 2; value = s .value; size = size; word = word }) (inWord s byte)
   unfolding inWord

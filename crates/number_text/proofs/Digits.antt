@@ -32,7 +32,7 @@ module _ (r : Reader) (byte : ℕ) where
   unfolding given
   given-end e d v = if-eq _ _ _ _ _ d (if-ge _ _ _ _ _ v (if-true _ _ _ _ e refl))
 
-  -- after nothing it gives nothing
+  -- where no number is being read it gives nothing
   pub given-nothing : (r .doing ≡ 1 → ⊥) → [] ≡ given r byte
   unfolding given
   given-nothing h = if-ne _ _ _ _ _ h refl
@@ -67,7 +67,7 @@ module _ (d : ℕ) (small : d < 10) where
         ne-eqb (48 + d) 35 (λ z. let y : 48 + d ≡ 35 = z in omega arith),
       )
 
-  -- it lies within `0` and `9`
+  -- it is one of `0` to `9`
   digit-is : isDigit (48 + d) ≡ true
   unfolding isDigit
   digit-is = and-both _ _ (le-leb 48 (48 + d) (omega arith)) (le-leb (48 + d) 57 (omega arith))
@@ -86,7 +86,7 @@ module _ (d : ℕ) (small : d < 10) where
         ap (λ (q : Reader). q .doing) (sym (next-in r (48 + d) digit-inside here)
         ∙ sym (if-true _ _ _ _ (and-both _ _ (lt-ltb _ _ here) digit-is) refl))
 
-    -- and this number
+    -- and that is its value
     digit-value : next r (48 + d) .value ≡ r .value * 10 + d
     unfolding inWord
     digit-value =

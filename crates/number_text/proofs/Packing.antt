@@ -34,7 +34,7 @@ pub reader-one : (s : Reader) (byte : ℕ) → readerAfter s (byte ∷ []) ≡ n
 unfolding readerAfter
 reader-one s byte = refl
 
--- and gives its own numbers, and nothing after them
+-- and gives the number that it ends, if any, and nothing else
 pub packed-one : (s : Reader) (byte : ℕ) → packed s (byte ∷ []) ≡ given s byte
 unfolding packed
 packed-one s byte = append-nil (given s byte)
@@ -81,7 +81,7 @@ module _ (s : Reader) (bytes a : List ℕ) where
       ∙ sym (packed-append s (take i bytes) _) ∙ ap (packed s) (sym (more i h)) in
       subst (λ xs. Put a 0 xs (3 * (i + 1)) c k) text (put-within (3 * (i + 1)) (omega arith) (put-then p q))
 
-  -- after the last byte the whole piece is read, and the buffer had room for it
+  -- after n bytes as much of the piece is read as the buffer surely has room for
   pub pack-done : (b : List ℕ) (i n m : ℕ) (r : Reader) → n ≡ fewer (length bytes) (length a / 3) → i ≤ n → n ≤ i → r ≡ readerAfter s (take i bytes)
       → Put a 0 (packed s (take i bytes)) (3 * i) b m → PackedPiece a s bytes b (record { reader = r; read = n; written = m })
   pack-done b i n m r e l g f p =

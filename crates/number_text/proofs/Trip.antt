@@ -60,7 +60,7 @@ record Ends (r : Reader) (gift xs : List ℕ) : Type 0 where
   pub clean : Clean (readerAfter r xs)
   pub gives : packed r xs ≡ gift
 
--- a byte after a number gives it
+-- a byte that ends a word gives the number before it
 ends-number : (r : Reader) (byte : ℕ) → endsWord byte ≡ true → Clean (afterEnd (r .line) byte) → r .doing ≡ 1 → r .value ≤ largest
     → Ends r (encode (r .value)) (byte ∷ [])
 ends-number r byte e c d v = record {
@@ -155,7 +155,7 @@ module _ (per : ℕ) (bytes : List ℕ) (h : Bytes bytes) where
         stands = subst (λ (x : Reader). Stands (nextColumn per (u .column)) x (g .rest)) (sym (reader-append first (u .text) text)) (g .stands);
       }
 
-  -- a fault leaves all as it was
+  -- what stands at the next place keeps it: a number, as above, or a fault, which leaves all as it was
   so-next : (u : Run) (x : Number) → numberAt bytes (u .at) ≡ x → So u → So (onward per u x)
   unfolding onward
   so-next u (Value n next) e s = so-value u n next e s
@@ -178,7 +178,7 @@ module _ (per : ℕ) (bytes : List ℕ) (h : Bytes bytes) where
 
   -- ---- the whole file
 
-  -- a text that ended its last number and gave all bytes
+  -- a text that ended its last number and gave all bytes still does so with a line end behind it, and nothing is refused
   whole-clean : (text : List ℕ) → Clean (readerAfter first text) → packed first text ≡ bytes → (packedText text ≡ bytes) × (stopsAt text .doing ≡ 0)
   unfolding packedText stopsAt
   whole-clean text c e =

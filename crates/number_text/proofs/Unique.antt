@@ -1,4 +1,5 @@
--- No second result, and no second buffer, meets the contract of a public function. Each `Post` is the contract itself, as the function is proved to meet it.
+-- No second result, and no second buffer, meets the contract of a public function.
+-- Each `Post` is the contract itself, as the function is proved to meet it.
 use Prim.Native.Nat.{ℕ}
 use mathlib.Core.Path.{_≡_, sym, _∙_}
 use denote.Ref.{now}
@@ -15,12 +16,12 @@ use Rattle.number_text.proofs.unpack.unpack_piece.Reads as unpack-piece
 pub start-determined : Determines start.Post
 start-determined κs a r q s = only
 
--- two records with the same parts
+-- two records with the same parts are the same
 same-packed : {s t : Reader} {n m i j : ℕ} → s ≡ t → n ≡ m → i ≡ j
     → _≡_ {A = Packed} (record { reader = s; read = n; written = i }) (record { reader = t; read = m; written = j })
 same-packed e f g = rw (e, f, g)
 
--- two more such records
+-- so are two of how far a file was read
 same-unpacked : {n m at to from till x y : ℕ} → n ≡ m → at ≡ to → from ≡ till → x ≡ y
     → _≡_ {A = Unpacked} (record { column = n; at = at; written = from; stop = x }) (record { column = m; at = to; written = till; stop = y })
 same-unpacked e f g h = rw (e, f, g, h)

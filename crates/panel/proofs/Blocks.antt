@@ -36,7 +36,7 @@ module _ (stages bars : List ℕ) (n way : ℕ) (placed : Bool) (l : ℕ) where
   blocks-length zero = refl
   blocks-length (suc k) = length-append (join k _) _ ∙ ap₂ _+_ (blocks-length k) (block-length k) ∙ omega arith
 
-  -- how the code makes a block
+  -- stage, signal A to B and signal B to A, stored one after the other, are the bytes of block i
   pub block-made : (i at stage ab ba : ℕ) (free : Bool) (b : List ℕ) → stage ≡ read 64 1 stages (place l i) → free ≡ unbarred bars l i
       → ab ≡ lamp (eqb way 1 && ltb 0 i) (eqb stage 0 && (free && placed)) → ba ≡ lamp (eqb way 2 && ltb (i + 1) n) (eqb stage 0 && (free && placed))
       → Wrote b at (blockBy stages bars n way placed l i) (set (set (set b at stage) (at + 1) ab) (at + 2) ba) (at + 3)
@@ -78,7 +78,7 @@ module _ (ls : List Line) where
   pub count-on : (l n count : ℕ) (d : Line) → count ≡ blocks l ls → length ls ≡ 8 → l < n → n ≤ 8 → count + getD ls l d .blocks ≡ blocks (l + 1) ls
   count-on l n count d e q b few = ap (λ k. k + getD ls l d .blocks) e ∙ sym (blocks-more l n d q b few)
 
-  -- at the last line all are counted
+  -- after the last line all are counted
   pub count-end : (l n count : ℕ) → count ≡ blocks l ls → l ≤ n → n ≤ l → count ≡ blocks n ls
   count-end l n count e b f = let d : l ≡ n = omega arith in e ∙ ap (λ k. blocks k ls) d
 
@@ -104,7 +104,7 @@ module _ (directions points stages bars : List ℕ) (l : ℕ) where
       → Wrote a k (lineBy (getD ls l d) directions points stages bars l) c m → m ≡ at + 3 * blocks (l + 1) ls
   lines-next ls n at k m d a c q b few e p = omega (arith, line-next (getD ls l d) p, blocks-more ls l n d q b few)
 
-  -- what is known of a line says the same as its number
+  -- the bytes of a line by its record are those by its number
   same-line : (ls : List Line) → lineBy (line ls l) directions points stages bars l ≡ lineBytes ls directions points stages bars l
   unfolding lineBy lineBytes blockBy blockBytes blockSignal enterable enterableBy
   same-line ls = refl

@@ -1,4 +1,4 @@
--- The image from its parts, its length, and what is answered.
+-- The image from its parts, and its length.
 use Prim.Native.Nat.{ℕ, _+_, _<_, _≤_}
 use mathlib.Core.Path.{_≡_, sym, ap, _∙_}
 use mathlib.Core.List.{List, _++_, append-assoc}
@@ -19,14 +19,14 @@ use Rattle.panel.proofs.Writes.{wrote-then}
 
 -- ---- tables, as the code copies them
 
--- two tables of n whose entries agree
+-- two tables of n whose entries agree are the same
 table-same : (n : ℕ) (f g : ℕ → ℕ) → ((k : ℕ) → k < n → f k ≡ g k) → table n f ≡ table n g
 table-same n f g h =
     ext-getD 0 (table n f) (table n g) (length-table n f ∙ sym (length-table n g)) (λ k b.
     let c : length (table n f) ≡ n = length-table n f in
     table-at n f 0 k (omega arith) ∙ h k (omega arith) ∙ sym (table-at n g 0 k (omega arith)))
 
--- the first n entries of a table of m
+-- the first n entries of a table of m, as the code reads them and as the definitions do
 table-read : (g : ℕ → ℕ) (n m d : ℕ) (xs : List ℕ) → n ≤ m → table n (λ i. g (getD xs i 0)) ≡ table n (λ i. g (read m d xs i))
 unfolding read if_then_else_
 table-read g n m d xs b = table-same n _ _ (λ k c. rw (lt-ltb k m (omega arith)))

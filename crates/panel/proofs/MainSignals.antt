@@ -23,7 +23,7 @@ use Rattle.track.specs.Objects.{route, noRoute}
 use Rattle.signals.specs.Signals.{routeProceeds}
 use Rattle.panel.specs.Panel.{proceedByte, shownBy, byteOf, signalByte}
 
--- a test and one that fails
+-- a test and one that fails do not both hold
 and-none : (b : Bool) → b && false ≡ false
 and-none true = refl
 and-none false = refl
@@ -89,7 +89,7 @@ module _ (n : ℕ) (rs : List Route) (phases : List ℕ) where
   there r x b e q = rw (lt-ltb r 48 b, eq-eqb (getD phases r 0) 1 e, eq-eqb (route rs r .entry) x q)
 
   module _ (shown : List ℕ) (r : ℕ) (h : Lit shown r) (some : 0 < r) (last : r ≤ n) (few : n ≤ 48) where
-    -- a signal that route r - 1 does not put to proceed shows already what the routes from there on say
+    -- a signal that route r - 1 does not put to proceed already shows what the routes from there on say
     kept : (x : ℕ) → x < 32 → starts x (r - 1) ≡ false → getD shown x 0 ≡ from (r - 1) x
     unfolding Lit
     kept x b e =

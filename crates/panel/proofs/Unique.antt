@@ -1,4 +1,5 @@
--- No second answer, and no second buffer, meets the contract of a public function. `Post` is the contract itself, as the function is proved to meet it.
+-- No second answer, and no second buffer, meets the contract of a public function.
+-- `Post` is the contract itself, as the function is proved to meet it.
 use denote.Ref.{now}
 use Rattle.laws.proofs.Only.{only}
 use Rattle.numerals.proofs.Unique.{DeterminesBytes}

@@ -27,7 +27,7 @@ table-more : (n : ℕ) (f : ℕ → ℕ) → table (n + 1) f ≡ table n f ++ (f
 unfolding table
 table-more n f = rw add-one (from-more n 0 f ∙ ap (λ m. tableFrom 0 n f ++ (f m ∷ [])) (zero-add n))
 
--- and so many runs and one more
+-- and n + 1 runs of bytes are n and the one after them
 join-more : (n : ℕ) (f : ℕ → List ℕ) → join (n + 1) f ≡ join n f ++ f n
 unfolding join
 join-more n f = rw (add-one, join)

@@ -19,7 +19,7 @@ use Rattle.panel.specs.Panel.{proceedByte, shownBy, byteOf, signalByte, hasSign
 
 -- ---- main signals
 
--- a route at proceed shows 21 or 22
+-- a route at proceed shows more than 20 (21 or 22)
 proceed-shows : (a : Route) → ltb 20 (proceedByte a) ≡ true
 unfolding proceedByte
 proceed-shows a = if-both (λ b. ltb 20 b ≡ true) _ (λ t. refl) (λ f. refl)
@@ -29,7 +29,7 @@ module _ (n : ℕ) (rs : List Route) (phases : List ℕ) (x : ℕ) where
   abbrev starts : ℕ → Bool
   starts r = routeProceeds phases r (route rs r) x
 
-  -- a main signal shows 21 or 22 just where a route that starts at it is at proceed
+  -- a main signal shows more than 20 (21 or 22) just where a route that starts at it is at proceed
   pub main-shows : ltb 20 (signalByte n rs phases x) ≡ mainProceeds n rs phases x
   unfolding signalByte shownBy byteOf mainProceeds
   main-shows = if-both (λ b. ltb 20 b ≡ any n starts) _ (λ t. proceed-shows _ ∙ sym t ∙ lowest-some n starts) (λ f. sym f ∙ lowest-some n starts)
@@ -41,7 +41,7 @@ module _ (n : ℕ) (rs : List Route) (phases : List ℕ) (x : ℕ) where
 
 -- ---- block signals
 
--- a lamp, by its cases
+-- a lamp, lit where a and b hold, shows more than 20 just where it is lit and the block may be entered (c)
 lit-free : (a b c : Bool) → ltb 20 (lamp (a and b) c) ≡ b and (a and c)
 unfolding lamp _and_ if_then_else_
 lit-free true true true = refl
@@ -51,13 +51,13 @@ lit-free false true c = refl
 lit-free false false c = refl
 
 module _ (ls : List Line) (directions points stages bars : List ℕ) (l i w : ℕ) where
-  -- a block signal shows 22 just where there is one and it is at proceed
+  -- a block signal shows more than 20 (22) just where there is one and it is at proceed
   pub block-shows : ltb 20 (blockSignal ls directions points stages bars l i w)
       ≡ hasSignal (line ls l .blocks) i w and blockProceeds ls directions points stages bars l i w
   unfolding blockSignal blockProceeds
   block-shows = lit-free _ _ _
 
-  -- else one that is lit shows 20
+  -- one that is lit shows 20 where no train may be let into its block
   pub block-stops : direction directions l ≡ w → hasSignal (line ls l .blocks) i w ≡ true → enterable ls points stages bars l i ≡ false
       → blockSignal ls directions points stages bars l i w ≡ 20
   unfolding blockSignal lamp

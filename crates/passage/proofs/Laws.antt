@@ -8,7 +8,7 @@ use Rattle.track.specs.declared.Line.{Line}
 use Rattle.track.specs.Objects.{inner}
 use Rattle.passage.specs.Passage.{arrival, nextBlock, farSection}
 
--- past the line's blocks there is the station
+-- from A to B, the station comes after a number past the line's blocks
 pub next-past : (b : Line) (w i : ℕ) → w ≡ 1 → b .blocks ≤ i → 8 ≡ nextBlock b w i
 unfolding nextBlock
 next-past b w i h l = if-eq w 1 _ _ 8 h (if-ge (i + 1) (b .blocks) _ _ 8 (omega arith) (omega arith))

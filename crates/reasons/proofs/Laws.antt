@@ -27,17 +27,17 @@ use Rattle.reasons.specs.Reasons.{notFree, conflicting, blockBarred, blo
 -- ---- the first refusal of a list: v is what the code found of the first
 
 module _ (x y v : Refusal) (xs : List Refusal) (e : v ≡ x) where
-  -- it is refused
+  -- the first is given: it is the answer
   pub first-here : (v .number ≡ 0 → ⊥) → v ≡ firstOf (x ∷ y ∷ xs)
   unfolding firstOf
   first-here h = if-ne (x .number) 0 _ _ v (rw (← e) h) e
 
-  -- it is not
+  -- the first is not given: those after it decide
   pub first-next : (r : Refusal) → v .number ≡ 0 → r ≡ firstOf (y ∷ xs) → r ≡ firstOf (x ∷ y ∷ xs)
   unfolding firstOf
   first-next r h q = if-eq (x .number) 0 _ _ r (rw (← e) h) q
 
--- the last
+-- the last is taken as it stands
 pub first-last : (x r : Refusal) → r ≡ x → r ≡ firstOf (x ∷ [])
 unfolding firstOf
 first-last x r q = q
@@ -48,7 +48,7 @@ pub ruleset firsts = (needs, first-here, first-next, first-last)
 -- ---- 7 and 8, by the lowest section that does not read free
 
 module _ (sections : List ℕ) (set g : ℕ) (r : Refusal) (e : g ≡ lowest 64 (lacking sections set)) where
-  -- there is none
+  -- there is no such section: nothing is refused
   pub free-all : 64 ≤ g → r ≡ noRefusal → r ≡ notFree sections set
   unfolding notFree
   free-all h q = if-ge (lowest 64 (lacking sections set)) 64 _ _ r (rw (← e) h) q
@@ -60,7 +60,7 @@ module _ (sections : List ℕ) (set g : ℕ) (r : Refusal) (e : g ≡ lowest 64 
       if-lt (lowest 64 (lacking sections set)) 64 _ _ r (rw (← e) l)
       (rw (← e) (q ∙ ap (λ n. refused n g) (if-eq (reading sections g) 2 7 8 7 (sym d ∙ h) refl)))
 
-  -- it reads none
+  -- it is not occupied
   pub free-none : (v : ℕ) → g < 64 → v ≡ reading sections g → (v ≡ 2 → ⊥) → r ≡ refused 8 g → r ≡ notFree sections set
   unfolding notFree
   free-none v l d h q =
@@ -69,7 +69,7 @@ module _ (sections : List ℕ) (set g : ℕ) (r : Refusal) (e : g ≡ lowest 64 
 
 -- ---- 5, by the table of conflicts
 
--- what is refused by the lowest route that the search finds
+-- the refusal 5, from the lowest route that the search by the table finds
 pub conflict-found : (L : Layout) (phases : List ℕ) (r q : ℕ) (x : Refusal) → length (L .conflict) ≡ 2304
     → q ≡ lowest (L .routes) (conflictsWith (L .conflict) phases r)
     → x ≡ when (ltb q (L .routes)) 5 q → x ≡ conflicting L phases r
@@ -80,7 +80,7 @@ conflict-found L phases r q x e d z =
 
 -- ---- 10 and 11, by a table of blocks
 
--- what is refused by the lowest block of a line that the table has held or barred
+-- a refusal, from the lowest section that is a block of the line and that the table has held or barred
 taken-found : (table : List ℕ) (l number g : ℕ) (r : Refusal) (b c : Line) → b ≡ c
     → g ≡ lowest 64 (failing (untaken table l) (b .blocks) (b .block))
     → r ≡ when (ltb g 64) number g

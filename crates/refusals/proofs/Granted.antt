@@ -71,7 +71,7 @@ module _ (isSound : Bool) (L : Layout) (k a b : ℕ) (e : eventRefusal isSound L
   unfolding eventRefusal
   granted-second = when-granted _ 3 0 (omega arith) (granted-at _ e 3)
 
-  -- a second has no numbers
+  -- kind 10: both numbers are 0
   pub granted-unused : k ≡ 10 → (a ≡ 0) × (b ≡ 0)
   unfolding secondWrong if_then_else_ _or_
   granted-unused h =

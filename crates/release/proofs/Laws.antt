@@ -16,11 +16,11 @@ use Rattle.release.specs.declared.Held.{Held}
 use Rattle.signals.specs.Signals.{fallen}
 use Rattle.release.specs.Release.{stepAfter, toVacate, vacated, secondsAfter, goes, heldAfter, settledFrom, settled}
 
--- of a path with fewer sections the first entry
+-- of a path with fewer than k sections, the entry k from the end is the first
 pub from-short : (a : Route) (k r : ℕ) → a .paths < k → r ≡ getD (a .path) 0 0 → r ≡ getD (a .path) (a .paths - k) 0
 from-short a k r h q = q ∙ ap (λ n. getD (a .path) n 0) (omega arith)
 
--- a path of no section leaves none to be free
+-- a route that is no exit route and has no path section has none to vacate
 pub vacates-none : (a : Route) → (a .kind ≡ 2 → ⊥) → a .paths ≡ 0 → 0 ≡ toVacate a
 unfolding toVacate
 vacates-none a h n = if-ne _ _ _ _ 0 h (omega arith)
@@ -33,25 +33,25 @@ module _ (ls : List Line) (sections : List ℕ) (a : Route) (e : Gives) (h : Hel
   unfolding goes _or_
   goes-by-time t = rw t
 
-  -- the third step done, where it is left behind
+  -- not by time, and the third step done: whether it is vacated
   pub goes-vacated : (r : Bool) → eqb (h .phase) 3 and (eqb (e .tick) 1 and leb 89 (h .second)) ≡ false → step ≡ 3 → r ≡ vacated ls sections a
       → r ≡ goes ls sections a e h step
   unfolding goes _or_ _and_
   goes-vacated r t s q = rw (t, eq-eqb step 3 s) q
 
-  -- else not
+  -- neither by time nor with the third step done: it is not
   pub goes-not : eqb (h .phase) 3 and (eqb (e .tick) 1 and leb 89 (h .second)) ≡ false → (step ≡ 3 → ⊥) → false ≡ goes ls sections a e h step
   unfolding goes _or_ _and_
   goes-not t s = rw (t, ne-eqb step 3 s)
 
 module _ (ls : List Line) (sections : List ℕ) (a : Route) (e : Gives) (h : Held) (step second : ℕ) (v : Bool)
     (s : step ≡ stepAfter ls sections a e (h .step)) (t : second ≡ secondsAfter e (h .phase) (h .second)) (g : v ≡ goes ls sections a e h step) where
-  -- a route that goes holds nothing
+  -- a route that goes is idle, with step and seconds 0
   pub held-gone : v ≡ true → record { phase = 0; step = 0; second = 0 } ≡ heldAfter ls sections a e h
   unfolding heldAfter
   held-gone p = if-true _ _ _ _ (rw (← s) (sym g ∙ p)) refl
 
-  -- a route that stays has its step and its seconds
+  -- a route that stays keeps its phase, with the step and the seconds after the event
   pub held-stays : v ≡ false → record { phase = h .phase; step = step; second = second } ≡ heldAfter ls sections a e h
   unfolding heldAfter
   held-stays p = if-false _ _ _ _ (rw (← s) (sym g ∙ p)) (rw (s, t))

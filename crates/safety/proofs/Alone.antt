@@ -55,7 +55,7 @@ module _ (L : Layout) (S : Sound L) (s : State) (h : History) (I : Inv L s h) wh
       let (r, there, t) = any-some _ _ (sym (main-shows _ _ _ x) ∙ lt-ltb 20 _ (rw (I .seen) at p)) in
       (r, there, eqb-true _ 1 (and-left _ _ t), eqb-true _ x (and-right _ _ t))
 
-  -- two locked routes that conflict if they are two are one
+  -- two locked routes that would conflict if they differed are one
   one-route : (r q : ℕ) → r < L .routes → q < L .routes → (r ≢ q → conflict L r q ≡ true) → phase s r ≢ 0 → phase s q ≢ 0 → r ≡ q
   one-route r q b c clash x y = go (ℕ-discrete r q)
     where
@@ -63,8 +63,8 @@ module _ (L : Layout) (S : Sound L) (s : State) (h : History) (I : Inv L s h) wh
       go (yes z) = z
       go (no z) = absurd (I .apart r q b c (clash z) x y)
 
-  -- a signal that shows proceed into a block: the line is secured its way, and the block is open. By rule 6 two locked routes that start at one signal
-  -- are one
+  -- a signal that shows proceed into a block: the line is secured its way, and the block is open. By rule 6 two locked routes that start at
+  -- one signal are one
   pub enters-open : (x : Signal) (l i w : ℕ) → Enters L (shown L h) x l i w → (direction s l ≡ w) × (stage s l i ≡ 0)
   unfolding panel clear letsOut enterable enterableBy isOpen nearest nearestBlock lineIn
   enters-open (main x) l i w E =
@@ -109,7 +109,7 @@ module _ (L : Layout) (S : Sound L) (s : State) (h : History) (I : Inv L s h) wh
       let q = F .leads in
       rw (p .0, p .1, p .2, q .0, q .1, q .2)
 
-  -- rule 1: nor into its section as a block of any line
+  -- rule 1: so at most one shows proceed into a section, whatever lines and blocks have it
   pub alone : (x y : Signal) (l i w k j v : ℕ) → Enters L (shown L h) x l i w → Enters L (shown L h) y k j v → block L k j ≡ block L l i → y ≡ x
   alone x y l i w k j v E F same =
       let (line, number) = S .rule1 .once k j l i (F .ofLine) (F .ofBlock) (E .ofLine) (E .ofBlock) same in

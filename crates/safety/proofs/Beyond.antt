@@ -59,7 +59,7 @@ far-section {L} {l} {i} {w} few (aBlock j h d n up down) =
     passed-over _ _ _ (ne-eqb (nextBlock (lineIn L l) w i) 8 (omega arith)) ∙ ap (λ k. getD (lineIn L l .block) k 0) n
 far-section {L} {l} {i} {w} few (aStation e h a n) = chosen _ _ _ (eq-eqb _ 8 n) ∙ ap (inner (lineIn L l)) a
 
--- and so is the far signal
+-- whether the far signal is at proceed in a state, by what lies beyond
 abbrev pub farUp : Layout → State → ℕ → ℕ → Beyond → Bool
 farUp L s l w (next j) = blockProceeds (L .line) (s .direction) (s .point) (s .stage) (s .bar) l j w
 farUp L s l w (arrival e) = mainProceeds (L .routes) (L .route) (s .phase) (entranceSignal L l e)

@@ -55,7 +55,7 @@ of-reading L e l i was v k q d =
     C : ℕ → Type 0
     C = OwnCase L e l i was
 
--- section g is the block at its place
+-- section g is the block at the place of block i of line l just where it is that block
 block-at : (L : Layout) (l i g : ℕ) → i < lineIn L l .blocks → i < 8 → blockAt (L .line) g (place l i) ≡ eqb (block L l i) g
 unfolding blockAt block lineIn _and_
 block-at L l i g h b = rw (place-line l i b, place-block l i b, lt-ltb _ _ h)

@@ -45,7 +45,7 @@ abbrev pub Calm : State → ℕ → Type 0
 Calm s r = (phase s r ≡ 0) ⊎ (phase s r ≡ 3)
 
 module _ (L : Layout) (S : Sound L) (s : State) (e : Event) (r : ℕ) (b : r < L .routes) where
-  -- of the events of the way out only a cancel changes a phase by itself
+  -- an event that sets no route and does not cancel this one does not itself change its phase
   phase-own : e .kind ≢ 4 → (e .kind ≡ 5 → e .first ≢ r) → phase (done L s e) r ≡ phase s r
   unfolding ownSection ownSet ownCancel ownSecure ownManual withSections withRoutes withLines
   phase-own d other = go (is-done L s e)
@@ -58,7 +58,7 @@ module _ (L : Layout) (S : Sound L) (s : State) (e : Event) (r : ℕ) (b : r < L
       go (opens k) = refl
       go (leaves f u) = rw (u .1)
 
-  -- an idle route stays idle
+  -- an idle route stays idle, where the event sets and cancels none
   pub idle-on : e .kind ≢ 4 → e .kind ≢ 5 → phase s r ≡ 0 → phase (end L s e) r ≡ 0
   idle-on d c z =
       let same = phase-own d (λ k. absurd (c k)) in
@@ -69,7 +69,7 @@ module _ (L : Layout) (S : Sound L) (s : State) (e : Event) (r : ℕ) (b : r < L
   calm-then (inl z) = ⊎-elim inl (λ q. inl (q ∙ z)) (phase-stays L (S .ranges .routeCount) s e r b (omega arith))
   calm-then (inr z) = ⊎-elim inl (λ q. inr (q ∙ z)) (phase-stays L (S .ranges .routeCount) s e r b (omega arith))
 
-  -- and so is one that it did not touch
+  -- and so is one that was so before and that it neither sets nor cancels
   pub calm-on : e .kind ≢ 4 → (e .kind ≡ 5 → e .first ≢ r) → Calm s r → Calm (end L s e) r
   calm-on d other c = calm-then (⊎-elim (λ z. inl (phase-own d other ∙ z)) (λ z. inr (phase-own d other ∙ z)) c)
 
@@ -137,7 +137,7 @@ module _ (L : Layout) (s : State) (e : Event) (g : ℕ) (b : g < 64) where
       let told : says e g ≡ 1 = says-recorded e g k q ∙ rw v in
       section-done L s e g b ∙ passed-over _ _ _ (ne-eqb (says e g) 0 (omega arith)) ∙ told
 
--- a free reading leaves what reads free
+-- a section that reads free still does after a free reading of any section
 pub free-on : (L : Layout) (s : State) (a g : ℕ) → g < 64 → readings.reading (s .section) g ≡ 1 → readings.reading (end L s (event 1 a 1) .section) g ≡ 1
 free-on L s a g b f = go (ℕ-discrete a g)
   where

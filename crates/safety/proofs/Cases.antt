@@ -26,7 +26,7 @@ cases-hold = refl
 
 -- ---- P7, whatever the buffer holds
 
--- two lists that the test finds the same, entry by entry
+-- two lists that the test finds the same are the same
 same-means : (xs ys : List ℕ) → same xs ys ≡ true → xs ≡ ys
 same-means [] [] t = refl
 same-means [] (y ∷ ys) t = absurd (false≢true t)

@@ -87,7 +87,7 @@ module _ (L : Layout) (ok : sound L ≡ true) (S : Sound L) (s : State) (h : His
     passing = passing-then L S s h I e pass;
   }
 
-  -- every reading of a section that there is is accepted, so a refused event gives none
+  -- every reading of a section that there is is accepted, so a refused event says nothing of such a section
   quiet : refusal (sound L and inRange s) L s (e .kind) (e .first) (e .second) .number ≢ 0 → (g : ℕ) → g < L .sections → says e g ≡ 0
   quiet d g b = go (ℕ-discrete (says e g) 0)
     where

@@ -57,14 +57,14 @@ module _ (n d : ℕ) (xs : List ℕ) (a v i : ℕ) (b : i < n) where
   unfolding put
   put-elsewhere q = read-each n d n _ xs i b b ∙ passed-over _ _ _ (ne-eqb i a q)
 
--- one of a table of one thing
+-- an entry of a table that has one number throughout
 pub read-same : (n d v i : ℕ) → i < n → read n d (replicate n v) i ≡ v
 read-same n d v i b = read-at n d (replicate n v) i b ∙ getD-replicate n i v 0 b
 
 -- ---- the tables of blocks
 
 module _ (l i : ℕ) (b : i < 8) where
-  -- the line and the block that stand at a place
+  -- the line whose block stands at a place
   pub place-line : place l i / 8 ≡ l
   unfolding place
   place-line = ap (λ k. (k + i) / 8) (mul-comm 8 l) ∙ digits-div l b
@@ -74,7 +74,7 @@ module _ (l i : ℕ) (b : i < 8) where
   unfolding place
   place-block = ap (λ k. (k + i) % 8) (mul-comm 8 l) ∙ digits-mod l b
 
-  -- block i of a line that there is
+  -- the entry of block i of a line that there is, made anew
   pub read-block : (n : ℕ) (f : ℕ → ℕ → ℕ) (xs : List ℕ) → l < n → n ≤ 8
       → read 64 1 (each (8 * n) f xs) (place l i) ≡ f (place l i) (read 64 1 xs (place l i))
   unfolding place

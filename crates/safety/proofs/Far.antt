@@ -1,4 +1,5 @@
--- An accepted event keeps what the invariant says of a block in stage 2: a passage in the secured direction waits for the free reading that closes it.
+-- An accepted event keeps what the invariant says of a block in stage 2:
+-- a passage in the secured direction waits for the free reading that closes it.
 use Prim.Native.Nat.{ℕ, _+_, _<_, _≤_}
 use mathlib.Core.Path.{_≡_, refl, sym, ap, _∙_}
 use mathlib.Core.Logic.{_≢_, inl, inr}
@@ -44,7 +45,7 @@ use Rattle.safety.proofs.Held.{opened-then}
 
 -- ---- the far section
 
--- the first section of a list that reads free
+-- of a list of sections that read free the first reads free
 first-free : (sections xs : List ℕ) (n : ℕ) → allFree sections n xs ≡ true → 0 < n → readings.reading sections (getD xs 0 0) ≡ 1
 unfolding allFree read if_then_else_
 first-free sections xs n h b = eqb-true _ 1 (all-at _ _ h 0 b)
@@ -55,8 +56,8 @@ module _ (L : Layout) (S : Sound L) (l i w : ℕ) (b : l < L .lines) (c : i < li
   far-other x (aBlock j h d n up down) q = d (S .rule1 .once l i l j b c b h q .1)
   far-other x (aStation e h a n) q = S .rule1 .noInner l i l e b c b h q
 
-  -- while the far signal is at proceed it reads free: the next block is open, and open blocks read free; or, rules 2 and 5, a route in from the line has
-  -- the inner section first in its path, and routes at proceed have their path free
+  -- while the far signal is at proceed it reads free: the next block is open, and open blocks read free; or, rules 2 and 5, a route in from
+  -- the line has the inner section first in its path, and routes at proceed have their path free
   far-free : (s : State) → ((j : ℕ) → j < lineIn L l .blocks → stage s l j ≡ 0 → readings.reading (s .section) (block L l j) ≡ 1)
       → ((r : ℕ) → r < L .routes → phase s r ≡ 1 → clear (L .line) (s .section) (s .point) (s .stage) (s .bar) (routeIn L r) ≡ true)
       → (x : Beyond) → BeyondCase L l i w x → farUp L s l w x ≡ true → readings.reading (s .section) (sectionAt L l x) ≡ 1
@@ -71,7 +72,7 @@ module _ (L : Layout) (S : Sound L) (l i w : ℕ) (b : l < L .lines) (c : i < li
 
 -- ---- the far signal
 
--- the block signal into block j of n, which lies beyond another
+-- there is a block signal into block j of n where it lies beyond another
 far-signal : (n w j : ℕ) → (w ≡ 1 → 0 < j) → (w ≢ 1 → j + 1 < n) → hasSignal n j w ≡ true
 unfolding hasSignal
 far-signal n w j up down = go (ℕ-discrete w 1)
@@ -81,7 +82,7 @@ far-signal n w j up down = go (ℕ-discrete w 1)
     go (no q) = passed-over _ _ _ (ne-eqb w 1 q) ∙ lt-ltb (j + 1) n (down q)
 
 module _ (L : Layout) (S : Sound L) (s : State) (e : Event) (l i w : ℕ) (b : l < L .lines) where
-  -- a signal at proceed shows so
+  -- a far signal at proceed shows proceed
   far-showed : (x : Beyond) → BeyondCase L l i w x → w ≢ 0 → direction s l ≤ 2 → farUp L s l w x ≡ true → Proceeds (panel L s) (signalAt L l w x)
   unfolding panel signalShows blockProceeds
   far-showed x (aBlock j h d n up down) z few p =
@@ -124,8 +125,8 @@ module _ (L : Layout) (S : Sound L) (s : State) (h : History) (I : Inv L s h) (e
       ap (readings.reading (lit L s e .section)) (far-section few (there w))
       ∙ reads-on L S s h I e pass (farSection L l i w) (far-there L S l i w b c)
 
-  -- "to stop" follows from "from proceed" on a sound layout: within the event a far section that reads occupied holds its signal at stop. The next block
-  -- would be open and read free; a route in from the line would have the inner section free in its path
+  -- "to stop" follows from "from proceed" on a sound layout: within the event a far section that reads occupied holds its signal at stop.
+  -- The next block would be open and read free; a route in from the line would have the inner section free in its path
   pub stop-follows : (w : ℕ) → farReading L (lit L s e) l i w ≡ 2 → farProceeds L (lit L s e) l i w ≡ false
   unfolding farReading farReadingBy lineIn isOpen after settle lineRelease withLines routes routesBy withRoutes farSections signals
   stop-follows w taken =

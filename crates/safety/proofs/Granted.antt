@@ -34,12 +34,12 @@ use Rattle.safety.proofs.Within.{end}
 
 -- ---- reasons that there are not
 
--- of a list of which none is refused, the first refusal is none
+-- where the first reason is not given, and none of those after it, none of the list is
 first-none : (x y : Refusal) (ys : List Refusal) → x .number ≡ 0 → firstOf (y ∷ ys) .number ≡ 0 → firstOf (x ∷ y ∷ ys) .number ≡ 0
 unfolding firstOf
 first-none x y ys p q = rw (chosen _ _ _ (eq-eqb (x .number) 0 p)) q
 
--- the last of a list
+-- so of a list of one reason
 last-none : (x : Refusal) → x .number ≡ 0 → firstOf (x ∷ []) .number ≡ 0
 unfolding firstOf
 last-none x p = p

@@ -23,9 +23,9 @@ use Rattle.safety.proofs.Told.{reading-kept, Opened, opened-on}
 
 -- ---- the invariant
 
--- the codes are in range; what shows, and what sections read, is as the history tells it; no two conflicting routes are locked; a signal at proceed has all that keeps it there;
--- the line of a locked exit route is secured its way; an open block reads free and was cleared; one in stage 1 or 2 was entered; one in stage 2 waits
--- for the free reading that closes a passage in the secured direction
+-- the codes are in range; what shows, and what sections read, is as the history tells it; no two conflicting routes are locked; a signal at
+-- proceed has all that keeps it there; the line of a locked exit route is secured its way; an open block reads free and was cleared; one in
+-- stage 1 or 2 was entered; one in stage 2 waits for the free reading that closes a passage in the secured direction
 pub record Inv (L : Layout) (s : State) (h : History) : Type 0 where
   pub ranged : inRange s ≡ true
   pub seen : shown L h ≡ panel L s
@@ -69,7 +69,7 @@ module _ (L : Layout) (S : Sound L) where
 
 module _ (L : Layout) (S : Sound L) (s : State) (h : History) (m : Moment) (I : Inv L s h) (quiet : (g : ℕ) → g < L .sections → gave m g ≡ nothing)
     (same : m .shows ≡ panel L s) where
-  -- blocks and far sections are sections of the layout
+  -- the invariant stays: blocks and far sections are sections of the layout, of which the event says nothing
   pub refused : Inv L s (m ∷ h)
   unfolding shown Since
   refused = record {

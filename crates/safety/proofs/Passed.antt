@@ -36,12 +36,12 @@ use Rattle.safety.proofs.Entries.{phase, direction}
 
 -- ---- reasons that there were not
 
--- a test that is searched with held for none of those that were searched
+-- a search that found nothing: the test fails at each number searched
 found-granted : (number n : ℕ) (p : ℕ → Bool) → 0 < number → found number n p .number ≡ 0 → (k : ℕ) → k < n → p k ≡ false
 unfolding found
 found-granted number n p d e = lowest-none n p (when-granted _ number _ d e)
 
--- a test that does not hold together with one that does
+-- where two tests do not both hold and the first does, the second fails
 not-second : (a b : Bool) → a ≡ true → a and b ≡ false → b ≡ false
 unfolding _and_
 not-second a b p e = rw p at e

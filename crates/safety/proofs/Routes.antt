@@ -65,7 +65,7 @@ module _ (L : Layout) (S : Sound L) (s : State) (e : Event) (l i : ℕ) (b : l <
 
 module _ (L : Layout) (S : Sound L) (s : State) (h : History) (I : Inv L s h) (e : Event)
     (pass : refusal (sound L and inRange s) L s (e .kind) (e .first) (e .second) .number ≡ 0) where
-  -- what sections read
+  -- what sections read is what the history tells
   pub reads-on : (g : ℕ) → g < L .sections → readings.reading (end L s e .section) g ≡ reading g (granted L s e ∷ h)
   unfolding after settle lineRelease withLines routes routesBy withRoutes farSections signals reading
   reads-on g b = section-done L s e g (omega (arith, S .ranges .sectionCount)) ∙ ap (λ n. if eqb (says e g) 0 then n else says e g) (I .reads g b)
@@ -74,7 +74,7 @@ module _ (L : Layout) (S : Sound L) (s : State) (h : History) (I : Inv L s h) (e
   locked-before : (r : ℕ) → r < L .routes → phase (end L s e) r ≢ 0 → On 4 e r ⊎ (phase s r ≢ 0)
   locked-before r b = was-locked L (S .ranges .routeCount) s e r b (cancel-locked L s e pass)
 
-  -- a route is set only where none that conflicts with it is locked
+  -- no two conflicting routes are locked: a route is set only where none that conflicts with it is locked
   pub apart-on : (r q : ℕ) → r < L .routes → q < L .routes → conflict L r q ≡ true → phase (end L s e) r ≢ 0 → phase (end L s e) q ≢ 0 → ⊥
   apart-on r q b c t x y = go (locked-before r b x) (locked-before q c y)
     where

@@ -1,4 +1,4 @@
--- What a block signal shows says of the state, and the state of what it shows. There is one each way, so its direction is one of two.
+-- What a block signal shows tells of the state, and the state tells what it shows. There is one each way, so its direction is one of two.
 use Prim.Native.Nat.{ℕ, _<_, _≤_}
 use mathlib.Core.Path.{_≡_, sym, _∙_}
 use mathlib.Core.Logic.{_≢_}
@@ -19,7 +19,7 @@ use Rattle.panel_facts.proofs.Shows.{block-shows, block-stops}
 use Rattle.safety.specs.Shown.{into, signalShows}
 use Rattle.safety.proofs.Entries.{direction, chosen}
 
--- the two ways
+-- a direction that is not neutral is one of the two ways
 one-each-way : (w : ℕ) → w ≢ 0 → w ≤ 2 → eqb w 1 or eqb w 2 ≡ true
 one-each-way w z few = go (ℕ-discrete w 1)
   where

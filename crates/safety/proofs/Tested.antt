@@ -24,7 +24,7 @@ abbrev sinceTest : (Moment → History → Bool) → (Moment → Bool) → Histo
 sinceTest began kept [] = false
 sinceTest began kept (m ∷ h) = began m h or (kept m and sinceTest began kept h)
 
--- by the tests of the two
+-- where an event was so and every later one kept so, the test holds, by the tests of the two
 since-tested : {Began : Moment → History → Type 0} {Kept : Moment → Type 0} (began : Moment → History → Bool) (kept : Moment → Bool)
     → ((m : Moment) (h : History) → Began m h → began m h ≡ true) → ((m : Moment) → Kept m → kept m ≡ true) → (h : History) → Since Began Kept h
     → sinceTest began kept h ≡ true
@@ -79,7 +79,7 @@ stays-tested : (g : ℕ) (m : Moment) → (gave m g ≢ none) × (gave m g ≢ f
 stays-tested g m k = and-both _ _ (ap not (ne-eqb _ none (k .0))) (ap not (ne-eqb _ free (k .1)))
 
 module _ (L : Layout) (l i w : ℕ) where
-  -- each of what the drop of a passage is
+  -- the drop of a passage passes, part by part
   drops-tested : (m : Moment) (h : History) → Drops L l i w m h → dropsTest L l i w m h ≡ true
   drops-tested m h d =
       every-more _ _ _ (entered h (d .entered)) (every-more _ _ _ (stays-tested _ m (d .stays)) (every-more _ _ _ (eq-eqb _ w (d .secured .0))
@@ -89,7 +89,7 @@ module _ (L : Layout) (l i w : ℕ) where
       entered : (h : History) → Entered (block L l i) h → enteredTest (block L l i) h ≡ true
       entered = since-tested _ _ (λ m h q. eq-eqb _ 2 q) (stays-tested (block L l i))
 
-  -- so of a passage
+  -- so does a passage
   passage-tested : (h : History) → Passage L l i w h → passageTest L l i w h ≡ true
   passage-tested =
       since-tested _ _ drops-tested (λ m k. and-both _ _ (stays-tested _ m (k .0, k .1)) (ap not (ne-eqb _ none (k .2))))

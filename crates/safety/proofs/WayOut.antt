@@ -58,16 +58,16 @@ module _ (L : Layout) (P : State → Type 0) where
   joined [] ys s g G = G
   joined (e ∷ xs) ys s g G = first s e (xs ++ ys) (g .0) (joined xs ys _ (g .1) G)
 
--- and then
+-- one list after another, where what holds after the first is what the second needs
 pub after-that : {L : Layout} {s : State} {xs ys : List Event} {P Q : State → Type 0} → Goes L s xs P
     → ((t : State) → inRange t ≡ true → P t → Goes L t ys Q) → Goes L s (xs ++ ys) Q
 after-that {L} {s} {xs} {ys} {P} {Q} G next = joined L Q xs ys s (G .granted) (next _ (G .ranged) (G .ends))
 
--- what a state in range has counted of a route's seconds
+-- a state in range has counted at most 89 seconds of a route
 few-seconds : (s : State) → inRange s ≡ true → (r : ℕ) → second s r ≤ 89
 few-seconds s ok r = read-within (inRange-means s .0 ok .second) 0 r (omega arith) .1
 
--- a route that is not locked, or is cancelling
+-- a route that is not standing (locked and not cancelling) is idle or cancelling
 not-standing : (s : State) (r : ℕ) → standing s r ≡ false → Calm s r
 unfolding standing locked
 not-standing s r f = go (ℕ-discrete (phase s r) 0) (ℕ-discrete (phase s r) 3)
@@ -97,7 +97,7 @@ AllCalm L n s = (r : ℕ) → n ≤ r → r < L .routes → Calm s r
 abbrev Idle : Layout → State → Type 0
 Idle L s = (r : ℕ) → r < L .routes → phase s r ≡ 0
 
--- each route is idle, or has counted k seconds of its cancelling
+-- each route is idle, or has counted at least k seconds of its cancelling
 abbrev Counted : Layout → ℕ → State → Type 0
 Counted L k s = (r : ℕ) → r < L .routes → (phase s r ≡ 0) ⊎ ((phase s r ≡ 3) × (k ≤ second s r))
 

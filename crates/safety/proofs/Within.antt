@@ -222,7 +222,7 @@ module _ (L : Layout) (few : L .routes ≤ 48) (s : State) (e : Event) (r : ℕ)
 -- ---- lines
 
 module _ (L : Layout) (few : L .lines ≤ 8) (s : State) (e : Event) (l : ℕ) (b : l < L .lines) where
-  -- neither secured nor released by hand
+  -- a line that the event neither secures nor releases by hand keeps its direction, as far as the event itself goes
   pub direction-same : ¬ On 6 e l → ¬ On 7 e l → direction (done L s e) l ≡ direction s l
   unfolding ownSection ownSet ownCancel ownSecure ownManual withSections withRoutes withLines
   direction-same n m = go (is-done L s e)

@@ -23,7 +23,7 @@ own-stage-in v was h =
     if-both (In 0 3) _ (λ t. if-both (In 0 3) _ (λ u. omega arith) (λ u. h))
     (λ t. if-both (In 0 3) _ (λ u. omega arith) (λ u. if-both (In 0 3) _ (λ x. if-both (In 0 3) _ (λ y. omega arith) (λ y. omega arith)) (λ x. h)))
 
--- only the block that the section is has it
+-- the stage at a place stays in range: only the block that is the section goes by its reading
 stage-in : (ls : List Line) (g v k was : ℕ) → In 0 3 was → In 0 3 (ownStageAt ls g v k was)
 unfolding ownStageAt
 stage-in ls g v k was h = if-both (In 0 3) _ (λ t. own-stage-in v was h) (λ t. h)

@@ -1,4 +1,4 @@
--- What it says that an event is not refused, and which numbers the refusals have.
+-- What follows where an event is not refused, and which numbers the refusals have.
 use Prim.Native.Nat.{ℕ, _≤_}
 use mathlib.Core.Path.{_≡_, refl, sym, subst}
 use mathlib.Core.Bool.{Bool, true, false, not}

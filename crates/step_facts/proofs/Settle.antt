@@ -20,7 +20,7 @@ use Rattle.step_facts.proofs.Range.{each-within, read-within, routes-ra
 
 -- ---- signals
 
--- a signal that falls leaves its route in phase 2
+-- the phase of a route whose signal falls or stays is in range
 fallen-in : (ls : List Line) (rs : List Route) (s : State) (r was : ℕ) → In 0 3 was → In 0 3 (fallenAt ls rs s r was)
 unfolding fallenAt fallen
 fallen-in ls rs s r was h = if-both (In 0 3) _ (λ t. if-both (In 0 3) _ (λ u. omega arith) (λ u. omega arith)) (λ t. h)
@@ -39,7 +39,7 @@ far-stage-in far dropped was h =
     if-both (In 0 3) _ (λ t. if-both (In 0 3) _ (λ u. omega arith) (λ u. omega arith))
     (λ t. if-both (In 0 3) _ (λ u. if-both (In 0 3) _ (λ x. omega arith) (λ x. omega arith)) (λ u. h))
 
--- in neutral it stays
+-- so too by the direction of its line: in neutral the stage stays
 far-in : (directions : List ℕ) (far : ℕ → ℕ → ℕ → ℕ) (dropped : ℕ → ℕ → ℕ → Bool) (k was : ℕ) → In 0 3 was → In 0 3 (farAfter directions far dropped k was)
 unfolding farAfter farMoved
 far-in directions far dropped k was h = if-both (In 0 3) _ (λ t. h) (λ t. far-stage-in _ _ was h)
@@ -76,7 +76,7 @@ seconds-in : (e : Gives) (phase second : ℕ) → In 0 89 second → In 0 89 (se
 unfolding secondsAfter
 seconds-in e phase second h = if-both (In 0 89) _ (λ t. if-both (In 0 89) _ (λ u. omega (arith, ltb-true)) (λ u. h)) (λ t. h)
 
--- a route that goes holds nothing; one that stays keeps its phase
+-- phase, step and seconds stay in range: a route that goes is idle with 0 and 0, one that stays keeps its phase
 held-in : (ls : List Line) (sections : List ℕ) (a : Route) (e : Gives) (h : Held) → HeldIn h → HeldIn (heldAfter ls sections a e h)
 unfolding heldAfter stepAfter
 held-in ls sections a e h H =

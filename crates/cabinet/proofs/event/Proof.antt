@@ -1,4 +1,5 @@
--- `cabinet::event` meets its contract: a walk of its MIR, by hand. The borrow is opened, the state is copied out, `State::step` is called, its answer's state is stored over what was there, and the borrow is closed at that state.
+-- `cabinet::event` meets its contract: a walk of its MIR, by hand. The borrow is opened, the state is copied out, `State::step` is called,
+-- its answer's state is stored over what was there, and the borrow is closed at that state.
 -- All that the proof knows of `step` is that it meets its contract. No field of the state or of the layout is named.
 -- Assumes nothing.
 use mathlib.Core.Path.{_≡_, refl, ap}

@@ -1,5 +1,7 @@
--- `cabinet::hiruketawha_event` meets its contract: a walk of its MIR, by hand. The borrow of the layout is looked into, the layout is copied out, and the borrow is shut; then `event` is called.
--- The state's borrow goes to `event` at its own lifetime, share and ghost name, and is given up for good: what `event` says of the last state, under that name, is what is said here. All that the proof knows of `event` is that it meets its contract.
+-- `cabinet::hiruketawha_event` meets its contract: a walk of its MIR, by hand. The borrow of the layout is looked into, the layout is
+-- copied out, and the borrow is shut; then `event` is called.
+-- The state's borrow goes to `event` at its own lifetime, share and ghost name, and is given up for good: what `event` says of the last
+-- state, under that name, is what is said here. All that the proof knows of `event` is that it meets its contract.
 -- Assumes nothing.
 use mathlib.Core.Path.{_≡_, refl}
 use Prim.Native.Nat.{ℕ, _<_, _^_}
@@ -138,11 +140,13 @@ module _ {M : Type 1} (𝓤 : URA M) (H : Heap 𝓤) (A : Atoms 𝓤) (W : Given
         alloc1 ! (λ l₀. alloc1 ! (λ l₁. alloc1 ! (λ l₂. alloc1 ! (λ l₃. alloc1 ! (λ l₄. alloc1 ! (λ l₅. alloc1 ! (λ l₆. alloc1 ! (λ l₇. alloc0 ! $ params1 ! $
         pass1 ! (init ! 12 refl (tt, tt)) $ pass1 ! (init ! 10 refl (tt, tt)) $
         pass1 ! (init ! 8 refl (tt, record { fits = k-fits })) $ pass1 ! (init ! 6 refl (tt, record { fits = m-fits })) $ pass1 ! (init ! 4 refl (tt, record { fits = n-fits })) $ pass0 ! $
-        -- [_7; …; _6; …; _5; …; _4; …; _3; …; _2; …; _1; …; _0; …; what the state's reference owns; its token; the layout's fractured borrow; its token; res]
+        -- [_7; …; _6; …; _5; …; _4; …; _3; …; _2; …; _1; …; _0; …; what the state's reference owns; its token;
+        -- the layout's fractured borrow; its token; res]
         -- _6 = *_2
         move ! (18 ∷ 19 ∷ []) $ looks ! tt L.the-row (Is L.the-row) (shows 𝓤 H A L.the-row) (LL.vals L.the-type L′.the-laws) (LL.tells L.the-type L′.the-laws) (LL.copy L.the-type L′.the-copy 𝓤 H A W) l b′ o′ (λ p vs.
         spelt ! L.the-row (Is L.the-row) (shows 𝓤 H A L.the-row) (LL.vals L.the-type L′.the-laws) (LL.tells L.the-type L′.the-laws) p l vs b′ o′ $ move ! (1 ∷ []) $ peeks ! L.the-row (Is L.the-row) (shows 𝓤 H A L.the-row) l (valL l ∷ []) (λ l-is. move ! (1 ∷ 0 ∷ []) $
-        -- [a share of the layout's cell; what a Layout owns; what shuts it; the fractured borrow; _7; …; _0; …; what the state's reference owns; its token; res]
+        -- [a share of the layout's cell; what a Layout owns; what shuts it; the fractured borrow; _7; …; _0; …;
+        -- what the state's reference owns; its token; res]
         assigns ! (of-opd ! (load ! (from ! (hop ! (look ! 14 refl) (stop !))) (look-raw ! 0 refl))) (from ! (stop !)) (init ! 6 refl (LL.lawful L.the-type L′.the-laws 𝓤 H A W .typed l _ l-is .0)) $
         shuts ! tt L.the-row p l (valL l ∷ []) b′ o′ $
         -- [the layout's token; its borrow; _7; …; _6; …; _5; …; _4; …; _3; …; _2; …; _1; …; _0; …; what the state's reference owns; its token; res]

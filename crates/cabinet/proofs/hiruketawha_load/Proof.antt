@@ -1,5 +1,7 @@
--- `cabinet::hiruketawha_load` meets its contract: a walk of its MIR, by hand. The borrow of the layout is opened, and the layout is copied out; `load_over` is called on the file and on it, its answer's layout is stored over what was there, and the borrow is closed at that layout.
--- The file's slice is Copy: what it owns is had twice, one copy goes to the callee beside the lifetime's token, which comes back, and one is kept for the exit.
+-- `cabinet::hiruketawha_load` meets its contract: a walk of its MIR, by hand. The borrow of the layout is opened, and the layout is copied
+-- out; `load_over` is called on the file and that layout, its answer's layout is stored over what was there, and the borrow is closed at it.
+-- The file's slice is Copy: what it owns is had twice. One copy goes to the callee beside the lifetime's token, which comes back,
+-- and one is kept for the exit.
 -- All that the proof knows of `load_over` is that it meets its contract. No field of the layout is named.
 -- Assumes nothing.
 use mathlib.Core.Path.{_≡_, refl, ap}
@@ -118,7 +120,7 @@ module _ {M : Type 1} (𝓤 : URA M) (H : Heap 𝓤) (A : Atoms 𝓤) (W : Given
   abbrev args : List Val
   args = v ∷ vptr b o ∷ []
 
-  -- what the answer to the file is over the layout that is there
+  -- the answer to the file, over the layout that is there
   abbrev found : Loaded
   found = loadOver g (load (now s))
 

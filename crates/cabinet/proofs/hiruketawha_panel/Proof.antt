@@ -1,5 +1,7 @@
--- `cabinet::hiruketawha_panel` meets its contract: a walk of its MIR, by hand. The borrows of the state and of the layout are looked into, each is copied out, and the borrows are shut; then `panel` is called.
--- The buffer's borrow goes to `panel` at its own lifetime, share and ghost name, and is given up for good: what `panel` says of the last bytes, under that name, is what is said here. All that the proof knows of `panel` is that it meets its contract.
+-- `cabinet::hiruketawha_panel` meets its contract: a walk of its MIR, by hand. The borrows of the state and of the layout are looked into,
+-- each is copied out, and the borrows are shut; then `panel` is called.
+-- The buffer's borrow goes to `panel` at its own lifetime, share and ghost name, and is given up for good: what `panel` says of the last
+-- bytes, under that name, is what is said here. All that the proof knows of `panel` is that it meets its contract.
 -- Assumes nothing.
 use mathlib.Core.Path.{_≡_, refl}
 use Prim.Native.Nat.{ℕ}
@@ -141,21 +143,25 @@ module _ {M : Type 1} (𝓤 : URA M) (H : Heap 𝓤) (A : Atoms 𝓤) (W : Given
         enter ! C Λ code.function args _ $
         alloc1 ! (λ l₀. alloc1 ! (λ l₁. alloc1 ! (λ l₂. alloc1 ! (λ l₃. alloc1 ! (λ l₄. alloc1 ! (λ l₅. alloc1 ! (λ l₆. alloc1 ! (λ l₇. alloc0 ! $ params1 ! $
         pass1 ! (init ! 12 refl (tt, tt)) $ pass1 ! (init ! 10 refl (tt, tt)) $ pass1 ! (init ! 8 refl (tt, (tt, (record { fits = room .0 }, tt)))) $ pass0 ! $
-        -- [_7; …; _6; …; _5; …; _4; …; _3; …; _2; …; _1; …; _0; …; the state's fractured borrow; its token; the layout's; its token; what the slice owns; its token; the state's res; the layout's]
+        -- [_7; …; _6; …; _5; …; _4; …; _3; …; _2; …; _1; …; _0; …; the state's fractured borrow; its token; the layout's; its token;
+        -- what the slice owns; its token; the state's res; the layout's]
         -- _4 = *_1
         move ! (16 ∷ 17 ∷ []) $ looks ! tt S.the-row (Is S.the-row) (shows 𝓤 H A S.the-row) (LL.vals S.the-type S′.the-laws) (LL.tells S.the-type S′.the-laws) (LL.copy S.the-type S′.the-copy 𝓤 H A W) h b o (λ p vs.
         spelt ! S.the-row (Is S.the-row) (shows 𝓤 H A S.the-row) (LL.vals S.the-type S′.the-laws) (LL.tells S.the-type S′.the-laws) p h vs b o $ move ! (1 ∷ []) $ peeks ! S.the-row (Is S.the-row) (shows 𝓤 H A S.the-row) h (valS h ∷ []) (λ h-is. move ! (1 ∷ 0 ∷ []) $
         -- [a share of the state's cell; what a State owns; what shuts it; the fractured borrow; _7; …; _0; …; the rest]
         assigns ! (of-opd ! (load ! (from ! (hop ! (look ! 16 refl) (stop !))) (look-raw ! 0 refl))) (from ! (stop !)) (init ! 10 refl (LL.lawful S.the-type S′.the-laws 𝓤 H A W .typed h _ h-is .0)) $
         shuts ! tt S.the-row p h (valS h ∷ []) b o $
-        -- [the state's token; its borrow; _7; …; _0; …; the layout's borrow; its token; what the slice owns; its token; the state's res; the layout's]
+        -- [the state's token; its borrow; _7; …; _0; …; the layout's borrow; its token; what the slice owns; its token;
+        -- the state's res; the layout's]
         -- _5 = *_2
         move ! (18 ∷ 19 ∷ []) $ looks ! tt L.the-row (Is L.the-row) (shows 𝓤 H A L.the-row) (LL.vals L.the-type L′.the-laws) (LL.tells L.the-type L′.the-laws) (LL.copy L.the-type L′.the-copy 𝓤 H A W) l b′ o′ (λ p′ vs′.
         spelt ! L.the-row (Is L.the-row) (shows 𝓤 H A L.the-row) (LL.vals L.the-type L′.the-laws) (LL.tells L.the-type L′.the-laws) p′ l vs′ b′ o′ $ move ! (1 ∷ []) $ peeks ! L.the-row (Is L.the-row) (shows 𝓤 H A L.the-row) l (valL l ∷ []) (λ l-is. move ! (1 ∷ 0 ∷ []) $
-        -- [a share of the layout's cell; what a Layout owns; what shuts it; the fractured borrow; the state's token; its borrow; _7; …; _0; …; the rest]
+        -- [a share of the layout's cell; what a Layout owns; what shuts it; the fractured borrow; the state's token; its borrow; _7; …;
+        -- _0; …; the rest]
         assigns ! (of-opd ! (load ! (from ! (hop ! (look ! 16 refl) (stop !))) (look-raw ! 0 refl))) (from ! (stop !)) (init ! 10 refl (LL.lawful L.the-type L′.the-laws 𝓤 H A W .typed l _ l-is .0)) $
         shuts ! tt L.the-row p′ l (valL l ∷ []) b′ o′ $
-        -- [the layout's token; its borrow; the state's token; its borrow; _7; …; _6; …; _5; …; _4; …; _3; …; _2; …; _1; …; _0; …; what the slice owns; its token; the state's res; the layout's]
+        -- [the layout's token; its borrow; the state's token; its borrow; _7; …; _6; …; _5; …; _4; …; _3; …; _2; …; _1; …; _0; …;
+        -- what the slice owns; its token; the state's res; the layout's]
         -- _6 = &*_3.0
         assigns ! (addr ! (from ! (fld ! refl (hop ! (look-in ! 12 (sub ! 0 refl (whole !))) (stop !))))) (from ! (stop !)) (init ! 6 refl (tt, tt)) $
         -- _7 = [_6, _3.1]
@@ -167,7 +173,8 @@ module _ {M : Type 1} (𝓤 : URA M) (H : Heap 𝓤) (A : Atoms 𝓤) (W : Given
         -- what `panel` ensures, at some last bytes
         split ! $ move ! (1 ∷ []) $ use1 W (some (λ (zs : Unit {0} × (Unit {0} × (List ℕ × Unit {0}))). ‵ (lasts pan.ended (κ″, tt) (h, (l, (s, tt))) zs) ⊛ raw (fact 𝓤 (Said r (zs .1 .1 .0))))) (id⊢ 𝓤 _) $ pick ! (λ zs.
         split ! $ move ! (1 ∷ []) $ heard ! (Said r (zs .1 .1 .0)) (λ e. fsplit ! $ drop ! $ fsplit ! $ drop ! $ fsplit ! $ move ! (1 ∷ []) $ drop ! $ fsplit ! $ move ! (1 ∷ []) $ feqL ! (λ len. move ! (1 ∷ []) $ split ! $ move ! (1 ∷ []) $
-        -- [the answer; the buffer's token; the last bytes; the layout's token; its borrow; the state's token; its borrow; _7; …; _6; …; _5; …; _4; …; _3; …; _2; …; _1; …; _0; …; the state's res; the layout's]
+        -- [the answer; the buffer's token; the last bytes; the layout's token; its borrow; the state's token; its borrow; _7; …; _6; …;
+        -- _5; …; _4; …; _3; …; _2; …; _1; …; _0; …; the state's res; the layout's]
         peeks ! D.the-row (Is D.the-row) (shows 𝓤 H A D.the-row) r (w ∷ []) (λ is.
         land ! (from ! (stop !)) (init ! 21 refl (LL.lawful D.the-type D′.the-laws 𝓤 H A W .typed r _ is .0)) $
         returns ! (look ! 21 refl) $ forget ! 7 refl $ forget ! 9 refl $ forget ! 11 refl $ forget ! 13 refl $ forget ! 15 refl $ forget ! 17 refl $ forget ! 19 refl $ forget ! 21 refl $

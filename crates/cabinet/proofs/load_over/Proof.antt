@@ -1,4 +1,4 @@
--- Accepted, or refused.
+-- An accepted file gives its own layout, a refused one the layout before.
 use borrow.Author.Needs.{needs}
 use Rattle.cabinet.proofs.Laws.{load-accepted, load-refused}
 use Rattle.cabinet.proofs.load_over.Statement.{statement}

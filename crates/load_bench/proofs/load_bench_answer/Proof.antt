@@ -1,4 +1,4 @@
--- The file is loaded, a section of the layout is looked up, and the three are packed.
+-- The file is loaded, a section of a route's overlap is looked up, and answer, detail and section are packed into one number.
 use borrow.Author.Needs.{needs}
 use Rattle.load_bench.proofs.load_bench_answer.Statement.{statement}
 use Rattle.load_bench.proofs.load_bench_answer.Tie as tie

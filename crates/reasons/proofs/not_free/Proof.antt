@@ -1,4 +1,4 @@
--- The lowest section asked for that does not read free decides: with none nothing is refused, occupied gives 7, else 8.
+-- The lowest section asked for that does not read free decides: occupied gives 7, else 8; where there is no such section nothing is refused.
 use borrow.Author.Needs.{needs}
 use Rattle.reasons.proofs.Laws.{free-all, free-occupied, free-none}
 use Rattle.reasons.proofs.not_free.Statement.{statement}

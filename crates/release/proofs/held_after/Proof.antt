@@ -1,4 +1,4 @@
--- A route that goes holds nothing, and one that stays has its step and its seconds.
+-- A route that goes is idle, with step and seconds 0; one that stays keeps its phase, with the step and the seconds after the event.
 use borrow.Author.Needs.{needs}
 use Rattle.release.proofs.Laws.{held-gone, held-stays}
 use Rattle.release.proofs.held_after.Statement.{statement}

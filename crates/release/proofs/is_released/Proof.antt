@@ -1,4 +1,4 @@
--- The 90th second releases it; else, the third step done, that it is vacated.
+-- Released by the 90th second; else, the third step done, where it is vacated; else not.
 use borrow.Author.Needs.{needs}
 use Rattle.laws.specs.Tests.{_and_}
 use Rattle.release.proofs.Laws.{goes-by-time, goes-vacated, goes-not}

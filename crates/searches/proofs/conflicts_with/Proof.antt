@@ -1,4 +1,4 @@
--- A route that is not locked is none; else by the table.
+-- A route that is not locked does not count; else the table decides.
 use Rattle.laws.proofs.Both.{both-asked, boths}
 use Rattle.searches.specs.Searches.{conflictsWith}
 use Rattle.searches.proofs.conflicts_with.Statement.{statement}

@@ -1,4 +1,4 @@
--- A section that is not in the set is none; else by what it reads.
+-- A section that is not in the set does not count; else what it reads decides.
 use Rattle.laws.proofs.Both.{both-asked, boths}
 use Rattle.searches.specs.Searches.{lacking}
 use Rattle.searches.proofs.is_lacking.Statement.{statement}

@@ -1,4 +1,4 @@
--- A neutral line is none; else by its list of points.
+-- A neutral line locks no point; else its list of points decides.
 use Rattle.laws.proofs.Both.{both-asked, boths}
 use Rattle.searches.specs.Searches.{lineLocks}
 use Rattle.searches.proofs.line_locks.Statement.{statement}

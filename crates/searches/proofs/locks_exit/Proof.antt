@@ -1,4 +1,4 @@
--- An idle route is none; else by its record.
+-- An idle route does not count; else its record decides.
 use Rattle.laws.proofs.Both.{boths}
 use Rattle.searches.proofs.Laws.{exit-idle}
 use Rattle.tables.specs.Locks.{lockedExit}

@@ -1,4 +1,4 @@
--- A route that is not locked is none; else by its list of points.
+-- A route that is not locked locks no point; else its list of points decides.
 use Rattle.laws.proofs.Both.{both-asked, boths}
 use Rattle.searches.specs.Searches.{routeLocks}
 use Rattle.searches.proofs.route_locks.Statement.{statement}

@@ -1,4 +1,4 @@
--- A turn for each event, and then the state.
+-- A turn for each event; the line then ends with the state.
 use borrow.Author.Needs.{needs}
 use Rattle.step_cases.proofs.play_line.Statement.{statement}
 use Rattle.step_cases.proofs.play_line.Tie as tie

@@ -7,7 +7,7 @@ use Rattle.event_file.proofs.PanelText.{drawn-fits, panel-made}
 use Rattle.event_file.proofs.lines.put_panel.Statement.{statement}
 use Rattle.event_file.proofs.lines.put_panel.Tie as tie
 
--- the image has at most 512 bytes, and each takes four
+-- what is drawn has at most 512 bytes, and each takes at most four
 put-bytes-requires : tie.Need-put-bytes-requires
 put-bytes-requires c κs =
     let fits = drawn-fits _ _ _ _ (c .before .before .before .panel .ensures .0) in

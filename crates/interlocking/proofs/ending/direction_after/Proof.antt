@@ -1,4 +1,4 @@
--- By the direction, then by whether it ends.
+-- By the direction, then by whether the line is released.
 use Rattle.laws.proofs.Choice.{choices, if-yes, if-no}
 use Rattle.interlocking.specs.Settle.{directionAfter}
 use Rattle.interlocking.proofs.ending.direction_after.Statement.{statement}

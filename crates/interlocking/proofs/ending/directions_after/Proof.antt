@@ -1,4 +1,4 @@
--- The lines before k have ended where they must.
+-- Of the lines before k those that are released are neutral, and the others are as they were.
 use Prim.Native.Nat.{_-_}
 use Rattle.laws.proofs.Each.{Redone, redoes}
 use Rattle.track.specs.Objects.{line}

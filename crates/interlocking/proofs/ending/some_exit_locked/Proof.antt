@@ -1,4 +1,4 @@
--- A search that leaves at the first.
+-- A search that leaves at the first locked exit route of the line.
 use Prim.Native.Nat.{_-_}
 use Rattle.interlocking.proofs.FarSections.{exit-at}
 use Rattle.laws.proofs.Arrays.{length-mapped}

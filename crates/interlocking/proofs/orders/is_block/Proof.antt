@@ -1,4 +1,4 @@
--- There is such a block, and it is g.
+-- There is such a block, and its section is g.
 use borrow.Author.Needs.{needs}
 use Rattle.interlocking.proofs.Laws.{block-past, block-there}
 use Rattle.interlocking.proofs.orders.is_block.Statement.{statement}

@@ -1,4 +1,4 @@
--- The places before k have their own reading.
+-- The stages at the places before k have gone by the reading where the block is that section; else they are as they were.
 use Prim.Native.Nat.{_-_}
 use borrow.Author.Needs.{needs}
 use lib.ListN.{length}

@@ -1,4 +1,4 @@
--- By what it reads.
+-- By whether the point already reads that position.
 use borrow.Author.Needs.{needs}
 use Rattle.interlocking.proofs.Laws.{throw-kept, throw-lost}
 use Rattle.interlocking.proofs.orders.thrown_reading.Statement.{statement}

@@ -1,4 +1,4 @@
--- Secured that way, and open.
+-- The line is secured that way, and a train may be let into the block.
 use borrow.Author.Needs.{needs}
 use Rattle.interlocking.proofs.FarSections.{shows-other-way, shows-that-way}
 use Rattle.interlocking.proofs.settle.block_proceeds.Statement.{statement}

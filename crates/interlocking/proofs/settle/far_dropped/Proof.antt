@@ -1,4 +1,4 @@
--- Before, and now where it showed proceed before.
+-- What it showed before is asked, and what it shows now only where that was proceed.
 use borrow.Author.Needs.{needs}
 use Rattle.interlocking.proofs.FarSections.{dropped-stop, dropped-now}
 use Rattle.interlocking.proofs.settle.far_dropped.Statement.{statement}

@@ -47,7 +47,7 @@ asked c =
           (far-reads _ _ _ _ _ _ _ there (r .far-reading .ensures)) _ (c .before .far-dropped .ensures _ there) (c .far-stage .ensures)),
     )
 
--- or does not matter
+-- or a block to which the far signal does not matter
 moot : tie.Need-loop-again-4 Inv-loop μ-loop
 moot c =
     let r = c .before .before in

@@ -1,4 +1,4 @@
--- A search that leaves at the first route that lights the signal.
+-- A search that leaves at the first route for which the signal shows proceed.
 use Prim.Native.Nat.{_-_}
 use Rattle.laws.proofs.Loops.{Failed, anys}
 use Rattle.interlocking.specs.Entries.{entryShows, mainShows}

@@ -1,4 +1,4 @@
--- At the arrival end.
+-- The entrance signal of the arrival end is asked.
 use borrow.Author.Needs.{needs}
 use Rattle.interlocking.proofs.settle.station_proceeds.Statement.{statement}
 use Rattle.interlocking.proofs.settle.station_proceeds.Tie as tie

@@ -1,4 +1,4 @@
--- A word that is no number stops it, a number too large does, and any other is ended.
+-- A word that is no number stops the reading, so does a number too large, and any other is ended.
 use Rattle.laws.proofs.Choice.{choices}
 use Rattle.number_text.specs.Text.{afterWord}
 use Rattle.number_text.proofs.pack.end_word.Statement.{statement}

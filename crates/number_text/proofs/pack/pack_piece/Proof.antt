@@ -1,4 +1,4 @@
--- As many bytes are read as there surely is room for the numbers of, one after the other.
+-- Bytes are read one after the other, as many as the buffer surely has room for, three bytes for each.
 use Prim.Native.Nat.{_-_, _*_, _/_, _≤_}
 use mathlib.Core.Path.{_≡_}
 use mathlib.Core.List.{[]}

@@ -1,4 +1,4 @@
--- As many numbers are read as there surely is room for the text of, one after the other.
+-- Numbers are read one after the other, as many as the buffer surely has room for, seven bytes of text for each.
 use Prim.Native.Nat.{_-_, _*_, _≤_}
 use native.Mathlib.Omega.{arith}
 use borrow.Author.Needs.{needs}
