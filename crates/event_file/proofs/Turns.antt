@@ -218,6 +218,7 @@ module _ (f : State → Event → Answer) (panel : Bool) (L : Layout) (last : Bo
 
     module _ (b : List ℕ) (t : State) (m place written i : ℕ) (w : Went a 0 (length a) b (soFar t m place written) (ranTo i)) (l : i < turns)
         (v : ℕ) (d : v ≡ mostLine panel) where
+      -- a turn that stops ends the run: what the record then holds is the run over the whole piece
       ended-run : (r : Piece) → Ended b written (length b - written) r (turnOf f panel L last bytes (length b - written) t m place)
           → Went a 0 (length a) b r (pieceOf f panel L last bytes (length a) s n at)
       unfolding soFar

@@ -11,8 +11,9 @@ use lib.ListN.{length, getD}
 use Rattle.laws.specs.Choice.{if_then_else_}
 use Rattle.laws.specs.Tests.{_and_}
 use Rattle.laws.specs.Tables.{each, read}
-use Rattle.laws.proofs.Choice.{if-eq, if-ne, if-lt, if-both}
+use Rattle.laws.proofs.Choice.{if-eq, if-ne, if-both}
 use Rattle.laws.proofs.Tests.{any-same}
+use Rattle.laws.proofs.Arrays.{read-at}
 use Rattle.laws.proofs.Each.{Redone, each-at, each-past, length-each, each-over}
 use Rattle.track.specs.declared.Line.{Line}
 use Rattle.track.specs.declared.Route.{Route}
@@ -30,11 +31,6 @@ use Rattle.interlocking.specs.Settle.{fallenAt, signals, proceedsIn, far
 use Rattle.interlocking.proofs.FarSections.{route-in}
 
 -- ---- one turn of the walk
-
--- an entry of a table of routes, as the definitions read it
-pub read-entry : (xs : List ℕ) (r : ℕ) → r < 48 → getD xs r 0 ≡ read 48 0 xs r
-unfolding read
-read-entry xs r b = if-lt r 48 _ _ (getD xs r 0) b refl
 
 -- a signal's fall makes no route idle
 fallen-live : (ls : List Line) (sections points stages bars : List ℕ) (a : Route) (was : ℕ) → (was ≡ 0 → ⊥)
@@ -56,7 +52,7 @@ fell ls rs n s = withRoutes s (each n (fallenAt ls rs s) (s .phase)) (s .step) (
 module _ (ls : List Line) (rs : List Route) (n : ℕ) (s : State) (r : ℕ) (b : r < n) (few : n ≤ 48) where
   -- what the fallen state has at a route that there is
   fell-at : read 48 0 (each n (fallenAt ls rs s) (s .phase)) r ≡ fallenAt ls rs s r (getD (s .phase) r 0)
-  fell-at = sym (read-entry _ r (omega arith)) ∙ each-at n (fallenAt ls rs s) (s .phase) r b
+  fell-at = read-at 48 0 _ r (omega arith) ∙ each-at n (fallenAt ls rs s) (s .phase) r b
 
   -- an idle route stays as it is
   pub idle-stays : (was x : ℕ) → getD (s .phase) r 0 ≡ 0 → was ≡ unlessIdle (fell ls rs n s) r was x
@@ -86,7 +82,7 @@ module _ (ls : List Line) (rs : List Route) (n : ℕ) (s : State) (r : ℕ) (b :
     same-held =
         ap (λ p. record { phase = p; step = getD (s .step) r 0; second = getD (s .second) r 0 }) (sym fell-at)
         ∙ ap₂ (λ (y z : ℕ). record { phase = read 48 0 (each n (fallenAt ls rs s) (s .phase)) r; step = y; second = z })
-        (read-entry (s .step) r (omega arith)) (read-entry (s .second) r (omega arith))
+        (sym (read-at 48 0 (s .step) r (omega arith))) (sym (read-at 48 0 (s .second) r (omega arith)))
 
     -- so the same becomes of it
     becomes : heldAfter ls (s .section) (route rs r) e held ≡ routeAfter ls rs (fell ls rs n s) e r
@@ -149,7 +145,7 @@ main-same : (n : ℕ) (rs : List Route) (zeros phases : List ℕ) (x : ℕ) → 
     → mainShows n (each n (λ r was. route rs r .entry) zeros) phases x ≡ mainProceeds n rs phases x
 unfolding mainShows entryShows mainProceeds routeProceeds
 main-same n rs zeros phases x few =
-    any-same n _ _ (λ r b. ap (λ m. eqb (read 48 0 phases r) 1 and eqb m x) (sym (read-entry _ r (omega arith)) ∙ each-at n (λ r was. route rs r .entry) zeros r b))
+    any-same n _ _ (λ r b. ap (λ m. eqb (read 48 0 phases r) 1 and eqb m x) (read-at 48 0 _ r (omega arith) ∙ each-at n (λ r was. route rs r .entry) zeros r b))
 
 module _ (L : Layout) (before s : State) (e : Gives) (few : L .routes ≤ 48) (len : length (s .phase) ≡ 48) where
   -- the state whose signals have fallen
