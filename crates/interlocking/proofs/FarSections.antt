@@ -5,19 +5,20 @@ use mathlib.Core.Bool.{Bool, true, false, not, _&&_}
 use mathlib.Core.List.{List}
 use native.Mathlib.Omega.{arith}
 use borrow.Author.Tests.{eq-eqb, ne-eqb, not-true, not-false}
-use lib.Dec.{eqb}
+use lib.Dec.{eqb, ltb}
 use lib.ListN.{length, getD}
 use Rattle.laws.specs.Choice.{if_then_else_}
-use Rattle.laws.specs.Tests.{_and_, all, any}
+use Rattle.laws.specs.Tests.{_and_, all, lowest}
 use Rattle.laws.specs.Tables.{read}
 use Rattle.laws.proofs.Choice.{if-eq, if-ne, if-both}
 use Rattle.laws.proofs.Tests.{every-stops, every-passes, every-last}
+use Rattle.laws.proofs.Searches.{lowest-some}
 use Rattle.laws.proofs.Arrays.{read-in}
 use Rattle.track.specs.declared.Line.{Line}
 use Rattle.track.specs.declared.Route.{Route}
 use Rattle.track.specs.Objects.{line, route, noLine, noRoute, entrance}
 use Rattle.tables.specs.Readings.{reading}
-use Rattle.tables.specs.Locks.{lockedExitBy, lockedExit}
+use Rattle.tables.specs.Locks.{lockedExit}
 use Rattle.signals.specs.Signals.{enterableBy, enterable, blockProceeds}
 use Rattle.passage.specs.Passage.{arrival, nextBlock, farSection, farStage}
 use Rattle.interlocking.specs.Settle.{Proceeds, farProceedsBy, farDroppedBy, farReadingBy, farMoved, farAfter, passable, wasInStage2, endsBy, directionAfter}
@@ -121,12 +122,6 @@ far-idle directions far dropped k was h =
 
 -- ---- line release
 
--- a locked exit route by its record is one by its number, since the table has that record there
-pub exit-at : (rs : List Route) (phases : List ℕ) (k r n : ℕ) (d : Route) {v : Bool} → length rs ≡ 48 → r < n → n ≤ 48
-    → v ≡ lockedExitBy phases (getD rs r d) k r → v ≡ lockedExit rs phases k r
-unfolding lockedExit
-exit-at rs phases k r n d q b few e = e ∙ ap (λ (a : Route). lockedExitBy phases a k r) (route-in rs r n d q b few)
-
 -- whether a line is released, by the test at which it fails
 module _ (b : Line) (n : ℕ) (rs : List Route) (before stages bars phases : List ℕ) (k w : ℕ) (v : Bool)
     (p : v ≡ wasInStage2 before b k w) where
@@ -141,10 +136,12 @@ module _ (b : Line) (n : ℕ) (rs : List Route) (before stages bars phases : Lis
     unfolding endsBy
     ends-held g = every-passes _ _ v _ false p h (every-stops _ _ u q g)
 
-    -- both hold: a locked exit route decides
-    pub ends-unless-locked : (x : Bool) → x ≡ any n (lockedExit rs phases k) → not u ≡ false → not x ≡ endsBy b n rs before stages bars phases k w
+    -- both hold: a locked exit route decides, the lowest, which is one of the n where there is any
+    pub ends-unless-locked : (r : ℕ) → r ≡ lowest n (lockedExit rs phases k) → not u ≡ false → not (ltb r n) ≡ endsBy b n rs before stages bars phases k w
     unfolding endsBy
-    ends-unless-locked x r g = every-passes _ _ v _ (not x) p h (every-passes _ _ u _ (not x) q g (every-last _ (not x) (ap not r)))
+    ends-unless-locked r e g =
+        every-passes _ _ v _ (not (ltb r n)) p h
+        (every-passes _ _ u _ (not (ltb r n)) q g (every-last _ (not (ltb r n)) (ap not (ap (λ m. ltb m n) e ∙ lowest-some n (lockedExit rs phases k)))))
 
 -- the direction of a line by its record is the one by its number, since the table has that record there
 pub direction-at : (ls : List Line) (n : ℕ) (rs : List Route) (before stages bars phases : List ℕ) (k m was v : ℕ) (d : Line) → length ls ≡ 8 → k < m → m ≤ 8

@@ -137,7 +137,7 @@ endsBy b n rs before stages bars phases l w = every (
 unfoldable pub ends : Layout → State → State → ℕ → ℕ → Bool
 ends L before s l w = endsBy (line (L .line) l) (L .routes) (L .route) (before .stage) (s .stage) (s .bar) (s .phase) l w
 
--- the direction of line l: neutral where its release is told, else as it was; all lines
+-- the direction of line l: neutral where the line is released, else as it was
 unfoldable pub directionAfter : (ℕ → ℕ → Bool) → ℕ → ℕ → ℕ
 directionAfter ended l was = if eqb was neutral then was else if ended l was then neutral else was
 

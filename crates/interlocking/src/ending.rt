@@ -1,15 +1,13 @@
 // Lines become neutral, over the tables of a state that are lent.
-use tables::is_locked_exit;
 use track::Line;
 use track::Route;
 use track::codes::NEUTRAL;
 use track::codes::STAGE_2;
 ghost use mathlib.Core.Path.{_≡_};
 ghost use Prim.Native.Nat.{_≤_};
-ghost use Rattle.laws.specs.Tests.{all, any};
+ghost use Rattle.laws.specs.Tests.{all};
 ghost use Rattle.laws.specs.Tables.{each};
 ghost use Rattle.track.specs.Objects.{line};
-ghost use Rattle.tables.specs.Locks.{lockedExit};
 ghost use Rattle.interlocking.specs.Settle.{passable, wasInStage2, endsBy, directionAfter};
 
 // Block i of line k is open and not barred.
@@ -35,22 +33,6 @@ fn all_passable<'a>(stages: &'a [u8; 64], bars: &'a [u8; 64], k: u8, n: u8) -> b
     true
 }
 
-// One of the first n routes is a locked exit route of line k.
-fn some_exit_locked(rs: [Route; 48], n: u8, phases: &[u8; 48], k: u8) -> bool
-    requires { ⌜ n ≤ 48 ⌝ }
-    ensures { λ x. ⌜ x ≡ any n (lockedExit rs (now (phases .entry)) k) ⌝ }
-{
-    let mut r: u8 = 0;
-    while r < n {
-        let a = rs[r as usize];
-        if is_locked_exit(phases, a, k, r) {
-            return true;
-        }
-        r += 1;
-    }
-    false
-}
-
 // The last block in travel was in stage 2 before the event.
 fn was_in_stage_2(before: &[u8; 64], b: Line, k: u8, w: u8) -> bool
     ensures { λ x. ⌜ x ≡ wasInStage2 (now (before .entry)) b k w ⌝ }
@@ -72,7 +54,6 @@ fn is_ended<'a>(
     k: u8,
     w: u8,
 ) -> bool
-    requires { ⌜ n ≤ 48 ⌝ }
     ensures { λ x. ⌜ x ≡ endsBy b n rs (now (before .entry)) (now (stages .entry)) (now (bars .entry)) (now (phases .entry)) k w ⌝ }
 {
     if !was_in_stage_2(before, b, k, w) {
@@ -81,7 +62,8 @@ fn is_ended<'a>(
     if !all_passable(stages, bars, k, b.blocks) {
         return false;
     }
-    !some_exit_locked(rs, n, phases, k)
+    let locked = searches::lowest_locked_exit(rs, phases, n, k) < n;
+    !locked
 }
 
 // The direction of line k.
@@ -96,7 +78,6 @@ fn direction_after<'a>(
     k: u8,
     was: u8,
 ) -> u8
-    requires { ⌜ n ≤ 48 ⌝ }
     ensures { λ x. ⌜ x ≡ directionAfter (endsBy b n rs (now (before .entry)) (now (stages .entry)) (now (bars .entry)) (now (phases .entry))) k was ⌝ }
 {
     if was == NEUTRAL {
@@ -120,7 +101,7 @@ pub fn directions_after<'a>(
     bars: &'a [u8; 64],
     phases: &'a [u8; 48],
 ) -> [u8; 8]
-    requires { ⌜ (m ≤ 8) × (n ≤ 48) ⌝ }
+    requires { ⌜ m ≤ 8 ⌝ }
     ensures { λ x. ⌜ x ≡ each m (λ k. directionAfter (endsBy (line ls k) n rs (now (before .entry)) (now (stages .entry)) (now (bars .entry)) (now (phases .entry))) k) directions ⌝ }
 {
     let mut direction = directions;

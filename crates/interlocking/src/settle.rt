@@ -1,4 +1,5 @@
 // Far sections, over the tables of a state that are lent: those before the event (old_) and those of now.
+use passage::STATION;
 use tables::direction_of;
 use tables::phase_of;
 use track::Line;
@@ -97,7 +98,7 @@ fn far_proceeds<'a>(
     ensures { λ x. ⌜ ((ls : List Line) → b ≡ line ls l → x ≡ farProceedsBy ls (record { main = mainShows n (now (entries .entry)) (now (phases .entry)); block = blockProceeds ls (now (directions .entry)) (now (points .entry)) (now (stages .entry)) (now (bars .entry)) }) l i w) ⌝ }
 {
     let j = passage::next_block(b, w, i);
-    if j == 8 {
+    if j == STATION {
         return station_proceeds(b, n, entries, phases, w);
     }
     block_proceeds(b, directions, points, stages, bars, l, j, w)

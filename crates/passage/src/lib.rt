@@ -46,21 +46,24 @@ pub fn arrival_end(w: u8) -> u8
     END_A
 }
 
-// What comes after block i in a direction: a block, or 8, the station.
+// No block, but the station.
+pub const STATION: u8 = 8;
+
+// What comes after block i in a direction: a block or the station.
 pub fn next_block(b: Line, w: u8, i: u8) -> u8
     ensures { λ r. ⌜ r ≡ nextBlock b w i ⌝ }
 {
     if w == A_TO_B {
         if b.blocks <= i {
-            return 8;
+            return STATION;
         }
         if i + 1 < b.blocks {
             return i + 1;
         }
-        return 8;
+        return STATION;
     }
     if i == 0 {
-        return 8;
+        return STATION;
     }
     i - 1
 }
@@ -71,7 +74,7 @@ pub fn far_section(b: Line, w: u8, i: u8) -> u8
 {
     let block = b.block;
     let j = next_block(b, w, i);
-    if j == 8 {
+    if j == STATION {
         return track::inner_at(b, arrival_end(w));
     }
     at8(block, j)

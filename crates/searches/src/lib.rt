@@ -12,8 +12,6 @@ use track::Route;
 use track::codes::FREE;
 use track::codes::NEUTRAL;
 use track::is_among;
-use track::line_at;
-use track::route_at;
 ghost use mathlib.Core.Path.{_≡_};
 ghost use mathlib.Core.Bool.{not};
 ghost use lib.Dec.{eqb};
@@ -23,7 +21,9 @@ ghost use Rattle.laws.specs.Tables.{read};
 ghost use Rattle.pairs.specs.Pairs.{placeOf};
 ghost use Rattle.tables.specs.Readings.{pointReading};
 ghost use Rattle.tables.specs.Blocks.{untaken};
-ghost use Rattle.tables.specs.Locks.{lockedExit};
+ghost use Rattle.track.specs.Codes.{neutral};
+ghost use Rattle.track.specs.Lists.{among};
+ghost use Rattle.tables.specs.Locks.{direction, locked, lockedExit};
 ghost use Rattle.searches.specs.Searches.{lacking, misplaced, conflictsWith, routeLocks, lineLocks, failing};
 
 // The section that point p stands in.
@@ -135,25 +135,29 @@ pub fn lowest_conflicting<'a>(conflict: &'a [u8; 2304], phases: &'a [u8; 48], n:
     n
 }
 
-// Route r is locked and lists point p.
-fn route_locks(rs: [Route; 48], phases: &[u8; 48], p: u8, r: u8) -> bool
-    ensures { λ x. ⌜ x ≡ routeLocks rs (now (phases .entry)) p r ⌝ }
+// Route r, of which the record is a, is locked and lists point p.
+fn route_locks(a: Route, phases: &[u8; 48], p: u8, r: u8) -> bool
+    ensures { λ x. ⌜ x ≡ locked (now (phases .entry)) r and among (a .points) (a .point) p ⌝ }
 {
     if !is_locked(phases, r) {
         return false;
     }
-    let a = route_at(rs, r);
     let point = a.point;
     is_among(point, a.points, p)
 }
 
-// The lowest of n routes that is locked and lists point p.
+// The lowest of n routes that is locked and lists point p. Its record alone is taken out of the table, so the table is not copied at each turn.
 pub fn lowest_route_locking(rs: [Route; 48], phases: &[u8; 48], n: u8, p: u8) -> u8
     ensures { λ x. ⌜ x ≡ lowest n (routeLocks rs (now (phases .entry)) p) ⌝ }
 {
     let mut r: u8 = 0;
     while r < n {
-        if route_locks(rs, phases, p, r) {
+        if 48 <= r {
+            r += 1;
+            continue;
+        }
+        let a = rs[r as usize];
+        if route_locks(a, phases, p, r) {
             return r;
         }
         r += 1;
@@ -161,14 +165,13 @@ pub fn lowest_route_locking(rs: [Route; 48], phases: &[u8; 48], n: u8, p: u8) ->
     n
 }
 
-// Line l is secured and lists point p.
-fn line_locks(ls: [Line; 8], directions: &[u8; 8], p: u8, l: u8) -> bool
-    ensures { λ r. ⌜ r ≡ lineLocks ls (now (directions .entry)) p l ⌝ }
+// Line l, of which the record is b, is secured and lists point p.
+fn line_locks(b: Line, directions: &[u8; 8], p: u8, l: u8) -> bool
+    ensures { λ r. ⌜ r ≡ not (eqb (direction (now (directions .entry)) l) neutral) and among (b .points) (b .point) p ⌝ }
 {
     if direction_of(directions, l) == NEUTRAL {
         return false;
     }
-    let b = line_at(ls, l);
     let point = b.point;
     is_among(point, b.points, p)
 }
@@ -179,23 +182,17 @@ pub fn lowest_line_locking(ls: [Line; 8], directions: &[u8; 8], n: u8, p: u8) ->
 {
     let mut l: u8 = 0;
     while l < n {
-        if line_locks(ls, directions, p, l) {
+        if 8 <= l {
+            l += 1;
+            continue;
+        }
+        let b = ls[l as usize];
+        if line_locks(b, directions, p, l) {
             return l;
         }
         l += 1;
     }
     n
-}
-
-// Route r is a locked exit route of line l; an idle one is left at once.
-fn locks_exit(rs: [Route; 48], phases: &[u8; 48], l: u8, r: u8) -> bool
-    ensures { λ x. ⌜ x ≡ lockedExit rs (now (phases .entry)) l r ⌝ }
-{
-    if !is_locked(phases, r) {
-        return false;
-    }
-    let a = route_at(rs, r);
-    is_locked_exit(phases, a, l, r)
 }
 
 // The lowest of n routes that is a locked exit route of line l.
@@ -204,7 +201,12 @@ pub fn lowest_locked_exit(rs: [Route; 48], phases: &[u8; 48], n: u8, l: u8) -> u
 {
     let mut r: u8 = 0;
     while r < n {
-        if locks_exit(rs, phases, l, r) {
+        if 48 <= r {
+            r += 1;
+            continue;
+        }
+        let a = rs[r as usize];
+        if is_locked_exit(phases, a, l, r) {
             return r;
         }
         r += 1;

@@ -1,9 +1,7 @@
 -- A neutral line locks no point; else its list of points decides.
 use Rattle.laws.proofs.Both.{both-asked, boths}
-use Rattle.searches.specs.Searches.{lineLocks}
 use Rattle.searches.proofs.line_locks.Statement.{statement}
 use Rattle.searches.proofs.line_locks.Tie as tie
 
 pub line-locks-spec : {M : Type 1} → statement M
-unfolding lineLocks
-line-locks-spec = tie.close (tie.spec (λ c κs. search boths) (λ c. search boths) (λ c κs. search boths) (λ c κs. search boths) (λ c. both-asked _ _ _ (search boths) (cc)))
+line-locks-spec = tie.close (tie.spec (λ c κs. search boths) (λ c. search boths) (λ c κs. search boths) (λ c. both-asked _ _ _ (search boths) (cc)))
