@@ -111,15 +111,15 @@ static void test_route(int r) {
     want.phase[r] = 1;
     done(HIRUKETAWHA_SET_ROUTE, r, 0);
     want.phase[r] = 2;
-    want.step[r] = 1;
+    want.steps[r] = 1;
     read_section(route->path[6], 2);
     want.phase[r] = 3;
     done(HIRUKETAWHA_CANCEL_ROUTE, r, 0);
     for (int second = 1; second < 90; second++) {
-        want.second[r] = second;
+        want.seconds[r] = second;
         done(HIRUKETAWHA_SECOND, 0, 0);
     }
-    want.phase[r] = want.step[r] = want.second[r] = 0;
+    want.phase[r] = want.steps[r] = want.seconds[r] = 0;
     done(HIRUKETAWHA_SECOND, 0, 0);
     read_section(route->path[6], 1);
 }
@@ -174,8 +174,8 @@ static void print_state(void) {
     FIELD(state, point);
     FIELD(state, order);
     FIELD(state, phase);
-    FIELD(state, step);
-    FIELD(state, second);
+    FIELD(state, steps);
+    FIELD(state, seconds);
     FIELD(state, direction);
     FIELD(state, stage);
     FIELD(state, bar);

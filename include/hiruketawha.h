@@ -123,8 +123,8 @@ struct hiruketawha_state {
     uint8_t point[32];   /* 1 left, 2 right, 3 none */
     uint8_t order[32];   /* the last throw: 0 none, 1 left, 2 right */
     uint8_t phase[48];   /* of a route: 0 idle, 1 locked and its signal at proceed, 2 locked and fallen, 3 cancelling */
-    uint8_t step[48];    /* steps done of letting a route go: 0 to 3 */
-    uint8_t second[48];  /* seconds since a cancel: 0 to 89 */
+    uint8_t steps[48];   /* steps done of letting a route go: 0 to 3 */
+    uint8_t seconds[48]; /* seconds since a cancel: 0 to 89 */
     uint8_t direction[8]; /* of a line: 0 neutral, 1 from A to B, 2 from B to A */
     uint8_t stage[64];   /* of a block, at 8 * line + block: 0 open; 1, 2, 3 held in stage 0, 1, 2 */
     uint8_t bar[64];     /* of a block, likewise: 1 barred, else 0 */

@@ -1,6 +1,6 @@
 // Plays every event file of an archive on its layout, and prints what section 8 says of each: event_cases ARCHIVE
 // The archive is entries: a byte, 2 for a layout file, 1 for an event file of which the panels are to be printed and 0 for one without; the
-// file's length in two bytes, lowest first; and the file. An event file is played on the layout before it.
+// file's length in two bytes, lowest first; and the file. An event file is played on the layout before it; a refused layout prints its line.
 use interlocking::State;
 use layout::Layout;
 use libc::STDERR_FILENO;
@@ -57,6 +57,13 @@ fn entry_end(archive: &[u8], at: usize) -> usize {
     sum(sum(at, 3), length_at(archive, sum(at, 1)))
 }
 
+// The line of a layout file that was refused.
+fn refuse(number: u8, detail: usize) {
+    let mut out = io::buffer();
+    let end = event_file::layout_fault(number as u64, detail as u64, &mut out);
+    print_first(&out, end);
+}
+
 // The layout after the entry at a place: its own, where it is a layout file.
 fn layout_after(before: Layout, archive: &[u8], at: usize) -> Layout {
     let from = sum(at, 3);
@@ -65,6 +72,9 @@ fn layout_after(before: Layout, archive: &[u8], at: usize) -> Layout {
         return before;
     }
     let loaded = layout::load(&archive[from..to]);
+    if loaded.number != 0 {
+        refuse(loaded.number, loaded.detail);
+    }
     loaded.layout
 }
 

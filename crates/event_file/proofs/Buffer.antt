@@ -26,11 +26,12 @@ use Rattle.step_facts.proofs.Step.{step-in-range, run-step-same}
 use Rattle.event_file.specs.declared.Next.{Next}
 use Rattle.event_file.specs.declared.Next.the-variants.{Taken, Bad, Nothing}
 use Rattle.event_file.specs.Read.{eventAt}
-use Rattle.event_file.specs.Lines.{nextCount, mostText, mostLine}
+use Rattle.event_file.specs.Lines.{nextCount, shown, shownInRun, lineOf, mostText, mostLine}
 use Rattle.event_file.specs.Run.{Run}
 use Rattle.event_file.specs.List.{mostFault, layoutWord, eventsWord, faultLine, answerLine, listNext, faultIn, opening, listFrom, printed}
 use Rattle.event_file.specs.Buffer.{roomForLines, mostCalls, isLast, Onward, readOn, goOn, listInCalls, printedInCalls}
 use Rattle.event_file.proofs.PanelText.{text-room, line-room}
+use Rattle.event_file.proofs.Shown.{shown-same}
 use Rattle.event_file.proofs.Onward.{fromPlace}
 use Rattle.event_file.proofs.Outcomes.{Outcome, goes, waits, ends, fails, piece-outcome}
 
@@ -50,12 +51,12 @@ unfolding isLast flatten
 last-none [] e = refl
 last-none (r ∷ reads) e = absurd (let y : _≡_ {A = ℕ} 0 1 = cc in omega arith)
 
-module _ (f : State → Event → Answer) (panel : Bool) (L : Layout) (room : ℕ) (r : mostLine panel ≤ room) (file : List ℕ) where
+module _ (f : State → Event → Answer) (panel : Bool) (show : State → List ℕ) (room : ℕ) (r : mostLine panel ≤ room) (file : List ℕ) where
   -- so many calls print the list from the buffer's place on, wherever that lies in the file
   abbrev Prints : ℕ → Onward → Type 0
   Prints calls on = (gone bytes : List ℕ) (reads : List (List ℕ)) (s : State) (n at : ℕ) → file ≡ gone ++ (bytes ++ flatten reads)
       → at ≤ length bytes → length bytes + length (flatten reads) + length reads < calls + at
-      → on bytes reads (length gone) s n at ≡ fromPlace file f panel L s n (length gone + at)
+      → on bytes reads (length gone) s n at ≡ fromPlace file f panel show s n (length gone + at)
 
   -- ---- after a call
 
@@ -63,7 +64,7 @@ module _ (f : State → Event → Answer) (panel : Bool) (L : Layout) (room : �
     -- what is left and the next read are the next bytes of the file
     read-prints : (reads : List (List ℕ)) (g : Run) → isLast reads ≡ false → file ≡ gone ++ (bytes ++ flatten reads) → g .at ≤ length bytes
         → length bytes + length (flatten reads) + length reads < suc calls + g .at
-        → readOn on bytes reads (length gone) g ≡ fromPlace file f panel L (g .state) (g .count) (length gone + g .at)
+        → readOn on bytes reads (length gone) g ≡ fromPlace file f panel show (g .state) (g .count) (length gone + g .at)
     unfolding isLast flatten readOn
     read-prints [] g q cut h few = absurd (let y : _≡_ {A = ℕ} 0 1 = cc in omega arith)
     read-prints (more ∷ reads) g q cut h few =
@@ -71,9 +72,9 @@ module _ (f : State → Event → Answer) (panel : Bool) (L : Layout) (room : �
         length-append gone (take (g .at) bytes) ∙ ap (λ k. length gone + k) (length-take-le (g .at) bytes h) in
         let fewer : length (drop (g .at) bytes ++ more) + length (flatten reads) + length reads < calls + 0 =
         omega (arith, length-append (drop (g .at) bytes) more, length-drop (g .at) bytes, length-append more (flatten reads)) in
-        subst (λ before. on (drop (g .at) bytes ++ more) reads before (g .state) (g .count) 0 ≡ fromPlace file f panel L (g .state) (g .count) before) there
+        subst (λ before. on (drop (g .at) bytes ++ more) reads before (g .state) (g .count) 0 ≡ fromPlace file f panel show (g .state) (g .count) before) there
         (prints (gone ++ take (g .at) bytes) (drop (g .at) bytes ++ more) reads (g .state) (g .count) 0 again (omega arith) fewer
-        ∙ ap (fromPlace file f panel L (g .state) (g .count)) (add-zero (length (gone ++ take (g .at) bytes))))
+        ∙ ap (fromPlace file f panel show (g .state) (g .count)) (add-zero (length (gone ++ take (g .at) bytes))))
       where
         again : file ≡ gone ++ take (g .at) bytes ++ (drop (g .at) bytes ++ more ++ flatten reads)
         again = cut ∙ ap (λ xs. gone ++ (xs ++ (more ++ flatten reads))) (sym (take-append-drop (g .at) bytes)) ∙ simp append-assoc
@@ -81,8 +82,8 @@ module _ (f : State → Event → Answer) (panel : Bool) (L : Layout) (room : �
     -- by how far the call came
     on-prints : (reads : List (List ℕ)) (s : State) (n at : ℕ) (g : Run) → file ≡ gone ++ (bytes ++ flatten reads)
         → length bytes + length (flatten reads) + length reads < suc calls + at
-        → Outcome f panel L file gone bytes (isLast reads) s n at (suc at) g
-        → fromPlace file f panel L s n (length gone + at) ≡ g .text ++ goOn room on bytes reads (length gone) g
+        → Outcome f panel show file gone bytes (isLast reads) s n at (suc at) g
+        → fromPlace file f panel show s n (length gone + at) ≡ g .text ++ goOn room on bytes reads (length gone) g
     unfolding goOn
     on-prints reads s n at g cut few (goes a b c e) =
         e ∙ ap (λ xs. g .text ++ xs)
@@ -101,38 +102,40 @@ module _ (f : State → Event → Answer) (panel : Bool) (L : Layout) (room : �
   -- ---- all calls
 
   -- each call takes an event or a read, so there are calls enough
-  calls-print : (calls : ℕ) → Prints calls (listInCalls calls f panel L room)
+  calls-print : (calls : ℕ) → Prints calls (listInCalls calls f panel show room)
   unfolding listInCalls
   calls-print zero gone bytes reads s n at cut h few = absurd (omega arith)
   calls-print (suc calls) gone bytes reads s n at cut h few =
-      sym (on-prints calls (listInCalls calls f panel L room) (calls-print calls) gone bytes reads s n at _ cut few
-      (piece-outcome f panel L file gone bytes (isLast reads) (flatten reads) cut (last-none reads) room r s n at h))
+      sym (on-prints calls (listInCalls calls f panel show room) (calls-print calls) gone bytes reads s n at _ cut few
+      (piece-outcome f panel show file gone bytes (isLast reads) (flatten reads) cut (last-none reads) room r s n at h))
 
 -- however the file is cut into reads, with more calls than bytes and later reads together its list is printed
-cut-list-same : (f : State → Event → Answer) (panel : Bool) (L : Layout) (calls room : ℕ) (first : List ℕ) (reads : List (List ℕ)) (s : State) (n : ℕ)
+cut-list-same : (f : State → Event → Answer) (panel : Bool) (show : State → List ℕ) (calls room : ℕ) (first : List ℕ) (reads : List (List ℕ)) (s : State) (n : ℕ)
     → mostLine panel ≤ room → length (flatten (first ∷ reads)) + length reads < calls
-    → listInCalls calls f panel L room first reads 0 s n 0
-    ≡ listFrom (suc (length (flatten (first ∷ reads)))) f panel L (flatten (first ∷ reads)) s n 0
+    → listInCalls calls f panel show room first reads 0 s n 0
+    ≡ listFrom (suc (length (flatten (first ∷ reads)))) f panel show (flatten (first ∷ reads)) s n 0
 unfolding flatten
-cut-list-same f panel L calls room first reads s n r few =
-    calls-print f panel L room r (first ++ flatten reads) calls [] first reads s n 0 refl (omega arith) (omega (arith, length-append first (flatten reads)))
+cut-list-same f panel show calls room first reads s n r few =
+    calls-print f panel show room r (first ++ flatten reads) calls [] first reads s n 0 refl (omega arith) (omega (arith, length-append first (flatten reads)))
 
 -- ---- soundness asked once, before the first event
 
 module _ (panel : Bool) (L : Layout) (file : List ℕ) (h : sound L ≡ true) where
   -- from a state in range the step of a run answers what the step does, and leaves a state in range for what follows
   next-asked-once : (rest other : State → ℕ → List ℕ) → ((t : State) (next : ℕ) → inRange t ≡ true → rest t next ≡ other t next)
-      → (s : State) (n : ℕ) (x : Next) → inRange s ≡ true → listNext (boxInRun L) panel L s n rest x ≡ listNext (box L) panel L s n other x
-  unfolding listNext box boxInRun
+      → (s : State) (n : ℕ) (x : Next) → inRange s ≡ true → listNext (boxInRun L) panel (shownInRun L) s n rest x ≡ listNext (box L) panel (shown L) s n other x
+  unfolding listNext answerLine box boxInRun
   next-asked-once rest other same s n (Taken kind first second next) e =
+      let r : Answer = step L s kind first second in
+      let after = step-in-range L s kind first second e in
       rw (run-step-same L s kind first second h e)
-      (ap (λ xs. answerLine panel L n (step L s kind first second) ++ xs) (same _ next (step-in-range L s kind first second e)))
+      (ap₂ (λ bytes xs. lineOf panel bytes n (r .number) (r .detail) ++ xs) (shown-same L (r .next) h after) (same (r .next) next after))
   next-asked-once rest other same s n (Bad number at) e = refl
   next-asked-once rest other same s n Nothing e = refl
 
   -- so both print the same list, by how many events are allowed
   list-asked-once : (most : ℕ) (s : State) (n at : ℕ) → inRange s ≡ true
-      → listFrom most (boxInRun L) panel L file s n at ≡ listFrom most (box L) panel L file s n at
+      → listFrom most (boxInRun L) panel (shownInRun L) file s n at ≡ listFrom most (box L) panel (shown L) file s n at
   unfolding listFrom
   list-asked-once zero s n at e = refl
   list-asked-once (suc most) s n at e =
@@ -155,7 +158,7 @@ cut-print-same calls room panel layoutFile first reads r few =
     let L : Layout = load layoutFile .layout in
     choice-same (eqb (load layoutFile .number) 0) _ _ _ _
     (λ t. ap₂ (λ xs ys. xs ++ ys) (sym (room-text room (mostLine panel) (opening panel L) r))
-    (cut-list-same (boxInRun L) panel L calls room first reads cold 0 r few
+    (cut-list-same (boxInRun L) panel (shownInRun L) calls room first reads cold 0 r few
     ∙ list-asked-once panel L (flatten (first ∷ reads)) (loaded-sound layoutFile (eqb-true _ 0 t)) _ cold 0 0 cold-in-range))
     (λ t. sym (fault-room room panel layoutWord _ _ r))
 

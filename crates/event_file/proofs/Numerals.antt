@@ -5,13 +5,13 @@ use mathlib.Core.List.{List}
 use native.Mathlib.Omega.{arith}
 use borrow.Author.Needs.{needs}
 use lib.ListN.{length, getD, set, length-set}
-use Rattle.numerals.specs.Digits.{digits}
+use Rattle.numerals.specs.Digits.{decimalDigits}
 use Rattle.numerals.specs.Writes.{Put}
 use Rattle.numerals.proofs.Writes.{put-none, put-one, put-then}
 use Rattle.panel.specs.Panel.{join}
 use Rattle.panel.specs.Writes.{Wrote}
 use Rattle.panel.proofs.Writes.{join-on}
-use Rattle.event_file.specs.Lines.{decimal, two, three, afterSpace, spaced}
+use Rattle.event_file.specs.Lines.{decimal, twoNumbers, threeNumbers, afterSpace, spaced}
 
 -- text that is put is written, as the bytes of a panel's image are
 put-wrote : {a xs b : List ℕ} {at most m : ℕ} → Put a at xs most b m → Wrote a at xs b m
@@ -21,17 +21,17 @@ put-wrote p = record { buffer = p .buffer; place = p .place }
 
 module _ (a b : List ℕ) (at m : ℕ) where
   -- a number, a space, a number
-  pub put-two-made : (c : List ℕ) (x y n : ℕ) → Put a at (digits 20 x) 20 b m → Put (set b m 32) (m + 1) (digits 20 y) 20 c n → Put a at (two x y) 41 c n
-  unfolding two decimal
+  pub put-two-made : (c : List ℕ) (x y n : ℕ) → Put a at (decimalDigits 20 x) 20 b m → Put (set b m 32) (m + 1) (decimalDigits 20 y) 20 c n → Put a at (twoNumbers x y) 41 c n
+  unfolding twoNumbers decimal
   put-two-made c x y n p q = put-then (put-then p (put-one 32)) q
 
   -- a number, a space, two numbers
-  pub put-three-made : (c : List ℕ) (x y z n : ℕ) → Put a at (digits 20 x) 20 b m → Put (set b m 32) (m + 1) (two y z) 41 c n → Put a at (three x y z) 62 c n
-  unfolding three decimal
+  pub put-three-made : (c : List ℕ) (x y z n : ℕ) → Put a at (decimalDigits 20 x) 20 b m → Put (set b m 32) (m + 1) (twoNumbers y z) 41 c n → Put a at (threeNumbers x y z) 62 c n
+  unfolding threeNumbers decimal
   put-three-made c x y z n p q = put-then (put-then p (put-one 32)) q
 
   -- a space, a byte
-  pub put-spaced-made : (x : ℕ) → Put (set a at 32) (at + 1) (digits 3 x) 3 b m → Put a at (afterSpace x) 4 b m
+  pub put-spaced-made : (x : ℕ) → Put (set a at 32) (at + 1) (decimalDigits 3 x) 3 b m → Put a at (afterSpace x) 4 b m
   unfolding afterSpace
   put-spaced-made x p = put-then (put-one 32) p
 

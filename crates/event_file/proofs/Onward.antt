@@ -8,7 +8,6 @@ use native.Mathlib.Omega.{arith}
 use lib.Dec.{ltb}
 use lib.ListN.{length}
 use Rattle.laws.proofs.Choice.{if-both}
-use Rattle.layout.specs.declared.Layout.{Layout}
 use Rattle.interlocking.specs.declared.State.{State}
 use Rattle.interlocking.specs.declared.Answer.{Answer}
 use Rattle.step_facts.specs.Run.{Event}
@@ -61,24 +60,24 @@ module _ (file : List ℕ) where
   unfolding eventAt
   event-past at = if-both (Past at) (ltb at (length file)) (λ t. kind-past at at (numberAt file at) (omega arith) refl) (λ t. tt)
 
-  module _ (f : State → Event → Answer) (panel : Bool) (L : Layout) where
+  module _ (f : State → Event → Answer) (panel : Bool) (show : State → List ℕ) where
     -- ---- one more event is allowed, and there is none
 
     -- an event takes at least a byte, so what is left is enough for what follows it
     next-more : (m : ℕ)
-        → ((s : State) (n at : ℕ) → length file ≤ m + at → listFrom (suc m) f panel L file s n at ≡ listFrom m f panel L file s n at)
+        → ((s : State) (n at : ℕ) → length file ≤ m + at → listFrom (suc m) f panel show file s n at ≡ listFrom m f panel show file s n at)
         → (s : State) (n at : ℕ) (x : Next) → Past at x → length file ≤ suc m + at
-        → listNext f panel L s n (λ t next. listFrom (suc m) f panel L file t n next) x
-        ≡ listNext f panel L s n (λ t next. listFrom m f panel L file t n next) x
+        → listNext f panel show s n (λ t next. listFrom (suc m) f panel show file t n next) x
+        ≡ listNext f panel show s n (λ t next. listFrom m f panel show file t n next) x
     unfolding listNext
     next-more m before s n at (Taken kind first second next) p h =
         let r : Answer = f s (record { kind = kind; first = first; second = second }) in
-        ap (λ xs. answerLine panel L n r ++ xs) (before (r .next) n next (omega (arith, p .0)))
+        ap (λ xs. answerLine panel show n r ++ xs) (before (r .next) n next (omega (arith, p .0)))
     next-more m before s n at (Bad number place) p h = refl
     next-more m before s n at Nothing p h = refl
 
     -- by the events that are allowed
-    one-more : (m : ℕ) (s : State) (n at : ℕ) → length file ≤ m + at → listFrom (suc m) f panel L file s n at ≡ listFrom m f panel L file s n at
+    one-more : (m : ℕ) (s : State) (n at : ℕ) → length file ≤ m + at → listFrom (suc m) f panel show file s n at ≡ listFrom m f panel show file s n at
     unfolding listFrom listNext
     one-more zero s n at h = let past : length file ≤ at = omega arith in rw (← event-none file at past)
     one-more (suc m) s n at h = next-more m (one-more m) s (nextCount n) at (eventAt file at) (event-past at) h
@@ -87,18 +86,18 @@ module _ (file : List ℕ) where
 
     -- the list with as many events as the file may have
     abbrev pub fromPlace : State → ℕ → ℕ → List ℕ
-    fromPlace s n at = listFrom (suc (length file)) f panel L file s n at
+    fromPlace s n at = listFrom (suc (length file)) f panel show file s n at
 
     module _ (s : State) (n at : ℕ) where
       -- it begins with the line of the event there
       pub from-taken : (kind first second next : ℕ) → eventAt file at ≡ Taken kind first second next
           → let r : Answer = f s (record { kind = kind; first = first; second = second }) in
-          fromPlace s n at ≡ answerLine panel L (nextCount n) r ++ fromPlace (r .next) (nextCount n) next
+          fromPlace s n at ≡ answerLine panel show (nextCount n) r ++ fromPlace (r .next) (nextCount n) next
       unfolding listFrom listNext
       from-taken kind first second next e =
           let r : Answer = f s (record { kind = kind; first = first; second = second }) in
           let p : Past at (Taken kind first second next) = subst (Past at) e (event-past at) in
-          rw e (ap (λ xs. answerLine panel L (nextCount n) r ++ xs) (sym (one-more (length file) (r .next) (nextCount n) next (omega (arith, p .0)))))
+          rw e (ap (λ xs. answerLine panel show (nextCount n) r ++ xs) (sym (one-more (length file) (r .next) (nextCount n) next (omega (arith, p .0)))))
 
       -- it is the line of the fault there
       pub from-bad : (number place : ℕ) → eventAt file at ≡ Bad number place → fromPlace s n at ≡ faultLine eventsWord number place

@@ -12,7 +12,6 @@ use Rattle.laws.specs.Choice.{if_then_else_}
 use Rattle.laws.specs.Tests.{_and_}
 use Rattle.laws.specs.Tables.{iter}
 use Rattle.laws.proofs.Choice.{if-both, if-ge}
-use Rattle.layout.specs.declared.Layout.{Layout}
 use Rattle.interlocking.specs.declared.State.{State}
 use Rattle.interlocking.specs.declared.Answer.{Answer}
 use Rattle.step_facts.specs.Run.{Event}
@@ -28,10 +27,10 @@ use Rattle.event_file.proofs.Prefix.{event-same}
 use Rattle.event_file.proofs.Further.{furtherNext, event-further}
 use Rattle.event_file.proofs.Onward.{Past, event-past, fromPlace, from-taken, from-bad, from-none}
 
-module _ (f : State → Event → Answer) (panel : Bool) (L : Layout) (file gone bytes : List ℕ) (last : Bool) where
+module _ (f : State → Event → Answer) (panel : Bool) (show : State → List ℕ) (file gone bytes : List ℕ) (last : Bool) where
   -- the list from a place of the buffer on; `gone` is what the file has before the buffer
   abbrev pub listAt : State → ℕ → ℕ → List ℕ
-  listAt s n at = fromPlace file f panel L s n (length gone + at)
+  listAt s n at = fromPlace file f panel show s n (length gone + at)
 
   -- from a place on a run came so far: it goes on in the same bytes, not before the place `low`; it waits for more of the file; the file
   -- ended; or there is a fault
@@ -47,14 +46,14 @@ module _ (f : State → Event → Answer) (panel : Bool) (L : Layout) (file gone
   module _ (s : State) (n at : ℕ) (h : at ≤ length bytes) where
     -- what stands at a place of the buffer and is read alike in the whole file, taken as in the last piece
     read-outcome : (x : Next) → Past bytes at x → eventAt file (length gone + at) ≡ furtherNext (length gone) x
-        → Outcome s n at (suc at) (nextOf f panel L true s n at x)
+        → Outcome s n at (suc at) (nextOf f panel show true s n at x)
     unfolding nextOf took stopped if_then_else_
     read-outcome (Taken kind first second next) p e =
-        goes (omega arith) (p .0) (p .1) (from-taken file f panel L s n (length gone + at) kind first second (length gone + next) e)
+        goes (omega arith) (p .0) (p .1) (from-taken file f panel show s n (length gone + at) kind first second (length gone + next) e)
     read-outcome (Bad number place) p e =
         rw (both-fail (eqb number 21) false refl)
-        (fails (⊎-elim (λ z. omega (arith, z)) (λ z. omega (arith, z)) p) (from-bad file f panel L s n (length gone + at) number (length gone + place) e))
-    read-outcome Nothing p e = ends refl (from-none file f panel L s n (length gone + at) e)
+        (fails (⊎-elim (λ z. omega (arith, z)) (λ z. omega (arith, z)) p) (from-bad file f panel show s n (length gone + at) number (length gone + place) e))
+    read-outcome Nothing p e = ends refl (from-none file f panel show s n (length gone + at) e)
 
     -- the next event lies past the bytes in the buffer, and more is to come: it waits
     past-outcome : last ≡ false → Outcome s n at (suc at) (stopped s n at 2)
@@ -63,7 +62,7 @@ module _ (f : State → Event → Answer) (panel : Bool) (L : Layout) (file gone
 
     module _ (later : List ℕ) (cut : file ≡ gone ++ (bytes ++ later)) where
       -- the last bytes
-      last-outcome : later ≡ [] → Outcome s n at (suc at) (nextOf f panel L true s n at (eventAt bytes at))
+      last-outcome : later ≡ [] → Outcome s n at (suc at) (nextOf f panel show true s n at (eventAt bytes at))
       last-outcome none =
           read-outcome (eventAt bytes at) (event-past bytes at) (rw (cut, none, append-nil bytes) (event-further gone bytes at))
 
@@ -80,14 +79,14 @@ module _ (f : State → Event → Answer) (panel : Bool) (L : Layout) (file gone
           by-test false l = absurd (some (sym e ∙ sym (event-none bytes at (ltb-false at (length bytes) l))))
 
       -- so an event or a bad number is taken, and what the bytes' end cuts off waits
-      more-outcome : last ≡ false → (x : Next) → eventAt bytes at ≡ x → Past bytes at x → Outcome s n at (suc at) (nextOf f panel L false s n at x)
+      more-outcome : last ≡ false → (x : Next) → eventAt bytes at ≡ x → Past bytes at x → Outcome s n at (suc at) (nextOf f panel show false s n at x)
       unfolding nextOf _and_ if_then_else_
       more-outcome q (Taken kind first second next) e p =
           read-outcome (Taken kind first second next) p
           (kept _ e (λ z. let y : _≡_ {A = ℕ} 0 1 = cc in omega arith) (λ place z. let y : _≡_ {A = ℕ} 0 1 = cc in omega arith))
       more-outcome q (Bad number place) e p = by-number (eqb number 21) refl
         where
-          by-number : (t : Bool) → eqb number 21 ≡ t → Outcome s n at (suc at) (nextOf f panel L false s n at (Bad number place))
+          by-number : (t : Bool) → eqb number 21 ≡ t → Outcome s n at (suc at) (nextOf f panel show false s n at (Bad number place))
           by-number true z = rw z (past-outcome q)
           by-number false z =
               let whole = read-outcome (Bad number place) p
@@ -96,7 +95,7 @@ module _ (f : State → Event → Answer) (panel : Bool) (L : Layout) (file gone
       more-outcome q Nothing e p = past-outcome q
 
       -- whether the bytes are the last or not
-      next-outcome : (last ≡ true → later ≡ []) → (t : Bool) → last ≡ t → Outcome s n at (suc at) (nextOf f panel L t s n at (eventAt bytes at))
+      next-outcome : (last ≡ true → later ≡ []) → (t : Bool) → last ≡ t → Outcome s n at (suc at) (nextOf f panel show t s n at (eventAt bytes at))
       next-outcome none true q = last-outcome (none q)
       next-outcome none false q = more-outcome q (eventAt bytes at) refl (event-past bytes at)
 
@@ -105,7 +104,7 @@ module _ (f : State → Event → Answer) (panel : Bool) (L : Layout) (file gone
   module _ (later : List ℕ) (cut : file ≡ gone ++ (bytes ++ later)) (none : last ≡ true → later ≡ []) where
     -- a turn with room for a line
     roomy-outcome : (room : ℕ) (s : State) (n at : ℕ) → at ≤ length bytes → mostLine panel ≤ room
-        → Outcome s n at (suc at) (turnOf f panel L last bytes room s n at)
+        → Outcome s n at (suc at) (turnOf f panel show last bytes room s n at)
     unfolding turnOf
     roomy-outcome room s n at h r =
         subst (Outcome s n at (suc at)) (if-ge room (mostLine panel) _ _ _ r refl) (next-outcome s n at h later cut none last refl)
@@ -118,7 +117,7 @@ module _ (f : State → Event → Answer) (panel : Bool) (L : Layout) (file gone
     lower s n at g (fails a e) = fails a e
 
     -- any turn
-    turn-outcome : (room : ℕ) (s : State) (n at : ℕ) → at ≤ length bytes → Outcome s n at at (turnOf f panel L last bytes room s n at)
+    turn-outcome : (room : ℕ) (s : State) (n at : ℕ) → at ≤ length bytes → Outcome s n at at (turnOf f panel show last bytes room s n at)
     unfolding turnOf stopped
     turn-outcome room s n at h =
         if-both (Outcome s n at at) (ltb room (mostLine panel)) (λ t. goes (omega arith) (omega arith) h refl)
@@ -137,26 +136,26 @@ module _ (f : State → Event → Answer) (panel : Bool) (L : Layout) (file gone
 
       -- a run that did not stop goes on in the same bytes
       run-outcome : (room : ℕ) (g : Run) → g .stop ≡ 0 → Outcome s n at low g
-          → Outcome s n at low (after g (turnOf f panel L last bytes room (g .state) (g .count) (g .at)))
+          → Outcome s n at low (after g (turnOf f panel show last bytes room (g .state) (g .count) (g .at)))
       run-outcome room g z (goes a b c e) = after-outcome g _ b e (turn-outcome room (g .state) (g .count) (g .at) c)
       run-outcome room g z (waits a b c d e) = absurd (omega arith)
       run-outcome room g z (ends a e) = absurd (omega arith)
       run-outcome room g z (fails a e) = absurd (omega arith)
 
       -- so a turn keeps how far it came: a run that stopped stays as it is
-      turned-outcome : (room : ℕ) (g : Run) → Outcome s n at low g → Outcome s n at low (turnRun f panel L last bytes room g)
+      turned-outcome : (room : ℕ) (g : Run) → Outcome s n at low g → Outcome s n at low (turnRun f panel show last bytes room g)
       unfolding turnRun
       turned-outcome room g o =
           if-both (Outcome s n at low) (eqb (g .stop) 0) (λ t. run-outcome _ g (eqb-true (g .stop) 0 t) o) (λ t. o)
 
     module _ (room : ℕ) (r : mostLine panel ≤ room) (s : State) (n at : ℕ) (h : at ≤ length bytes) where
       -- the first turn has room for a line, and the others keep what it came to
-      turns-outcome : (i : ℕ) → Outcome s n at (suc at) (iter (λ k. turnRun f panel L last bytes room) (suc i) (start s n at))
+      turns-outcome : (i : ℕ) → Outcome s n at (suc at) (iter (λ k. turnRun f panel show last bytes room) (suc i) (start s n at))
       unfolding iter turnRun after start if_then_else_
       turns-outcome zero = roomy-outcome (room - 0) s n at h (omega arith)
       turns-outcome (suc i) = turned-outcome s n at (suc at) (omega arith) room _ (turns-outcome i)
 
       -- so a call with room for a line comes to one of the four, and where it goes on in the same bytes it took an event
-      pub piece-outcome : Outcome s n at (suc at) (pieceOf f panel L last bytes room s n at)
+      pub piece-outcome : Outcome s n at (suc at) (pieceOf f panel show last bytes room s n at)
       unfolding pieceOf
       piece-outcome = turns-outcome 65535

@@ -7,15 +7,16 @@ use borrow.Author.Needs.{needs}
 use Rattle.laws.proofs.Choice.{if-lt, if-ge}
 use Rattle.numbers.specs.declared.Number.{Number}
 use Rattle.numbers.specs.declared.Number.the-variants.{Value, Fault}
-use Rattle.numbers.specs.Number.{numberAt}
+use Rattle.numbers.specs.Number.{numberAt, numberTold}
+use Rattle.numbers.proofs.Cases.{number-same}
 use Rattle.numbers.proofs.Readings.{number-most}
 use Rattle.event_file.specs.declared.Next.{Next}
 use Rattle.event_file.specs.declared.Next.the-variants.{Taken, Bad, Nothing}
-use Rattle.event_file.specs.Read.{Small, withSecond, withFirst, withKind, eventAt}
+use Rattle.event_file.specs.Read.{Small, withSecond, withFirst, withKind, eventAt, nextTold}
 
 -- what is read at a place is not too large
-pub read-small : (file : List ℕ) (at : ℕ) (n : Number) → n ≡ numberAt file at → Small n
-read-small file at n e value next f = number-most file at e f
+pub read-small : (file : List ℕ) (at : ℕ) (n : Number) → numberTold n ≡ numberTold (numberAt file at) → Small n
+read-small file at n e value next f = number-most file at (number-same _ _ e) f
 
 module _ (n : Number) (kind first : ℕ) where
   -- the second number is there
@@ -63,4 +64,17 @@ module _ (file : List ℕ) (at : ℕ) where
   unfolding eventAt
   event-some n r h e q = if-lt _ _ _ _ _ h (rw (← e) q)
 
-pub ruleset events = (needs, read-small, second-taken, second-bad, first-taken, first-bad, kind-taken, kind-bad, event-none, event-some)
+-- no two results are told alike: an event is told in five numbers, a fault in two and the file's end in none, each with all that it holds
+pub next-same : (r q : Next) → nextTold r ≡ nextTold q → r ≡ q
+unfolding nextTold
+next-same (Taken kind first second next) (Taken k a b place) e = cc
+next-same (Taken kind first second next) (Bad number at) e = cc
+next-same (Taken kind first second next) Nothing e = cc
+next-same (Bad number at) (Taken k a b place) e = cc
+next-same (Bad number at) (Bad m place) e = cc
+next-same (Bad number at) Nothing e = cc
+next-same Nothing (Taken k a b place) e = cc
+next-same Nothing (Bad m place) e = cc
+next-same Nothing Nothing e = refl
+
+pub ruleset events = (needs, number-same, second-taken, second-bad, first-taken, first-bad, kind-taken, kind-bad, event-none, event-some)

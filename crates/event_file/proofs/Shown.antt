@@ -8,6 +8,7 @@ use lib.ListN.{length}
 use Rattle.laws.specs.Tests.{_and_}
 use Rattle.laws.proofs.Choice.{if-true, if-false, if-ge}
 use Rattle.track.specs.Objects.{line}
+use Rattle.track.specs.Sizes.{mostBlocks}
 use Rattle.layout.specs.declared.Layout.{Layout}
 use Rattle.layout.specs.Layout.{lineIn}
 use Rattle.layout.specs.Sound.{sound}
@@ -16,13 +17,14 @@ use Rattle.layout_facts.proofs.Sound.{sound-says}
 use Rattle.interlocking.specs.declared.State.{State}
 use Rattle.interlocking.specs.State.{inRange}
 use Rattle.panel.specs.declared.Drawn.{Drawn}
-use Rattle.panel.specs.Panel.{blocks, panelLength, image, answer}
+use Rattle.panel.specs.Panel.{blocks, panelLength, image, answerWhere, answer}
 use Rattle.panel.proofs.Laws.{length-image}
-use Rattle.event_file.specs.Lines.{shown}
+use Rattle.panel.proofs.Answers.{run-answer-same}
+use Rattle.event_file.specs.Lines.{shownBy, shown, shownInRun}
 
 module _ (L : Layout) (w : Ranges L) where
-  -- the first n lines have at most 8 * n blocks
-  blocks-most : (n : ℕ) → n ≤ L .lines → blocks n (L .line) ≤ 8 * n
+  -- the first n lines have at most so many times the blocks of one
+  blocks-most : (n : ℕ) → n ≤ L .lines → blocks n (L .line) ≤ mostBlocks * n
   unfolding blocks lineIn
   blocks-most zero h = omega arith
   blocks-most (suc n) h = let before = blocks-most n (omega arith) in let here = w .lines n h .blockCount in omega arith
@@ -36,13 +38,18 @@ module _ (L : Layout) (w : Ranges L) where
       omega (arith, w .sectionCount .1, w .pointCount, w .signalCount, w .routeCount)
 
 module _ (L : Layout) (s : State) (h : sound L ≡ true) (e : inRange s ≡ true) where
+  -- what a run shows is what the panel shows
+  pub shown-same : shownInRun L s ≡ shown L s
+  unfolding shownInRun shown
+  shown-same = ap (λ (d : Drawn). shownBy d (image L s)) (run-answer-same L s h e 512)
+
   -- 512 bytes are enough, so the answer is 0 with the image's length
   drawn-whole : record { number = 0; length = length (image L s) } ≡ answer L s 512
-  unfolding answer _and_
+  unfolding answer answerWhere _and_
   drawn-whole =
       if-false _ _ _ _ (rw (h, e)) (if-ge 512 (length (image L s)) _ _ _ (omega (arith, length-image L s, length-most L (sound-says L h .ranges))) refl)
 
   -- what a line with the panel shows of a state in range on a sound layout is its image, whole
   pub shown-whole : shown L s ≡ image L s
-  unfolding shown
+  unfolding shown shownBy
   shown-whole = sym (if-true _ _ _ _ (ap (λ (d : Drawn). eqb (d .number) 0) (sym drawn-whole)) refl)

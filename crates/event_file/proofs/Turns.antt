@@ -16,7 +16,6 @@ use Rattle.laws.specs.Choice.{if_then_else_}
 use Rattle.laws.specs.Tests.{_and_}
 use Rattle.laws.specs.Tables.{iter}
 use Rattle.laws.proofs.Choice.{if-true, if-false, if-lt, if-ge}
-use Rattle.layout.specs.declared.Layout.{Layout}
 use Rattle.interlocking.specs.declared.State.{State}
 use Rattle.interlocking.specs.declared.Answer.{Answer}
 use Rattle.step_facts.specs.Run.{Event}
@@ -30,6 +29,7 @@ use Rattle.event_file.specs.Run.{Run, stopped, took, nextOf, turnOf, aft
 use Rattle.numerals.specs.Writes.{Put}
 use Rattle.event_file.proofs.Next.{the-type}
 use Rattle.numerals.proofs.Writes.{put-then, put-within}
+use Rattle.event_file.proofs.Reading.{next-same}
 use Rattle.event_file.proofs.Onward.{Past, event-past}
 
 -- ---- why a run ends
@@ -104,25 +104,25 @@ module _ (a : List ℕ) (p r : Piece) (most : ℕ) where
   either-ended false at why place number h k e = halted-ended place number k e
 
   -- by what stands at the next place, where that is no event: its variant is the one of a fault or the one of the file's end
-  next-ended : (f : State → Event → Answer) (panel : Bool) (L : Layout) (last : Bool) (bytes : List ℕ) (x : Next) → Past bytes (p .at) x
+  next-ended : (f : State → Event → Answer) (panel : Bool) (show : State → List ℕ) (last : Bool) (bytes : List ℕ) (x : Next) → Past bytes (p .at) x
       → (tagOf the-type x ≡ 1) ⊎ (tagOf the-type x ≡ 2) → r ≡ haltedBy last p x
-      → Ended a (p .written) most r (nextOf f panel L last (p .state) (p .count) (p .at) x)
+      → Ended a (p .written) most r (nextOf f panel show last (p .state) (p .count) (p .at) x)
   unfolding nextOf haltedBy
-  next-ended f panel L last bytes (Taken kind first second next) h (inl k) e = absurd (let z : _≡_ {A = ℕ} 0 1 = k in omega arith)
-  next-ended f panel L last bytes (Taken kind first second next) h (inr k) e = absurd (let z : _≡_ {A = ℕ} 0 2 = k in omega arith)
-  next-ended f panel L last bytes (Bad number place) h k e =
+  next-ended f panel show last bytes (Taken kind first second next) h (inl k) e = absurd (let z : _≡_ {A = ℕ} 0 1 = k in omega arith)
+  next-ended f panel show last bytes (Taken kind first second next) h (inr k) e = absurd (let z : _≡_ {A = ℕ} 0 2 = k in omega arith)
+  next-ended f panel show last bytes (Bad number place) h k e =
       either-ended _ (p .at) 2 place number (λ z. let y : 2 ≡ 0 = z in omega arith) (λ z. ⊎-elim (λ y. omega arith) (λ y. omega arith) h) e
-  next-ended f panel L last bytes Nothing h k e =
+  next-ended f panel show last bytes Nothing h k e =
       either-ended last (p .at) 3 (p .at) 2 (λ z. let y : 3 ≡ 0 = z in omega arith) (λ z. let y : 2 ≡ 0 = z in omega arith) e
 
 -- an event's line is written
-taken-went : (panel : Bool) (L : Layout) (a b : List ℕ) (from m n next k : ℕ) (q r : Answer) → n ≡ m → r ≡ q
-    → Put a from (lineOf panel L (r .next) n (r .number) (r .detail)) (mostLine panel) b k
-    → Went a from (mostLine panel) b (soFar (r .next) n next k) (took panel L m next q)
+taken-went : (panel : Bool) (show : State → List ℕ) (a b : List ℕ) (from m n next k : ℕ) (q r : Answer) → n ≡ m → r ≡ q
+    → Put a from (lineOf panel (show (r .next)) n (r .number) (r .detail)) (mostLine panel) b k
+    → Went a from (mostLine panel) b (soFar (r .next) n next k) (took panel show m next q)
 unfolding took answerLine soFar
-taken-went panel L a b from m n next k q r e f t =
-    subst (λ x. Went a from (mostLine panel) b (soFar (r .next) n next k) (took panel L x next q)) e
-    (subst (λ (x : Answer). Went a from (mostLine panel) b (soFar (r .next) n next k) (took panel L n next x)) f
+taken-went panel show a b from m n next k q r e f t =
+    subst (λ x. Went a from (mostLine panel) b (soFar (r .next) n next k) (took panel show x next q)) e
+    (subst (λ (x : Answer). Went a from (mostLine panel) b (soFar (r .next) n next k) (took panel show n next x)) f
     (record { state = refl; count = refl; at = refl; stop = refl; text = t }))
 
 -- ---- the turns of a call
@@ -132,26 +132,26 @@ pub run-within : (a b : List ℕ) (s : State) (n at written : ℕ) (g : Run) →
 unfolding soFar
 run-within a b s n at written g w = omega (arith, w .text .near, w .text .long)
 
-module _ (f : State → Event → Answer) (panel : Bool) (L : Layout) (last : Bool) (bytes : List ℕ) where
+module _ (f : State → Event → Answer) (panel : Bool) (show : State → List ℕ) (last : Bool) (bytes : List ℕ) where
   -- with room for a line: by what stands at the place
   turn-goes : (room v : ℕ) (s : State) (n at : ℕ) (x : Next) → v ≡ mostLine panel → v ≤ room → x ≡ eventAt bytes at
-      → nextOf f panel L last s n at x ≡ turnOf f panel L last bytes room s n at
+      → nextOf f panel show last s n at x ≡ turnOf f panel show last bytes room s n at
   unfolding turnOf
-  turn-goes room v s n at x d h e = if-ge room (mostLine panel) _ _ _ (omega (arith, d)) (ap (nextOf f panel L last s n at) e)
+  turn-goes room v s n at x d h e = if-ge room (mostLine panel) _ _ _ (omega (arith, d)) (ap (nextOf f panel show last s n at) e)
 
   -- with no room for it: it stops
   turn-full : (room v : ℕ) (s : State) (n at : ℕ) → v ≡ mostLine panel → room < v
-      → stopped s n at 1 ≡ turnOf f panel L last bytes room s n at
+      → stopped s n at 1 ≡ turnOf f panel show last bytes room s n at
   unfolding turnOf
   turn-full room v s n at e h = if-lt room (mostLine panel) _ _ _ (omega (arith, e)) refl
 
   module _ (room : ℕ) (g : Run) where
     -- the run after so many turns
     abbrev runAt : ℕ → Run
-    runAt i = iter (λ k. turnRun f panel L last bytes room) i g
+    runAt i = iter (λ k. turnRun f panel show last bytes room) i g
 
     -- one turn more
-    more-turns : (i : ℕ) → runAt (i + 1) ≡ turnRun f panel L last bytes room (runAt i)
+    more-turns : (i : ℕ) → runAt (i + 1) ≡ turnRun f panel show last bytes room (runAt i)
     unfolding iter
     more-turns i = rw add-one
 
@@ -176,13 +176,13 @@ module _ (f : State → Event → Answer) (panel : Bool) (L : Layout) (last : Bo
 
     -- a turn more: what it writes stands behind what was written
     run-on : (b c : List ℕ) (p r : Piece) (i : ℕ) → Went a 0 (length a) b p (ranTo i) → p .stop ≡ 0
-        → Went b (p .written) (length b - p .written) c r (turnOf f panel L last bytes (length b - p .written) (p .state) (p .count) (p .at))
+        → Went b (p .written) (length b - p .written) c r (turnOf f panel show last bytes (length b - p .written) (p .state) (p .count) (p .at))
         → Went a 0 (length a) c r (ranTo (i + 1))
     unfolding turnRun after
     run-on b c p r i w z t =
         let g : Run = ranTo i in
         let room : length b - p .written ≡ length a - length (g .text) = omega (arith, w .text .long, w .text .place) in
-        let goes : Went b (p .written) (length b - p .written) c r (turnOf f panel L last bytes (length a - length (g .text)) (g .state) (g .count) (g .at)) =
+        let goes : Went b (p .written) (length b - p .written) c r (turnOf f panel show last bytes (length a - length (g .text)) (g .state) (g .count) (g .at)) =
         rw (← room, ← w .state, ← w .count, ← w .at) t in
         let wide : length (g .text) + (length b - p .written) ≤ length a = omega (arith, w .text .long, w .text .place, w .text .near) in
         subst (Went a 0 (length a) c r)
@@ -204,13 +204,13 @@ module _ (f : State → Event → Answer) (panel : Bool) (L : Layout) (last : Bo
 
     -- all turns are done
     pub run-done : (b : List ℕ) (p r : Piece) (i : ℕ) → Went a 0 (length a) b p (ranTo i) → r ≡ p → i ≤ turns → turns ≤ i
-        → Went a 0 (length a) b r (pieceOf f panel L last bytes (length a) s n at)
+        → Went a 0 (length a) b r (pieceOf f panel show last bytes (length a) s n at)
     unfolding pieceOf
     run-done b p r i w q h k = let e : turns ≡ i = omega arith in rw (q, e) w
 
     -- or the run stops before
     run-stopped : (b : List ℕ) (p : Piece) (i : ℕ) → Went a 0 (length a) b p (ranTo i) → i ≤ turns → (p .stop ≡ 0 → ⊥)
-        → Went a 0 (length a) b p (pieceOf f panel L last bytes (length a) s n at)
+        → Went a 0 (length a) b p (pieceOf f panel show last bytes (length a) s n at)
     unfolding pieceOf
     run-stopped b p i w h z =
         let e : turns - i + i ≡ turns = omega arith in
@@ -219,14 +219,14 @@ module _ (f : State → Event → Answer) (panel : Bool) (L : Layout) (last : Bo
     module _ (b : List ℕ) (t : State) (m place written i : ℕ) (w : Went a 0 (length a) b (soFar t m place written) (ranTo i)) (l : i < turns)
         (v : ℕ) (d : v ≡ mostLine panel) where
       -- a turn that stops ends the run: what the record then holds is the run over the whole piece
-      ended-run : (r : Piece) → Ended b written (length b - written) r (turnOf f panel L last bytes (length b - written) t m place)
-          → Went a 0 (length a) b r (pieceOf f panel L last bytes (length a) s n at)
+      ended-run : (r : Piece) → Ended b written (length b - written) r (turnOf f panel show last bytes (length b - written) t m place)
+          → Went a 0 (length a) b r (pieceOf f panel show last bytes (length a) s n at)
       unfolding soFar
       ended-run r e = run-stopped b r (i + 1) (run-on b b (soFar t m place written) r i w refl (e .went)) (omega arith) (e .stops)
 
       -- no room for another line
       pub run-full : (p r : Piece) → length b - written < v → p ≡ soFar t m place written → r ≡ halted p place 1
-          → Went a 0 (length a) b r (pieceOf f panel L last bytes (length a) s n at)
+          → Went a 0 (length a) b r (pieceOf f panel show last bytes (length a) s n at)
       unfolding soFar
       run-full p r h e q =
           ended-run r (subst (Ended b written (length b - written) r) (turn-full (length b - written) v t m place d h)
@@ -236,22 +236,22 @@ module _ (f : State → Event → Answer) (panel : Bool) (L : Layout) (last : Bo
       module _ (x : Next) (h : v ≤ length b - written) (e : x ≡ eventAt bytes place) where
         -- no event stands at the next place
         pub run-halted : (p r : Piece) → (tagOf the-type x ≡ 1) ⊎ (tagOf the-type x ≡ 2) → p ≡ soFar t m place written → r ≡ haltedBy last p x
-            → Went a 0 (length a) b r (pieceOf f panel L last bytes (length a) s n at)
+            → Went a 0 (length a) b r (pieceOf f panel show last bytes (length a) s n at)
         unfolding soFar
         run-halted p r k c q =
             ended-run r (subst (Ended b written (length b - written) r) (turn-goes (length b - written) v t m place x d h e)
-            (next-ended b (soFar t m place written) r (length b - written) f panel L last bytes x
+            (next-ended b (soFar t m place written) r (length b - written) f panel show last bytes x
             (subst (Past bytes place) (sym e) (event-past bytes place)) k (q ∙ ap (λ (y : Piece). haltedBy last y x) c)))
 
         -- an event is answered, and its line is written
         pub run-taken : (c : List ℕ) (kind first second next number k : ℕ) (r : Answer) → x ≡ Taken kind first second next
             → r ≡ f t (record { kind = kind; first = first; second = second }) → number ≡ nextCount m
-            → Put b written (lineOf panel L (r .next) number (r .number) (r .detail)) (mostLine panel) c k
+            → Put b written (lineOf panel (show (r .next)) number (r .number) (r .detail)) (mostLine panel) c k
             → Went a 0 (length a) c (soFar (r .next) number next k) (ranTo (i + 1))
         unfolding soFar nextOf
         run-taken c kind first second next number k r o q u line =
-            let went : Went b written (mostLine panel) c (soFar (r .next) number next k) (nextOf f panel L last t m place x) =
-            rw o (taken-went panel L b c written (nextCount m) number next k _ r u q line) in
+            let went : Went b written (mostLine panel) c (soFar (r .next) number next k) (nextOf f panel show last t m place x) =
+            rw o (taken-went panel show b c written (nextCount m) number next k _ r u q line) in
             run-on b c (soFar t m place written) (soFar (r .next) number next k) i w refl
             (subst (Went b written (length b - written) c (soFar (r .next) number next k)) (turn-goes (length b - written) v t m place x d h e)
             (record {
@@ -262,4 +262,4 @@ module _ (f : State → Event → Answer) (panel : Bool) (L : Layout) (last : Bo
               text = put-within (length b - written) (omega (arith, d)) (went .text);
             }))
 
-pub ruleset runs = (needs, run-start, run-within, run-full, run-halted, run-done)
+pub ruleset runs = (needs, next-same, run-start, run-within, run-full, run-halted, run-done)

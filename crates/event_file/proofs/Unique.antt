@@ -7,6 +7,7 @@ use Rattle.laws.proofs.Only.{Determines, only}
 use Rattle.numerals.proofs.Unique.{DeterminesBytes}
 use Rattle.interlocking.specs.declared.State.{State}
 use Rattle.event_file.specs.declared.pieces.Piece.{Piece}
+use Rattle.event_file.proofs.Reading.{next-same}
 use Rattle.event_file.proofs.next_event.Reads as next-event
 use Rattle.event_file.proofs.frame.opening_line.Reads as opening-line
 use Rattle.event_file.proofs.frame.layout_fault.Reads as layout-fault
@@ -16,13 +17,13 @@ use Rattle.event_file.proofs.pieces.run_piece.Reads as run-piece
 
 -- what stands at a place of an event file
 pub next-event-determined : Determines next-event.Post
-next-event-determined κs a r q s = only
+next-event-determined κs a r q s p o = next-same r q (only p o)
 
 -- what stands before the first event
 pub opening-line-determined : DeterminesBytes (λ κs s. now (s .1 .1 .0)) opening-line.Post
 opening-line-determined κs a r q s t p o = (only (p .place) (o .place), only (p .buffer) (o .buffer))
 
--- the line of a refused layout
+-- the line of a layout file's answer
 pub layout-fault-determined : DeterminesBytes (λ κs s. now (s .1 .1 .0)) layout-fault.Post
 layout-fault-determined κs a r q s t p o = (only (p .place) (o .place), only (p .buffer) (o .buffer))
 

@@ -10,9 +10,8 @@ use lib.ListN.{length, take, getD, set, length-set}
 use lib.Seq.{take-suc, take-length}
 use Rattle.laws.specs.Choice.{if_then_else_}
 use Rattle.layout.specs.declared.Layout.{Layout}
-use Rattle.interlocking.specs.declared.State.{State}
 use Rattle.interlocking.specs.State.{cold}
-use Rattle.event_file.specs.Lines.{two, lineOf, mostLine}
+use Rattle.event_file.specs.Lines.{twoNumbers, shown, lineOf, mostLine}
 use Rattle.event_file.specs.List.{header, faultLine, mostFault, opening, openingIn}
 use Rattle.numerals.specs.Writes.{Put}
 use Rattle.numerals.proofs.Writes.{put-one, put-then, put-within}
@@ -47,13 +46,13 @@ pub ruleset words = (needs, word-start, word-on, word-end)
 
 module _ (word a b : List ℕ) (number detail m : ℕ) where
   -- the word, the two numbers and the end
-  pub fault-made : (c : List ℕ) (k : ℕ) → length word ≡ 7 → Put a 0 word (length word) b m → Put b m (two number detail) 41 c k
+  pub fault-made : (c : List ℕ) (k : ℕ) → length word ≡ 7 → Put a 0 word (length word) b m → Put b m (twoNumbers number detail) 41 c k
       → Put a 0 (faultLine word number detail) mostFault (set c k 10) (k + 1)
   unfolding faultLine
   fault-made c k e p q = put-within mostFault (omega arith) (put-then (put-then p q) (put-one 10))
 
   -- the buffer keeps its length
-  pub fault-long : (c : List ℕ) (k : ℕ) → Put a 0 word (length word) b m → Put b m (two number detail) 41 c k → length (set c k 10) ≡ length a
+  pub fault-long : (c : List ℕ) (k : ℕ) → Put a 0 word (length word) b m → Put b m (twoNumbers number detail) 41 c k → length (set c k 10) ≡ length a
   fault-long c k p q = length-set c k 10 ∙ q .long ∙ p .long
 
 pub ruleset faults = (needs, put-no-room, put-room)
@@ -61,17 +60,13 @@ pub ruleset faults = (needs, put-no-room, put-room)
 -- ---- what stands before the first event
 
 module _ (L : Layout) (a b : List ℕ) (m : ℕ) where
-  -- the state whose line is written is the cold start
-  pub cold-made : (s : State) → s ≡ cold → Put a 0 (lineOf true L s 0 0 0) (mostLine true) b m → Put a 0 (lineOf true L cold 0 0 0) (mostLine true) b m
-  cold-made s e p = rw (← e) p
-
   module _ (p : Bool) (v : ℕ) (e : v ≡ mostLine p) where
     -- no room: nothing is written
     pub opening-none : length a < v → Put a 0 (openingIn (length a) p L) (mostLine p) a 0
     opening-none h = put-no-room a 0 (mostLine p) (opening p L) (omega (arith, e))
 
     -- room, with the panel: the cold start's line
-    pub opening-cold : v ≤ length a → p ≡ true → Put a 0 (lineOf true L cold 0 0 0) (mostLine true) b m → Put a 0 (openingIn (length a) p L) (mostLine p) b m
+    pub opening-cold : v ≤ length a → p ≡ true → Put a 0 (lineOf true (shown L cold) 0 0 0) (mostLine true) b m → Put a 0 (openingIn (length a) p L) (mostLine p) b m
     unfolding opening if_then_else_
     opening-cold h t q = put-room a 0 (mostLine p) (opening p L) b m (omega (arith, e)) (rw t q)
 

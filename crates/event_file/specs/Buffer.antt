@@ -6,13 +6,13 @@ use mathlib.Core.List.{List, [], _∷_, _++_}
 use lib.ListN.{drop}
 use lib.Dec.{eqb, ltb}
 use Rattle.laws.specs.Choice.{if_then_else_}
-use Rattle.layout.specs.declared.Layout.{Layout}
 use Rattle.layout.specs.declared.Loaded.{Loaded}
 use Rattle.layout.specs.Load.{load}
 use Rattle.interlocking.specs.declared.State.{State}
 use Rattle.interlocking.specs.declared.Answer.{Answer}
 use Rattle.interlocking.specs.State.{cold}
 use Rattle.step_facts.specs.Run.{Event, boxInRun}
+use Rattle.event_file.specs.Lines.{shownInRun}
 use Rattle.event_file.specs.Run.{Run, pieceOf}
 use Rattle.event_file.specs.List.{layoutWord, eventsWord, faultIn, openingIn}
 
@@ -46,16 +46,16 @@ goOn room on bytes reads before g =
     else faultIn room eventsWord (g .stop) (before + g .at)
 
 -- the list from a place of the buffer on in so many calls at most, each with so much room
-unfoldable pub listInCalls : ℕ → (State → Event → Answer) → Bool → Layout → ℕ → Onward
-listInCalls zero f panel L room bytes reads before s n at = []
-listInCalls (suc calls) f panel L room bytes reads before s n at =
-    let g : Run = pieceOf f panel L (isLast reads) bytes room s n at in
-    g .text ++ goOn room (listInCalls calls f panel L room) bytes reads before g
+unfoldable pub listInCalls : ℕ → (State → Event → Answer) → Bool → (State → List ℕ) → ℕ → Onward
+listInCalls zero f panel show room bytes reads before s n at = []
+listInCalls (suc calls) f panel show room bytes reads before s n at =
+    let g : Run = pieceOf f panel show (isLast reads) bytes room s n at in
+    g .text ++ goOn room (listInCalls calls f panel show room) bytes reads before g
 
 -- all that the program prints of a layout file and the reads of an event file, the first and those after it
 unfoldable pub printedInCalls : ℕ → ℕ → Bool → List ℕ → List ℕ → List (List ℕ) → List ℕ
 printedInCalls calls room panel layoutFile first reads =
     let loaded : Loaded = load layoutFile in
     if eqb (loaded .number) 0 then
-    openingIn room panel (loaded .layout) ++ listInCalls calls (boxInRun (loaded .layout)) panel (loaded .layout) room first reads 0 cold 0 0
+    openingIn room panel (loaded .layout) ++ listInCalls calls (boxInRun (loaded .layout)) panel (shownInRun (loaded .layout)) room first reads 0 cold 0 0
     else faultIn room layoutWord (loaded .number) (loaded .detail)

@@ -16,7 +16,7 @@ use Rattle.step_facts.specs.Run.{Event, box}
 use Rattle.event_file.specs.declared.Next.{Next}
 use Rattle.event_file.specs.declared.Next.the-variants.{Taken, Bad, Nothing}
 use Rattle.event_file.specs.Read.{eventAt}
-use Rattle.event_file.specs.Lines.{two, lineEnd, nextCount, lineOf, mostLine}
+use Rattle.event_file.specs.Lines.{twoNumbers, lineEnd, nextCount, shown, lineOf, mostLine}
 
 -- the words `layout ` and `events `, and the header `event answer detail` with its line's end
 unfoldable pub layoutWord : List ℕ
@@ -30,33 +30,33 @@ header = 101 ∷ 118 ∷ 101 ∷ 110 ∷ 116 ∷ 32 ∷ 97 ∷ 110 ∷ 115 ∷ 1
 
 -- a word with an answer and its detail
 unfoldable pub faultLine : List ℕ → ℕ → ℕ → List ℕ
-faultLine word number detail = word ++ two number detail ++ (lineEnd ∷ [])
+faultLine word number detail = word ++ twoNumbers number detail ++ (lineEnd ∷ [])
 
 -- the most bytes of that: seven, two numbers with a space between, and the end
 abbrev pub mostFault : ℕ
 mostFault = 49
 
--- the line of an answered event
-unfoldable pub answerLine : Bool → Layout → ℕ → Answer → List ℕ
-answerLine panel L n r = lineOf panel L (r .next) n (r .number) (r .detail)
+-- the line of an answered event, where show says what is shown of a state
+unfoldable pub answerLine : Bool → (State → List ℕ) → ℕ → Answer → List ℕ
+answerLine panel show n r = lineOf panel (show (r .next)) n (r .number) (r .detail)
 
 -- what stands at a place: an event's line and what follows it; a fault ends the list, and so does the file's end
-unfoldable pub listNext : (State → Event → Answer) → Bool → Layout → State → ℕ → (State → ℕ → List ℕ) → Next → List ℕ
-listNext f panel L s n rest (Taken kind first second next) =
-    answerLine panel L n (f s (record { kind = kind; first = first; second = second }))
+unfoldable pub listNext : (State → Event → Answer) → Bool → (State → List ℕ) → State → ℕ → (State → ℕ → List ℕ) → Next → List ℕ
+listNext f panel show s n rest (Taken kind first second next) =
+    answerLine panel show n (f s (record { kind = kind; first = first; second = second }))
     ++ rest (f s (record { kind = kind; first = first; second = second }) .next) next
-listNext f panel L s n rest (Bad number at) = faultLine eventsWord number at
-listNext f panel L s n rest Nothing = []
+listNext f panel show s n rest (Bad number at) = faultLine eventsWord number at
+listNext f panel show s n rest Nothing = []
 
 -- the list from a place of the file on, of so many events at most
-unfoldable pub listFrom : ℕ → (State → Event → Answer) → Bool → Layout → List ℕ → State → ℕ → ℕ → List ℕ
-listFrom zero f panel L file s n at = []
-listFrom (suc most) f panel L file s n at =
-    listNext f panel L s (nextCount n) (λ t next. listFrom most f panel L file t (nextCount n) next) (eventAt file at)
+unfoldable pub listFrom : ℕ → (State → Event → Answer) → Bool → (State → List ℕ) → List ℕ → State → ℕ → ℕ → List ℕ
+listFrom zero f panel show file s n at = []
+listFrom (suc most) f panel show file s n at =
+    listNext f panel show s (nextCount n) (λ t next. listFrom most f panel show file t (nextCount n) next) (eventAt file at)
 
 -- before the first event: the header, or the cold start's line with its panel
 unfoldable pub opening : Bool → Layout → List ℕ
-opening panel L = if panel then lineOf panel L cold 0 0 0 else header
+opening panel L = if panel then lineOf panel (shown L cold) 0 0 0 else header
 
 -- a fault's line and the opening in a buffer of so much room, and nothing where that may be too little
 abbrev pub faultIn : ℕ → List ℕ → ℕ → ℕ → List ℕ
@@ -70,5 +70,5 @@ unfoldable pub printed : Bool → List ℕ → List ℕ → List ℕ
 printed panel layoutFile file =
     let loaded : Loaded = load layoutFile in
     if eqb (loaded .number) 0 then
-    opening panel (loaded .layout) ++ listFrom (suc (length file)) (box (loaded .layout)) panel (loaded .layout) file cold 0 0
+    opening panel (loaded .layout) ++ listFrom (suc (length file)) (box (loaded .layout)) panel (shown (loaded .layout)) file cold 0 0
     else faultLine layoutWord (loaded .number) (loaded .detail)

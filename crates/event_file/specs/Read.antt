@@ -1,7 +1,7 @@
 -- Events in a file (sections 3 and 8): three numbers of the number form each, one event after another.
 use Prim.Native.Nat.{ℕ, _≤_}
 use mathlib.Core.Path.{_≡_}
-use mathlib.Core.List.{List}
+use mathlib.Core.List.{List, [], _∷_}
 use lib.ListN.{length}
 use lib.Dec.{ltb}
 use Rattle.laws.specs.Choice.{if_then_else_}
@@ -34,3 +34,10 @@ withKind file (Fault number at) = Bad number at
 -- with the place that section 2 tells of; or nothing, where the file ended after the event before
 unfoldable pub eventAt : List ℕ → ℕ → Next
 eventAt file at = if ltb at (length file) then withKind file (numberAt file at) else Nothing
+
+-- section 8, the paper's number and values of each case: 0, the event's three numbers and the place after it; or 21 or 22 and the place that section 2
+-- tells of; nothing where the file ended after the event before
+unfoldable pub nextTold : Next → List ℕ
+nextTold (Taken kind first second next) = 0 ∷ kind ∷ first ∷ second ∷ next ∷ []
+nextTold (Bad number at) = number ∷ at ∷ []
+nextTold Nothing = []

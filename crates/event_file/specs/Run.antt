@@ -8,7 +8,6 @@ use lib.Dec.{eqb, ltb}
 use Rattle.laws.specs.Choice.{if_then_else_}
 use Rattle.laws.specs.Tests.{_and_}
 use Rattle.laws.specs.Tables.{iter}
-use Rattle.layout.specs.declared.Layout.{Layout}
 use Rattle.interlocking.specs.declared.State.{State}
 use Rattle.interlocking.specs.declared.Answer.{Answer}
 use Rattle.step_facts.specs.Run.{Event}
@@ -34,29 +33,29 @@ unfoldable pub stopped : State → ℕ → ℕ → ℕ → Run
 stopped s n at why = record { state = s; count = n; at = at; stop = why; text = [] }
 
 -- an event is answered, and its line is printed
-unfoldable pub took : Bool → Layout → ℕ → ℕ → Answer → Run
-took panel L n next r = record { state = r .next; count = n; at = next; stop = 0; text = answerLine panel L n r }
+unfoldable pub took : Bool → (State → List ℕ) → ℕ → ℕ → Answer → Run
+took panel show n next r = record { state = r .next; count = n; at = next; stop = 0; text = answerLine panel show n r }
 
 -- what stands at the next place; where the piece is not the file's last, an event that lies past its end is not a fault
-unfoldable pub nextOf : (State → Event → Answer) → Bool → Layout → Bool → State → ℕ → ℕ → Next → Run
-nextOf f panel L last s n at (Taken kind first second next) =
-    took panel L (nextCount n) next (f s (record { kind = kind; first = first; second = second }))
-nextOf f panel L last s n at (Bad number place) = if eqb number 21 and not last then stopped s n at 2 else stopped s n place number
-nextOf f panel L last s n at Nothing = if last then stopped s n at 3 else stopped s n at 2
+unfoldable pub nextOf : (State → Event → Answer) → Bool → (State → List ℕ) → Bool → State → ℕ → ℕ → Next → Run
+nextOf f panel show last s n at (Taken kind first second next) =
+    took panel show (nextCount n) next (f s (record { kind = kind; first = first; second = second }))
+nextOf f panel show last s n at (Bad number place) = if eqb number 21 and not last then stopped s n at 2 else stopped s n place number
+nextOf f panel show last s n at Nothing = if last then stopped s n at 3 else stopped s n at 2
 
 -- one turn, with so much room for its line
-unfoldable pub turnOf : (State → Event → Answer) → Bool → Layout → Bool → List ℕ → ℕ → State → ℕ → ℕ → Run
-turnOf f panel L last bytes room s n at =
-    if ltb room (mostLine panel) then stopped s n at 1 else nextOf f panel L last s n at (eventAt bytes at)
+unfoldable pub turnOf : (State → Event → Answer) → Bool → (State → List ℕ) → Bool → List ℕ → ℕ → State → ℕ → ℕ → Run
+turnOf f panel show last bytes room s n at =
+    if ltb room (mostLine panel) then stopped s n at 1 else nextOf f panel show last s n at (eventAt bytes at)
 
 -- what is printed after what was printed
 unfoldable pub after : Run → Run → Run
 after g t = record { state = t .state; count = t .count; at = t .at; stop = t .stop; text = g .text ++ t .text }
 
 -- a turn of a run that did not stop
-unfoldable pub turnRun : (State → Event → Answer) → Bool → Layout → Bool → List ℕ → ℕ → Run → Run
-turnRun f panel L last bytes room g =
-    if eqb (g .stop) 0 then after g (turnOf f panel L last bytes (room - length (g .text)) (g .state) (g .count) (g .at)) else g
+unfoldable pub turnRun : (State → Event → Answer) → Bool → (State → List ℕ) → Bool → List ℕ → ℕ → Run → Run
+turnRun f panel show last bytes room g =
+    if eqb (g .stop) 0 then after g (turnOf f panel show last bytes (room - length (g .text)) (g .state) (g .count) (g .at)) else g
 
 -- before the first turn
 unfoldable pub start : State → ℕ → ℕ → Run
@@ -67,8 +66,8 @@ abbrev pub turns : ℕ
 turns = 65536
 
 -- a run over a piece of the file from a place on
-unfoldable pub pieceOf : (State → Event → Answer) → Bool → Layout → Bool → List ℕ → ℕ → State → ℕ → ℕ → Run
-pieceOf f panel L last bytes room s n at = iter (λ i. turnRun f panel L last bytes room) turns (start s n at)
+unfoldable pub pieceOf : (State → Event → Answer) → Bool → (State → List ℕ) → Bool → List ℕ → ℕ → State → ℕ → ℕ → Run
+pieceOf f panel show last bytes room s n at = iter (λ i. turnRun f panel show last bytes room) turns (start s n at)
 
 -- ---- how the code holds it
 

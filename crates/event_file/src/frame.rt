@@ -8,7 +8,7 @@ ghost use mathlib.Core.Bool.{true};
 ghost use Prim.Native.Nat.{_+_, _≤_};
 ghost use lib.ListN.{length};
 ghost use Rattle.interlocking.specs.State.{cold};
-ghost use Rattle.event_file.specs.Lines.{lineOf, mostLine};
+ghost use Rattle.event_file.specs.Lines.{shown, lineOf, mostLine};
 ghost use Rattle.event_file.specs.List.{layoutWord, eventsWord, header, faultLine, mostFault, faultIn, openingIn};
 ghost use Rattle.numerals.specs.Writes.{Put};
 
@@ -37,10 +37,12 @@ fn put_header(out: &mut [u8]) -> usize
 // The line of the cold start with its panel.
 fn put_cold(layout: Layout, out: &mut [u8]) -> usize
     requires { ⌜ mostLine true ≤ length (now out) ⌝ }
-    ensures { λ r. ⌜ Put (now (out .entry)) 0 (lineOf true layout cold 0 0 0) (mostLine true) (now (out .exit)) r ⌝ }
+    ensures { λ r. ⌜ Put (now (out .entry)) 0 (lineOf true (shown layout cold) 0 0 0) (mostLine true) (now (out .exit)) r ⌝ }
 {
     let state = State::cold();
-    lines::put_panel_line(layout, state, 0, 0, 0, out, 0)
+    let mut image = [0u8; 512];
+    let drawn = panel::panel(state, layout, &mut image);
+    lines::put_image_line(&image, drawn.length, 0, 0, 0, out, 0)
 }
 
 // What stands before the first event, where the buffer has room for a line.
@@ -67,7 +69,7 @@ fn put_fault(word: &[u8], number: u64, detail: u64, out: &mut [u8]) -> usize
     end + 1
 }
 
-// The line of a refused layout, where the buffer has room for it.
+// The line of a layout file's answer, where the buffer has room for it.
 pub fn layout_fault(number: u64, detail: u64, out: &mut [u8]) -> usize
     ensures { λ r. ⌜ Put (now (out .entry)) 0 (faultIn (length (now (out .entry))) layoutWord number detail) mostFault (now (out .exit)) r ⌝ }
 {

@@ -11,7 +11,7 @@ pub use pieces::Piece;
 pub use pieces::bring_rest;
 pub use pieces::run_piece;
 ghost use mathlib.Core.Path.{_≡_};
-ghost use Rattle.event_file.specs.Read.{Small, withSecond, withFirst, withKind, eventAt};
+ghost use Rattle.event_file.specs.Read.{Small, withSecond, withFirst, withKind, eventAt, nextTold};
 
 // What stands at a place of an event file.
 pub enum Next {
@@ -77,7 +77,7 @@ fn with_kind(file: &[u8], n: Number) -> Next
 
 // What stands at a place of an event file.
 pub fn next_event(file: &[u8], at: usize) -> Next
-    ensures { λ r. ⌜ r ≡ eventAt (now (file .entry)) at ⌝ }
+    ensures { λ r. ⌜ nextTold r ≡ nextTold (eventAt (now (file .entry)) at) ⌝ }
 {
     if file.len() <= at {
         return Next::Nothing;

@@ -5,14 +5,15 @@ ghost use Prim.Native.Nat.{_+_, _*_, _≤_};
 ghost use lib.ListN.{length};
 use interlocking::State;
 use layout::Layout;
-ghost use Rattle.event_file.specs.Lines.{lineEnd, two, three, afterSpace, spaced, panelText, lineOf, mostLine};
-ghost use Rattle.numerals.specs.Digits.{digits};
+ghost use Rattle.event_file.specs.Lines.{space, lineEnd, stroke, twoNumbers, threeNumbers, afterSpace, spaced, shownInRun, lineOf, mostLine};
+ghost use Rattle.event_file.specs.Writes.{imageLine};
+ghost use Rattle.numerals.specs.Digits.{decimalDigits};
 ghost use Rattle.numerals.specs.Writes.{Put};
 
 // A number in decimal, where the buffer has room for so many places.
 fn put_digits(places: u8, n: u64, out: &mut [u8], at: usize) -> usize
     requires { ⌜ at + places ≤ length (now out) ⌝ }
-    ensures { λ r. ⌜ Put (now (out .entry)) at (digits places n) places (now (out .exit)) r ⌝ }
+    ensures { λ r. ⌜ Put (now (out .entry)) at (decimalDigits places n) places (now (out .exit)) r ⌝ }
 {
     numerals::put_digits(places, n, out, at)
 }
@@ -20,7 +21,7 @@ fn put_digits(places: u8, n: u64, out: &mut [u8], at: usize) -> usize
 // Two numbers with a space between.
 pub fn put_two(a: u64, b: u64, out: &mut [u8], at: usize) -> usize
     requires { ⌜ at + 41 ≤ length (now out) ⌝ }
-    ensures { λ r. ⌜ Put (now (out .entry)) at (two a b) 41 (now (out .exit)) r ⌝ }
+    ensures { λ r. ⌜ Put (now (out .entry)) at (twoNumbers a b) 41 (now (out .exit)) r ⌝ }
 {
     let between = put_digits(20, a, out, at);
     out[between] = 32;
@@ -30,7 +31,7 @@ pub fn put_two(a: u64, b: u64, out: &mut [u8], at: usize) -> usize
 // Three numbers with a space between.
 pub fn put_three(a: u64, b: u64, c: u64, out: &mut [u8], at: usize) -> usize
     requires { ⌜ at + 62 ≤ length (now out) ⌝ }
-    ensures { λ r. ⌜ Put (now (out .entry)) at (three a b c) 62 (now (out .exit)) r ⌝ }
+    ensures { λ r. ⌜ Put (now (out .entry)) at (threeNumbers a b c) 62 (now (out .exit)) r ⌝ }
 {
     let between = put_digits(20, a, out, at);
     out[between] = 32;
@@ -61,29 +62,46 @@ fn put_bytes(bytes: &[u8], n: usize, out: &mut [u8], at: usize) -> usize
     next
 }
 
-// The panel of a state, after a space and a stroke.
-fn put_panel(layout: Layout, state: State, out: &mut [u8], at: usize) -> usize
-    requires { ⌜ at + 2050 ≤ length (now out) ⌝ }
-    ensures { λ r. ⌜ Put (now (out .entry)) at (panelText layout state) 2050 (now (out .exit)) r ⌝ }
+// The first n bytes of a panel image, after a space and a stroke.
+fn put_image(image: &[u8; 512], n: usize, out: &mut [u8], at: usize) -> usize
+    requires { ⌜ (n ≤ 512) × (at + 2050 ≤ length (now out)) ⌝ }
+    ensures { λ r. ⌜ Put (now (out .entry)) at ((space ∷ stroke ∷ []) ++ spaced n (now (image .entry))) 2050 (now (out .exit)) r ⌝ }
 {
-    let mut image = [0u8; 512];
-    let drawn = panel::panel(state, layout, &mut image);
     out[at] = 32;
     out[at + 1] = 124;
-    put_bytes(&image, drawn.length, out, at + 2)
+    put_bytes(image, n, out, at + 2)
 }
 
 // A line without the panel: event number, answer and detail.
 pub fn put_line(n: u64, answer: u8, detail: u32, out: &mut [u8], at: usize) -> usize
     requires { ⌜ at + 63 ≤ length (now out) ⌝ }
-    ensures { λ r. ⌜ Put (now (out .entry)) at (three n answer detail ++ (lineEnd ∷ [])) 63 (now (out .exit)) r ⌝ }
+    ensures { λ r. ⌜ Put (now (out .entry)) at (threeNumbers n answer detail ++ (lineEnd ∷ [])) 63 (now (out .exit)) r ⌝ }
 {
     let end = put_three(n, answer as u64, detail as u64, out, at);
     out[end] = 10;
     end + 1
 }
 
-// A line with the panel of the state then.
+// A line with the first k bytes of a panel image.
+pub fn put_image_line(
+    image: &[u8; 512],
+    k: usize,
+    n: u64,
+    answer: u8,
+    detail: u32,
+    out: &mut [u8],
+    at: usize,
+) -> usize
+    requires { ⌜ (k ≤ 512) × (at + mostLine true ≤ length (now out)) ⌝ }
+    ensures { λ r. ⌜ Put (now (out .entry)) at (imageLine k (now (image .entry)) n answer detail) (mostLine true) (now (out .exit)) r ⌝ }
+{
+    let before = put_three(n, answer as u64, detail as u64, out, at);
+    let end = put_image(image, k, out, before);
+    out[end] = 10;
+    end + 1
+}
+
+// A line with the panel of the state then, in a run that asked soundness before its first event.
 pub fn put_panel_line(
     layout: Layout,
     state: State,
@@ -94,10 +112,9 @@ pub fn put_panel_line(
     at: usize,
 ) -> usize
     requires { ⌜ at + mostLine true ≤ length (now out) ⌝ }
-    ensures { λ r. ⌜ Put (now (out .entry)) at (lineOf true layout state n answer detail) (mostLine true) (now (out .exit)) r ⌝ }
+    ensures { λ r. ⌜ Put (now (out .entry)) at (lineOf true (shownInRun layout state) n answer detail) (mostLine true) (now (out .exit)) r ⌝ }
 {
-    let before = put_three(n, answer as u64, detail as u64, out, at);
-    let end = put_panel(layout, state, out, before);
-    out[end] = 10;
-    end + 1
+    let mut image = [0u8; 512];
+    let drawn = panel::panel_in_run(state, layout, &mut image);
+    put_image_line(&image, drawn.length, n, answer, detail, out, at)
 }

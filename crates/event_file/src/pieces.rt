@@ -7,7 +7,7 @@ use layout::Layout;
 ghost use mathlib.Core.Path.{_≡_};
 ghost use lib.ListN.{length};
 ghost use Rattle.step_facts.specs.Run.{boxInRun};
-ghost use Rattle.event_file.specs.Lines.{nextCount, mostLine};
+ghost use Rattle.event_file.specs.Lines.{nextCount, shownInRun, mostLine};
 ghost use Rattle.numerals.specs.Writes.{Put};
 ghost use Rattle.event_file.specs.Writes.{rest};
 ghost use Rattle.event_file.specs.Run.{pieceOf, halted, haltedBy, soFar, Went};
@@ -109,7 +109,7 @@ pub fn run_piece(
     last: bool,
     out: &mut [u8],
 ) -> Piece
-    ensures { λ r. ⌜ Went (now (out .entry)) 0 (length (now (out .entry))) (now (out .exit)) r (pieceOf (boxInRun layout) panel layout last (now (bytes .entry)) (length (now (out .entry))) state count at) ⌝ }
+    ensures { λ r. ⌜ Went (now (out .entry)) 0 (length (now (out .entry))) (now (out .exit)) r (pieceOf (boxInRun layout) panel (shownInRun layout) last (now (bytes .entry)) (length (now (out .entry))) state count at) ⌝ }
 {
     let mut written: usize = 0;
     for _ in 0u32..65536 {

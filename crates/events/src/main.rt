@@ -1,6 +1,7 @@
-// The event program (section 8): events LAYOUT EVENTS [panel]
+// The event program (section 8): events LAYOUT [EVENTS [panel]]
 // Runs the event file on the layout from the cold start and prints event number, answer and detail of each event, with `panel` also the
 // panel after it. The event file may be of any length: it is read into one buffer, a piece at a time.
+// Without an event file it only loads the layout, and prints `layout`, the answer and its detail.
 use interlocking::State;
 use layout::Layout;
 use libc::STDERR_FILENO;
@@ -192,20 +193,39 @@ fn with_events(file: &[u8], path: &[u8], panel: bool) {
     libc::close(fd);
 }
 
-// The layout file is opened and read. Its first 65,536 bytes answer for a longer one.
-fn with_layout(path: &[u8], events: &[u8], panel: bool) {
+// The layout file is opened and read, as `read_file` says. Its first 65,536 bytes answer for a longer one.
+fn read_layout(path: &[u8], room: &mut [u8]) -> usize {
     let fd = os::open_read(path);
     if fd < 0 {
         os::fail(path);
-        return;
+        return 18446744073709551615;
     }
-    let mut room = io::large_buffer();
-    let n = read_file(fd, path, &mut room);
+    let n = read_file(fd, path, room);
     libc::close(fd);
+    n
+}
+
+// The event file is run on the layout.
+fn with_layout(path: &[u8], events: &[u8], panel: bool) {
+    let mut room = io::large_buffer();
+    let n = read_layout(path, &mut room);
     if room.len() < n {
         return;
     }
     with_events(&room[0..n], events, panel);
+}
+
+// The layout is only loaded, and its answer printed.
+fn check_layout(path: &[u8]) {
+    let mut room = io::large_buffer();
+    let n = read_layout(path, &mut room);
+    if room.len() < n {
+        return;
+    }
+    let loaded = layout::load(&room[0..n]);
+    let mut out = io::buffer();
+    let end = event_file::layout_fault(loaded.number as u64, loaded.detail as u64, &mut out);
+    written(&out, end);
 }
 
 // Whether a third argument is there, and it is `panel`.
@@ -218,7 +238,7 @@ fn is_panel(word: &[u8]) -> bool {
 
 // How the program is called.
 fn usage() {
-    io::write_all(STDERR_FILENO, b"usage: events LAYOUT EVENTS [panel]\n");
+    io::write_all(STDERR_FILENO, b"usage: events LAYOUT [EVENTS [panel]]\n");
 }
 
 // The layout, the event file and the word `panel`, by the arguments.
@@ -233,7 +253,7 @@ fn main() {
     }
     let e = os::arg(2, &mut events);
     if os::errno() != 0 {
-        usage();
+        check_layout(&layout[..l]);
         return;
     }
     let w = os::arg(3, &mut word);

@@ -5,6 +5,7 @@ use mathlib.Core.List.{List}
 use lib.ListN.{getD}
 use Rattle.laws.proofs.Arrays.{nothing-at}
 use Rattle.laws.proofs.Stores.{turns-past}
+use Rattle.track.specs.Sizes.{mostListed}
 use Rattle.fields.specs.declared.Cursor.{Cursor}
 use Rattle.fields.specs.declared.Items.{Items}
 use Rattle.fields.specs.declared.Points.{Points}
@@ -18,7 +19,7 @@ module _ (s : List ℕ) (c : Cursor) (low high objects : ℕ) where
   unfolding items itemTurn
   items-past k h =
       turns-past (λ (t : Items). t .item) (λ t. reference s (t .cur) objects .value) 0 (itemTurn s objects) (λ i t. refl) _ _
-      (nothing-at 8 0) k (rw (items-count s c low high objects) at h)
+      (nothing-at mostListed 0) k (rw (items-count s c low high objects) at h)
 
 module _ (s : List ℕ) (c : Cursor) (objects : ℕ) where
   -- points with positions
@@ -26,6 +27,6 @@ module _ (s : List ℕ) (c : Cursor) (objects : ℕ) where
   unfolding points pointTurn
   points-past k h =
       let l = rw (points-count s c objects) at h in (
-        turns-past (λ (t : Points). t .point) (λ t. reference s (t .cur) objects .value) 0 (pointTurn s objects) (λ i t. refl) _ _ (nothing-at 8 0) k l,
-        turns-past (λ (t : Points). t .position) (λ t. code s (reference s (t .cur) objects) 1 2 .value) 0 (pointTurn s objects) (λ i t. refl) _ _ (nothing-at 8 0) k l,
+        turns-past (λ (t : Points). t .point) (λ t. reference s (t .cur) objects .value) 0 (pointTurn s objects) (λ i t. refl) _ _ (nothing-at mostListed 0) k l,
+        turns-past (λ (t : Points). t .position) (λ t. code s (reference s (t .cur) objects) 1 2 .value) 0 (pointTurn s objects) (λ i t. refl) _ _ (nothing-at mostListed 0) k l,
       )

@@ -10,6 +10,7 @@ use Rattle.laws.proofs.Choice.{if-eq, if-ne, if-lt, if-ge}
 use Rattle.numbers.specs.declared.Number.{Number}
 use Rattle.numbers.specs.declared.Number.the-variants.{Value, Fault}
 use Rattle.numbers.specs.Number.{numberAt}
+use Rattle.numbers.proofs.Cases.{number-same}
 use Rattle.fields.specs.declared.Cursor.{Cursor}
 use Rattle.fields.specs.Fields.{failed, judge, field}
 
@@ -53,7 +54,7 @@ module _ (s : List ℕ) (c : Cursor) (low limit fault : ℕ) (r : Cursor) where
   field-read n h e q = if-eq _ _ _ _ r h (rw (← e) q)
 
 -- for the next number, by whether a fault was met before
-pub ruleset readings = (needs, field-kept, field-read)
+pub ruleset readings = (needs, number-same, field-kept, field-read)
 
 -- ---- a store that asks nothing
 

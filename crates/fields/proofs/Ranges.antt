@@ -14,6 +14,7 @@ use Rattle.numbers.specs.declared.Number.{Number}
 use Rattle.numbers.specs.declared.Number.the-variants.{Value, Fault}
 use Rattle.numbers.specs.Number.{numberAt}
 use Rattle.numbers.proofs.Readings.{fault-number}
+use Rattle.track.specs.Sizes.{mostListed}
 use Rattle.fields.specs.declared.Cursor.{Cursor}
 use Rattle.fields.specs.declared.Items.{Items}
 use Rattle.fields.specs.declared.Points.{Points}
@@ -133,13 +134,13 @@ module _ (s : List ℕ) (c : Cursor) (low high objects : ℕ) where
   items-count = iter-same (λ (t : Items). t .count) (itemTurn s objects) _ _ (λ i t. refl)
 
   -- with no fault it is in range
-  pub items-in : high ≤ 8 → items s c low high objects .cur .fault ≡ 0 → (c .fault ≡ 0) × ItemsIn low high objects (items s c low high objects)
+  pub items-in : high ≤ mostListed → items s c low high objects .cur .fault ≡ 0 → (c .fault ≡ 0) × ItemsIn low high objects (items s c low high objects)
   unfolding items itemTurn
   items-in few e =
       let n = items-count in
       let m = code-most s c low high refl in
       let r = turns-each (λ (t : Items). t .item) (λ t. reference s (t .cur) objects .value) 0 (itemTurn s objects) (λ i t. refl) _ _
-      (λ v. v < objects) (λ (t : Items). t .cur .fault ≡ 0) 8 (length-replicate {A = ℕ} 8 0) (omega arith) (λ i t. reference-in s (t .cur) objects) e in
+      (λ v. v < objects) (λ (t : Items). t .cur .fault ≡ 0) mostListed (length-replicate {A = ℕ} mostListed 0) (omega arith) (λ i t. reference-in s (t .cur) objects) e in
       let d = code-in s c low high (r .0) in
       (d .0, record { least = omega arith; most = omega arith; each = λ k l. r .1 k (omega arith) })
 
@@ -147,7 +148,7 @@ module _ (s : List ℕ) (c : Cursor) (low high objects : ℕ) where
 
 -- the count, the points and the positions are in range
 pub record PointsIn (objects : ℕ) (t : Points) : Type 0 where
-  pub most : t .count ≤ 8
+  pub most : t .count ≤ mostListed
   pub points : (k : ℕ) → k < t .count → getD (t .point) k 0 < objects
   pub positions : (k : ℕ) → k < t .count → (1 ≤ getD (t .position) k 0) × (getD (t .position) k 0 ≤ 2)
 
@@ -160,11 +161,11 @@ module _ (s : List ℕ) (c : Cursor) (objects : ℕ) where
   pub points-known : Known c → Known (points s c objects .cur)
   unfolding points pointTurn
   points-known p =
-      iter-keeps (λ i (t : Points). Known (t .cur)) (pointTurn s objects) _ _ (code-known s c 0 8 p)
+      iter-keeps (λ i (t : Points). Known (t .cur)) (pointTurn s objects) _ _ (code-known s c 0 mostListed p)
       (λ i t l q. code-known s (reference s (t .cur) objects) 1 2 (reference-known s (t .cur) objects q))
 
   -- their count is the number read first
-  pub points-count : points s c objects .count ≡ code s c 0 8 .value
+  pub points-count : points s c objects .count ≡ code s c 0 mostListed .value
   unfolding points pointTurn
   points-count = iter-same (λ (t : Points). t .count) (pointTurn s objects) _ _ (λ i t. refl)
 
@@ -180,11 +181,11 @@ module _ (s : List ℕ) (c : Cursor) (objects : ℕ) where
   unfolding points pointTurn
   points-in e =
       let n = points-count in
-      let m = code-most s c 0 8 refl in
+      let m = code-most s c 0 mostListed refl in
       let p = turns-each (λ (t : Points). t .point) (λ t. reference s (t .cur) objects .value) 0 (pointTurn s objects) (λ i t. refl) _ _
-      (λ v. v < objects) (λ (t : Points). t .cur .fault ≡ 0) 8 (length-replicate {A = ℕ} 8 0) m
+      (λ v. v < objects) (λ (t : Points). t .cur .fault ≡ 0) mostListed (length-replicate {A = ℕ} mostListed 0) m
       (λ i t w. let q = point-in t w in (q .0, q .1)) e in
       let w = turns-each (λ (t : Points). t .position) (λ t. way t .value) 0 (pointTurn s objects) (λ i t. refl) _ _
-      (λ v. (1 ≤ v) × (v ≤ 2)) (λ (t : Points). t .cur .fault ≡ 0) 8 (length-replicate {A = ℕ} 8 0) m
+      (λ v. (1 ≤ v) × (v ≤ 2)) (λ (t : Points). t .cur .fault ≡ 0) mostListed (length-replicate {A = ℕ} mostListed 0) m
       (λ i t w. let q = point-in t w in (q .0, (q .2, q .3))) e in
-      (code-in s c 0 8 (p .0) .0, record { most = omega arith; points = λ k l. p .1 k (omega arith); positions = λ k l. w .1 k (omega arith) })
+      (code-in s c 0 mostListed (p .0) .0, record { most = omega arith; points = λ k l. p .1 k (omega arith); positions = λ k l. w .1 k (omega arith) })

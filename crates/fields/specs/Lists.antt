@@ -3,6 +3,7 @@ use Prim.Native.Nat.{ℕ}
 use mathlib.Core.List.{List}
 use lib.ListN.{set, replicate}
 use Rattle.laws.specs.Tables.{iter}
+use Rattle.track.specs.Sizes.{mostListed}
 use Rattle.fields.specs.declared.Cursor.{Cursor}
 use Rattle.fields.specs.declared.Items.{Items}
 use Rattle.fields.specs.declared.Points.{Points}
@@ -18,7 +19,7 @@ itemTurn s objects i t =
 unfoldable pub items : List ℕ → Cursor → ℕ → ℕ → ℕ → Items
 items s c low high objects =
     let d : Cursor = code s c low high in
-    iter (itemTurn s objects) (d .value) (record { cur = d; count = d .value; item = replicate 8 0 })
+    iter (itemTurn s objects) (d .value) (record { cur = d; count = d .value; item = replicate mostListed 0 })
 
 -- the i-th point, then its position: 1 left or 2 right
 unfoldable pub pointTurn : List ℕ → ℕ → ℕ → Points → Points
@@ -30,5 +31,5 @@ pointTurn s objects i t =
 -- points 0..8 as (point, position)
 unfoldable pub points : List ℕ → Cursor → ℕ → Points
 points s c objects =
-    let d : Cursor = code s c 0 8 in
-    iter (pointTurn s objects) (d .value) (record { cur = d; count = d .value; point = replicate 8 0; position = replicate 8 0 })
+    let d : Cursor = code s c 0 mostListed in
+    iter (pointTurn s objects) (d .value) (record { cur = d; count = d .value; point = replicate mostListed 0; position = replicate mostListed 0 })

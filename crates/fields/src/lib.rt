@@ -1,6 +1,8 @@
 // Reading the layout file number by number, with a cursor that keeps the first fault met: after it each read changes nothing.
 use laws::wide;
 use numbers::Number;
+use track::sizes::LISTED;
+use track::sizes::MOST_LISTED;
 ghost use mathlib.Core.Path.{_≡_};
 ghost use Prim.Native.Nat.{_≤_};
 ghost use lib.ListN.{set};
@@ -20,15 +22,15 @@ pub struct Cursor {
 pub struct Items {
     pub cur: Cursor,
     pub count: u8,
-    pub item: [u8; 8],
+    pub item: [u8; LISTED],
 }
 
 // At most eight points with positions.
 pub struct Points {
     pub cur: Cursor,
     pub count: u8,
-    pub point: [u8; 8],
-    pub position: [u8; 8],
+    pub point: [u8; LISTED],
+    pub position: [u8; LISTED],
 }
 
 // A fault, told of a place.
@@ -92,11 +94,11 @@ pub fn read_reference(s: &[u8], c: Cursor, objects: u8) -> Cursor
 }
 
 // The list with x at i; as it was where i lies past it.
-fn put8(xs: [u8; 8], i: u8, x: u8) -> [u8; 8]
+fn put8(xs: [u8; LISTED], i: u8, x: u8) -> [u8; LISTED]
     ensures { λ r. ⌜ r ≡ set xs i x ⌝ }
 {
     let mut ys = xs;
-    if i < 8 {
+    if i < MOST_LISTED {
         ys[i as usize] = x;
         return ys;
     }
@@ -140,7 +142,7 @@ pub fn read_items(s: &[u8], c: Cursor, low: u8, high: u8, objects: u8) -> Items
     let t = Items {
         cur: d,
         count: d.value,
-        item: [0; 8],
+        item: [0; LISTED],
     };
     fill(s, t, objects)
 }
@@ -182,12 +184,12 @@ fn place_all(s: &[u8], t: Points, objects: u8) -> Points
 pub fn read_points(s: &[u8], c: Cursor, objects: u8) -> Points
     ensures { λ r. ⌜ r ≡ points (now (s .entry)) c objects ⌝ }
 {
-    let d = read_code(s, c, 0, 8);
+    let d = read_code(s, c, 0, MOST_LISTED);
     let t = Points {
         cur: d,
         count: d.value,
-        point: [0; 8],
-        position: [0; 8],
+        point: [0; LISTED],
+        position: [0; LISTED],
     };
     place_all(s, t, objects)
 }

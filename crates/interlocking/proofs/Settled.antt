@@ -1,6 +1,6 @@
 -- What follows an event, from the tables that one walk over the routes makes: signals fall and routes are let go in the same turn, since far
 -- sections move no route, and line release looks at both.
-use Prim.Native.Nat.{ℕ, _*_, _<_, _≤_}
+use Prim.Native.Nat.{ℕ, _<_, _≤_}
 use mathlib.Core.Path.{_≡_, refl, sym, ap, ap₂, _∙_, fun-ext}
 use mathlib.Core.Bool.{Bool}
 use mathlib.Core.List.{List}
@@ -13,24 +13,36 @@ use Rattle.laws.specs.Tests.{_and_}
 use Rattle.laws.specs.Tables.{each, read}
 use Rattle.laws.proofs.Choice.{if-eq, if-ne, if-both}
 use Rattle.laws.proofs.Tests.{any-same}
-use Rattle.laws.proofs.Arrays.{read-at}
+use Rattle.laws.proofs.Arrays.{read-in, read-at}
 use Rattle.laws.proofs.Each.{Redone, each-at, each-past, length-each, each-over}
 use Rattle.track.specs.declared.Line.{Line}
 use Rattle.track.specs.declared.Route.{Route}
-use Rattle.track.specs.Objects.{line, route}
-use Rattle.signals.specs.Signals.{clear, fallen, routeProceeds, mainProceeds, blockProceeds}
-use Rattle.release.specs.declared.Gives.{Gives}
-use Rattle.release.specs.declared.Held.{Held}
+use Rattle.track.specs.Codes.{idle, atProceed}
+use Rattle.track.specs.Sizes.{mostLines, mostTrainRoutes, mostRoutes}
+use Rattle.track.specs.Objects.{route, noRoute}
+use Rattle.track.specs.Signal.{Signal, main, into}
+use Rattle.signals.specs.Signals.{clear, fallen, routeProceeds, mainProceeds}
+use Rattle.tables.specs.declared.Gives.{Gives}
+use Rattle.release.specs.declared.Locking.{Locking}
 use Rattle.release.specs.declared.Settled.{Settled}
-use Rattle.release.specs.Release.{heldAfter, settledFrom, settled}
+use Rattle.release.specs.Release.{lockingAfter, settledFrom, settled}
+use Rattle.line_block.specs.FarSections.{farStages}
+use Rattle.line_block.specs.LineRelease.{directionsAfter}
+use Rattle.line_block.specs.Entries.{entryProceeds, mainProceedsBy, proceedsBy, fewLines}
+use Rattle.line_block.proofs.Lines.{few-all}
 use Rattle.layout.specs.declared.Layout.{Layout}
 use Rattle.interlocking.specs.declared.State.{State}
 use Rattle.interlocking.specs.State.{withRoutes, withLines}
-use Rattle.interlocking.specs.Entries.{entryShows, mainShows}
-use Rattle.interlocking.specs.Settle.{fallenAt, signals, proceedsIn, farDroppedBy, farReadingBy, farDropped, farReading, farAfter, farSections, heldOf, routeAfter, unlessIdle, routesBy, routes, endsBy, ends, directionAfter, lineRelease, settle}
-use Rattle.interlocking.proofs.FarSections.{route-in}
+use Rattle.interlocking.specs.declared.answering.Walked.{Walked}
+use Rattle.interlocking.specs.Walk.{IsWalk}
+use Rattle.interlocking.specs.Settle.{fallenAt, signals, proceedsIn, farSections, lockingOf, routeAfter, unlessIdle, routesBy, routes, lineRelease, settle}
 
 -- ---- one turn of the walk
+
+-- a route that there is stands in the table, so the default is not read
+pub route-in : (rs : List Route) (r n : ℕ) (d : Route) → length rs ≡ mostTrainRoutes → r < n → n ≤ mostTrainRoutes → getD rs r d ≡ route rs r
+unfolding route
+route-in rs r n d q b few = read-in rs r mostTrainRoutes d noRoute q (omega arith)
 
 -- a signal's fall makes no route idle
 fallen-live : (ls : List Line) (sections points stages bars : List ℕ) (a : Route) (was : ℕ) → (was ≡ 0 → ⊥)
@@ -47,47 +59,47 @@ fallen-idle ls sections points stages bars a was h = if-ne was 1 _ _ was (λ z. 
 
 -- the state whose signals have fallen, of n routes
 unfoldable pub fell : List Line → List Route → ℕ → State → State
-fell ls rs n s = withRoutes s (each n (fallenAt ls rs s) (s .phase)) (s .step) (s .second)
+fell ls rs n s = withRoutes s (each n (fallenAt ls rs s) (s .phase)) (s .steps) (s .seconds)
 
-module _ (ls : List Line) (rs : List Route) (n : ℕ) (s : State) (r : ℕ) (b : r < n) (few : n ≤ 48) where
+module _ (ls : List Line) (rs : List Route) (n : ℕ) (s : State) (r : ℕ) (b : r < n) (few : n ≤ mostTrainRoutes) where
   -- what the fallen state has at a route that there is
-  fell-at : read 48 0 (each n (fallenAt ls rs s) (s .phase)) r ≡ fallenAt ls rs s r (getD (s .phase) r 0)
-  fell-at = read-at 48 0 _ r (omega arith) ∙ each-at n (fallenAt ls rs s) (s .phase) r b
+  fell-at : read mostRoutes idle (each n (fallenAt ls rs s) (s .phase)) r ≡ fallenAt ls rs s r (getD (s .phase) r 0)
+  fell-at = read-at mostRoutes idle _ r (omega arith) ∙ each-at n (fallenAt ls rs s) (s .phase) r b
 
   -- an idle route stays as it is
   pub idle-stays : (was x : ℕ) → getD (s .phase) r 0 ≡ 0 → was ≡ unlessIdle (fell ls rs n s) r was x
   unfolding unlessIdle fell withRoutes fallenAt
   idle-stays was x h =
-      if-eq (read 48 0 (each n (fallenAt ls rs s) (s .phase)) r) 0 _ _ was
+      if-eq (read mostRoutes idle (each n (fallenAt ls rs s) (s .phase)) r) 0 _ _ was
       (fell-at ∙ sym (fallen-idle ls (s .section) (s .point) (s .stage) (s .bar) (route rs r) (getD (s .phase) r 0) h) ∙ h) refl
 
   -- a route that is not idle takes what becomes of it
-  module _ (e : Gives) (d : Route) (x : Settled) (q : length rs ≡ 48) (live : getD (s .phase) r 0 ≡ 0 → ⊥)
+  module _ (e : Gives) (d : Route) (x : Settled) (q : length rs ≡ mostTrainRoutes) (live : getD (s .phase) r 0 ≡ 0 → ⊥)
       (g : x ≡ settled ls (s .section) (s .point) (s .stage) (s .bar) (getD rs r d) e
-      (record { phase = getD (s .phase) r 0; step = getD (s .step) r 0; second = getD (s .second) r 0 })) where
+      (record { phase = getD (s .phase) r 0; steps = getD (s .steps) r 0; seconds = getD (s .seconds) r 0 })) where
     -- what the route holds once its signal has fallen
-    held : Held
-    held = record { phase = fallenAt ls rs s r (getD (s .phase) r 0); step = getD (s .step) r 0; second = getD (s .second) r 0 }
+    held : Locking
+    held = record { phase = fallenAt ls rs s r (getD (s .phase) r 0); steps = getD (s .steps) r 0; seconds = getD (s .seconds) r 0 }
 
     -- the turn gives the fallen phase and what becomes of that, for the route in the table
-    turned : x ≡ settledFrom (fallenAt ls rs s r (getD (s .phase) r 0)) (heldAfter ls (s .section) (route rs r) e held)
+    turned : x ≡ settledFrom (fallenAt ls rs s r (getD (s .phase) r 0)) (lockingAfter ls (s .section) (route rs r) e held)
     unfolding settled held fallenAt
     turned =
         g ∙ ap (λ (a : Route). settled ls (s .section) (s .point) (s .stage) (s .bar) a e
-        (record { phase = getD (s .phase) r 0; step = getD (s .step) r 0; second = getD (s .second) r 0 })) (route-in rs r n d q b few)
+        (record { phase = getD (s .phase) r 0; steps = getD (s .steps) r 0; seconds = getD (s .seconds) r 0 })) (route-in rs r n d q b few)
 
     -- the fallen state holds the same of the route: its tables are read at a route that there is
-    same-held : held ≡ heldOf (fell ls rs n s) r
-    unfolding held heldOf fell withRoutes
+    same-held : held ≡ lockingOf (fell ls rs n s) r
+    unfolding held lockingOf fell withRoutes
     same-held =
-        ap (λ p. record { phase = p; step = getD (s .step) r 0; second = getD (s .second) r 0 }) (sym fell-at)
-        ∙ ap₂ (λ (y z : ℕ). record { phase = read 48 0 (each n (fallenAt ls rs s) (s .phase)) r; step = y; second = z })
-        (sym (read-at 48 0 (s .step) r (omega arith))) (sym (read-at 48 0 (s .second) r (omega arith)))
+        ap (λ p. record { phase = p; steps = getD (s .steps) r 0; seconds = getD (s .seconds) r 0 }) (sym fell-at)
+        ∙ ap₂ (λ (y z : ℕ). record { phase = read mostRoutes idle (each n (fallenAt ls rs s) (s .phase)) r; steps = y; seconds = z })
+        (sym (read-at mostTrainRoutes 0 (s .steps) r (omega arith))) (sym (read-at mostTrainRoutes 0 (s .seconds) r (omega arith)))
 
     -- so the same becomes of it
-    becomes : heldAfter ls (s .section) (route rs r) e held ≡ routeAfter ls rs (fell ls rs n s) e r
+    becomes : lockingAfter ls (s .section) (route rs r) e held ≡ routeAfter ls rs (fell ls rs n s) e r
     unfolding routeAfter fell withRoutes
-    becomes = ap (heldAfter ls (s .section) (route rs r) e) same-held
+    becomes = ap (lockingAfter ls (s .section) (route rs r) e) same-held
 
     -- the first that the turn gives is the fallen phase
     pub signal-falls : x .fallen ≡ fallenAt ls rs s r (getD (s .phase) r 0)
@@ -95,10 +107,10 @@ module _ (ls : List Line) (rs : List Route) (n : ℕ) (s : State) (r : ℕ) (b :
     signal-falls = ap (λ (y : Settled). y .fallen) turned
 
     -- a route that is not idle is not idle once its signal has fallen, so it takes each part of what becomes of it
-    takes : (f : Held → ℕ) (was : ℕ) → f (heldAfter ls (s .section) (route rs r) e held) ≡ unlessIdle (fell ls rs n s) r was (f (routeAfter ls rs (fell ls rs n s) e r))
+    takes : (f : Locking → ℕ) (was : ℕ) → f (lockingAfter ls (s .section) (route rs r) e held) ≡ unlessIdle (fell ls rs n s) r was (f (routeAfter ls rs (fell ls rs n s) e r))
     unfolding unlessIdle fell withRoutes fallenAt
     takes f was =
-        if-ne (read 48 0 (each n (fallenAt ls rs s) (s .phase)) r) 0 _ _ _
+        if-ne (read mostRoutes idle (each n (fallenAt ls rs s) (s .phase)) r) 0 _ _ _
         (λ z. fallen-live ls (s .section) (s .point) (s .stage) (s .bar) (route rs r) (getD (s .phase) r 0) live (sym fell-at ∙ z)) (ap f becomes)
 
     -- its phase
@@ -107,20 +119,20 @@ module _ (ls : List Line) (rs : List Route) (n : ℕ) (s : State) (r : ℕ) (b :
     phase-takes was = ap (λ (y : Settled). y .phase) turned ∙ takes (λ h. h .phase) was
 
     -- its step
-    pub step-takes : (was : ℕ) → x .step ≡ unlessIdle (fell ls rs n s) r was (routeAfter ls rs (fell ls rs n s) e r .step)
+    pub step-takes : (was : ℕ) → x .steps ≡ unlessIdle (fell ls rs n s) r was (routeAfter ls rs (fell ls rs n s) e r .steps)
     unfolding settledFrom
-    step-takes was = ap (λ (y : Settled). y .step) turned ∙ takes (λ h. h .step) was
+    step-takes was = ap (λ (y : Settled). y .steps) turned ∙ takes (λ h. h .steps) was
 
     -- its seconds
-    pub second-takes : (was : ℕ) → x .second ≡ unlessIdle (fell ls rs n s) r was (routeAfter ls rs (fell ls rs n s) e r .second)
+    pub second-takes : (was : ℕ) → x .seconds ≡ unlessIdle (fell ls rs n s) r was (routeAfter ls rs (fell ls rs n s) e r .seconds)
     unfolding settledFrom
-    second-takes was = ap (λ (y : Settled). y .second) turned ∙ takes (λ h. h .second) was
+    second-takes was = ap (λ (y : Settled). y .seconds) turned ∙ takes (λ h. h .seconds) was
 
 -- ---- the table of fallen phases, while it is made
 
-module _ (ls : List Line) (rs : List Route) (n : ℕ) (s : State) (r : ℕ) (ys : List ℕ) (h : Redone 48 n (fallenAt ls rs s) (s .phase) ys r) where
+module _ (ls : List Line) (rs : List Route) (n : ℕ) (s : State) (r : ℕ) (ys : List ℕ) (h : Redone mostRoutes n (fallenAt ls rs s) (s .phase) ys r) where
   -- the table has an entry for each route
-  pub phases-there : length (s .phase) ≡ 48
+  pub phases-there : length (s .phase) ≡ mostRoutes
   unfolding Redone
   phases-there = h .2
 
@@ -140,14 +152,16 @@ module _ (ls : List Line) (rs : List Route) (n : ℕ) (s : State) (r : ℕ) (ys 
 
 -- ---- the tables together
 
--- what a main signal shows, by the table of the signals at which routes start
-main-same : (n : ℕ) (rs : List Route) (zeros phases : List ℕ) (x : ℕ) → n ≤ 48
-    → mainShows n (each n (λ r was. route rs r .entry) zeros) phases x ≡ mainProceeds n rs phases x
-unfolding mainShows entryShows mainProceeds routeProceeds
-main-same n rs zeros phases x few =
-    any-same n _ _ (λ r b. ap (λ m. eqb (read 48 0 phases r) 1 and eqb m x) (read-at 48 0 _ r (omega arith) ∙ each-at n (λ r was. route rs r .entry) zeros r b))
+-- what a signal shows, by the table of the signals at which routes start
+shows-same : (L : Layout) (zeros : List ℕ) (t : State) (x : Signal) → L .routes ≤ mostTrainRoutes
+    → proceedsBy (L .line) (L .routes) (each (L .routes) (λ r was. route (L .route) r .entry) zeros) (t .phase) (t .direction) (t .point) (t .stage) (t .bar) x ≡ proceedsIn L t x
+unfolding proceedsBy proceedsIn mainProceedsBy entryProceeds mainProceeds routeProceeds
+shows-same L zeros t (main x) few =
+    any-same (L .routes) _ _ (λ r b. ap (λ m. eqb (read mostRoutes idle (t .phase) r) atProceed and eqb m x)
+    (read-at mostTrainRoutes 0 _ r (omega arith) ∙ each-at (L .routes) (λ r was. route (L .route) r .entry) zeros r b))
+shows-same L zeros t (into l i w) few = refl
 
-module _ (L : Layout) (before s : State) (e : Gives) (few : L .routes ≤ 48) (len : length (s .phase) ≡ 48) where
+module _ (L : Layout) (before s : State) (e : Gives) (few-lines : L .lines ≤ mostLines) (few : L .routes ≤ mostTrainRoutes) (len : length (s .phase) ≡ mostRoutes) where
   -- the state whose signals have fallen
   abbrev after-fall : State
   after-fall = fell (L .line) (L .route) (L .routes) s
@@ -164,14 +178,14 @@ module _ (L : Layout) (before s : State) (e : Gives) (few : L .routes ≤ 48) (l
       fallenTo k = getD (each (L .routes) (fallenAt (L .line) (L .route) s) (s .phase)) k 0
 
       go : (k : ℕ) → k < L .routes → Dec (getD (s .phase) k 0 ≡ 0)
-          → (if eqb (read 48 0 (each (L .routes) (fallenAt (L .line) (L .route) s) (s .phase)) k) 0 then getD (s .phase) k 0 else x k)
-          ≡ (if eqb (read 48 0 (each (L .routes) (fallenAt (L .line) (L .route) s) (s .phase)) k) 0 then fallenTo k else x k)
+          → (if eqb (read mostRoutes idle (each (L .routes) (fallenAt (L .line) (L .route) s) (s .phase)) k) 0 then getD (s .phase) k 0 else x k)
+          ≡ (if eqb (read mostRoutes idle (each (L .routes) (fallenAt (L .line) (L .route) s) (s .phase)) k) 0 then fallenTo k else x k)
       go k b (yes z) =
-          ap (λ m. if eqb (read 48 0 (each (L .routes) (fallenAt (L .line) (L .route) s) (s .phase)) k) 0 then m else x k)
+          ap (λ m. if eqb (read mostRoutes idle (each (L .routes) (fallenAt (L .line) (L .route) s) (s .phase)) k) 0 then m else x k)
           (fallen-idle (L .line) (s .section) (s .point) (s .stage) (s .bar) (route (L .route) k) (getD (s .phase) k 0) z
           ∙ sym (each-at (L .routes) (fallenAt (L .line) (L .route) s) (s .phase) k b))
       go k b (no z) =
-          let live : read 48 0 (each (L .routes) (fallenAt (L .line) (L .route) s) (s .phase)) k ≡ 0 → ⊥ =
+          let live : read mostRoutes idle (each (L .routes) (fallenAt (L .line) (L .route) s) (s .phase)) k ≡ 0 → ⊥ =
           λ y. fallen-live (L .line) (s .section) (s .point) (s .stage) (s .bar) (route (L .route) k) (getD (s .phase) k 0) z
           (sym (fell-at (L .line) (L .route) (L .routes) s k b few) ∙ y) in
           sym (if-ne _ 0 _ _ (x k) live refl) ∙ if-ne _ 0 _ _ (x k) live refl
@@ -180,34 +194,35 @@ module _ (L : Layout) (before s : State) (e : Gives) (few : L .routes ≤ 48) (l
       (e₁ : entry ≡ each (L .routes) (λ r was. route (L .route) r .entry) zeros)
       (e₂ : fallen ≡ each (L .routes) (fallenAt (L .line) (L .route) s) (s .phase))
       (e₃ : phase ≡ each (L .routes) (λ r was. unlessIdle after-fall r was (routeAfter (L .line) (L .route) after-fall e r .phase)) (s .phase))
-      (e₄ : step ≡ each (L .routes) (λ r was. unlessIdle after-fall r was (routeAfter (L .line) (L .route) after-fall e r .step)) (s .step))
-      (e₅ : second ≡ each (L .routes) (λ r was. unlessIdle after-fall r was (routeAfter (L .line) (L .route) after-fall e r .second)) (s .second))
-      (e₆ : stage ≡ each (8 * L .lines) (farAfter (s .direction) (farReadingBy (L .line) (s .section)) (farDroppedBy (L .line)
-      (record { main = mainShows (L .routes) entry (before .phase); block = blockProceeds (L .line) (before .direction) (before .point) (before .stage) (before .bar) })
-      (record { main = mainShows (L .routes) entry fallen; block = blockProceeds (L .line) (s .direction) (s .point) (s .stage) (s .bar) }))) (s .stage))
-      (e₇ : direction ≡ each (L .lines) (λ l. directionAfter (endsBy (line (L .line) l) (L .routes) (L .route) (before .stage) stage (s .bar) phase) l) (s .direction)) where
-    -- by that table a main signal shows what it shows by the routes
-    mains-same : (phases : List ℕ) → mainShows (L .routes) entry phases ≡ mainProceeds (L .routes) (L .route) phases
-    mains-same phases = ap (λ xs. mainShows (L .routes) xs phases) e₁ ∙ fun-ext (λ x. main-same (L .routes) (L .route) zeros phases x few)
+      (e₄ : step ≡ each (L .routes) (λ r was. unlessIdle after-fall r was (routeAfter (L .line) (L .route) after-fall e r .steps)) (s .steps))
+      (e₅ : second ≡ each (L .routes) (λ r was. unlessIdle after-fall r was (routeAfter (L .line) (L .route) after-fall e r .seconds)) (s .seconds))
+      (e₆ : stage ≡ farStages (fewLines (L .lines)) (L .line) (s .direction) (s .section)
+      (proceedsBy (L .line) (L .routes) entry (before .phase) (before .direction) (before .point) (before .stage) (before .bar))
+      (proceedsBy (L .line) (L .routes) entry fallen (s .direction) (s .point) (s .stage) (s .bar)) (s .stage))
+      (e₇ : direction ≡ directionsAfter (fewLines (L .lines)) (L .line) (L .routes) (L .route) (before .stage) stage (s .bar) phase (s .direction)) where
+    -- by that table signals show what they show by the routes
+    shown-same : (t : State) → proceedsBy (L .line) (L .routes) entry (t .phase) (t .direction) (t .point) (t .stage) (t .bar) ≡ proceedsIn L t
+    shown-same t = rw e₁ (fun-ext (λ x. shows-same L zeros t x few))
 
-    -- the stages move by the fallen state: main signals show the same by the table and by the routes
-    stages-moved : stage ≡ each (8 * L .lines) (farAfter (s .direction) (farReading L after-fall) (farDropped L before after-fall)) (s .stage)
-    unfolding farReading farDropped proceedsIn fell withRoutes
+    -- the stages move by the fallen state
+    stages-moved : stage ≡ farStages (L .lines) (L .line) (s .direction) (s .section) (proceedsIn L before) (proceedsIn L after-fall) (s .stage)
+    unfolding fell withRoutes
     stages-moved =
-        e₆ ∙ ap₂ (λ (f g : ℕ → Bool). each (8 * L .lines) (farAfter (s .direction) (farReadingBy (L .line) (s .section)) (farDroppedBy (L .line)
-        (record { main = f; block = blockProceeds (L .line) (before .direction) (before .point) (before .stage) (before .bar) })
-        (record { main = g; block = blockProceeds (L .line) (s .direction) (s .point) (s .stage) (s .bar) }))) (s .stage))
-        (mains-same (before .phase)) (mains-same fallen ∙ ap (mainProceeds (L .routes) (L .route)) e₂)
+        e₆ ∙ ap₂ (λ (m : ℕ) (xs : List ℕ). farStages m (L .line) (s .direction) (s .section)
+        (proceedsBy (L .line) (L .routes) entry (before .phase) (before .direction) (before .point) (before .stage) (before .bar))
+        (proceedsBy (L .line) (L .routes) entry xs (s .direction) (s .point) (s .stage) (s .bar)) (s .stage)) (few-all (L .lines) few-lines) e₂
+        ∙ ap₂ (λ (f g : Signal → Bool). farStages (L .lines) (L .line) (s .direction) (s .section) f g (s .stage)) (shown-same before) (shown-same after-fall)
 
     -- the phases are those made from the fallen ones
     phases-moved : phase ≡ each (L .routes) (λ r was. unlessIdle after-fall r was (routeAfter (L .line) (L .route) after-fall e r .phase)) (after-fall .phase)
     phases-moved = e₃ ∙ from-fallen (λ r. routeAfter (L .line) (L .route) after-fall e r .phase)
 
     -- the directions go by the stages and the phases after both
-    directions-moved : direction ≡ each (L .lines) (directionAfter (ends L before (routes L (farSections L before (signals L s)) e))) (s .direction)
-    unfolding directionAfter ends routes routesBy farSections signals withRoutes withLines fell unlessIdle routeAfter heldOf
+    directions-moved : direction ≡ lineRelease L before (routes L (farSections L before (signals L s)) e) .direction
+    unfolding lineRelease routes routesBy farSections signals withRoutes withLines fell unlessIdle routeAfter lockingOf
     directions-moved =
-        e₇ ∙ ap₂ (λ (xs ys : List ℕ). each (L .lines) (λ l. directionAfter (endsBy (line (L .line) l) (L .routes) (L .route) (before .stage) xs (s .bar) ys) l) (s .direction))
+        e₇ ∙ ap (λ m. directionsAfter m (L .line) (L .routes) (L .route) (before .stage) stage (s .bar) phase (s .direction)) (few-all (L .lines) few-lines)
+        ∙ ap₂ (λ (xs ys : List ℕ). directionsAfter (L .lines) (L .line) (L .routes) (L .route) (before .stage) xs (s .bar) ys (s .direction))
         stages-moved phases-moved
 
     -- so the tables together are the state that follows
@@ -216,11 +231,35 @@ module _ (L : Layout) (before s : State) (e : Gives) (few : L .routes ≤ 48) (l
       point = s .point;
       order = s .order;
       phase = phase;
-      step = step;
-      second = second;
+      steps = step;
+      seconds = second;
       direction = direction;
       stage = stage;
       bar = s .bar;
     } ≡ settle L before s e
-    unfolding settle lineRelease routes routesBy farSections signals withRoutes withLines fell unlessIdle routeAfter heldOf
+    unfolding settle lineRelease routes routesBy farSections signals withRoutes withLines fell unlessIdle routeAfter lockingOf
     settled-made = rw (phases-moved, e₄, e₅, directions-moved, stages-moved)
+
+-- the state that follows, from the tables of the walk and those that the code makes of them for far sections and lines; the lists that it was
+-- handed are the layout's
+pub completed-made : (L : Layout) (before s : State) (e : Gives) (blank : List ℕ) (w : Walked) (ls : List Line) (m : ℕ) (rs : List Route) (n : ℕ) (stage direction : List ℕ)
+    → IsWalk L s e blank w → L .lines ≤ mostLines → L .routes ≤ mostTrainRoutes → length (s .phase) ≡ mostRoutes → ls ≡ L .line → m ≡ L .lines → rs ≡ L .route → n ≡ L .routes
+    → stage ≡ farStages (fewLines m) ls (s .direction) (s .section)
+    (proceedsBy ls n (w .entry) (before .phase) (before .direction) (before .point) (before .stage) (before .bar))
+    (proceedsBy ls n (w .entry) (w .fallen) (s .direction) (s .point) (s .stage) (s .bar)) (s .stage)
+    → direction ≡ directionsAfter (fewLines m) ls n rs (before .stage) stage (s .bar) (w .phase) (s .direction)
+    → record {
+      section = s .section;
+      point = s .point;
+      order = s .order;
+      phase = w .phase;
+      steps = w .steps;
+      seconds = w .seconds;
+      direction = direction;
+      stage = stage;
+      bar = s .bar;
+    } ≡ settle L before s e
+unfolding fell signals
+completed-made L before s e blank w ls m rs n stage direction walk lines few len p q u v e₆ e₇ =
+    settled-made L before s e lines few len blank (w .entry) (w .fallen) (w .phase) (w .steps) (w .seconds) stage direction
+    (walk .entry) (walk .fallen) (walk .phase) (walk .steps) (walk .seconds) (rw (p, q, v) at e₆) (rw (p, q, u, v) at e₇)

@@ -1,5 +1,6 @@
 pub mod State
 pub mod Own
-pub mod Entries
 pub mod Settle
+pub mod Walk
+pub mod Rows
 pub mod Step

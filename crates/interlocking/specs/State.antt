@@ -3,43 +3,49 @@ use Prim.Native.Nat.{ℕ}
 use mathlib.Core.Bool.{Bool}
 use mathlib.Core.List.{List, [], _∷_}
 use lib.ListN.{getD, replicate}
-use Rattle.laws.specs.Tests.{every, all}
-use Rattle.track.specs.Codes.{free, left, right, none, neutral, bToA, openBlock, stage0, stage2, idle, cancelling}
+use Rattle.laws.specs.Tests.{every, allBelow}
+use Rattle.track.specs.Codes.{free, left, right, readsNone, neutral, bToA, openBlock, stage0, stage2, idle, cancelling}
+use Rattle.track.specs.Sizes.{mostSections, mostPoints, mostLines, mostPlaces, mostTrainRoutes, mostRoutes}
 use Rattle.track.specs.Lists.{between}
+use Rattle.tables.specs.Tables.{Tables}
 use Rattle.interlocking.specs.declared.State.{State}
 
 -- the cold start: everything reads none, no order, no route, no line secured, every block held in stage 0, no bar
 unfoldable pub cold : State
 cold = record {
-  section = replicate 64 none;
-  point = replicate 32 none;
-  order = replicate 32 0;
-  phase = replicate 48 idle;
-  step = replicate 48 0;
-  second = replicate 48 0;
-  direction = replicate 8 neutral;
-  stage = replicate 64 stage0;
-  bar = replicate 64 0;
+  section = replicate mostSections readsNone;
+  point = replicate mostPoints readsNone;
+  order = replicate mostPoints 0;
+  phase = replicate mostRoutes idle;
+  steps = replicate mostTrainRoutes 0;
+  seconds = replicate mostTrainRoutes 0;
+  direction = replicate mostLines neutral;
+  stage = replicate mostPlaces stage0;
+  bar = replicate mostPlaces 0;
 }
 
 -- every entry of a table of n lies in low .. high
 unfoldable pub codes : ℕ → ℕ → ℕ → List ℕ → Bool
-codes n low high xs = all n (λ i. between low high (getD xs i 0))
+codes n low high xs = allBelow n (λ i. between low high (getD xs i 0))
 
 -- the codes of routes, lines and blocks: phases, steps 0..3, seconds 0..89, directions, stages, bars 0..1
 unfoldable pub routesAndLinesInRange : State → Bool
 routesAndLinesInRange s = every (
-    codes 48 idle cancelling (s .phase)
-    ∷ codes 48 0 3 (s .step)
-    ∷ codes 48 0 89 (s .second)
-    ∷ codes 8 neutral bToA (s .direction)
-    ∷ codes 64 openBlock stage2 (s .stage)
-    ∷ codes 64 0 1 (s .bar)
+    codes mostRoutes idle cancelling (s .phase)
+    ∷ codes mostTrainRoutes 0 3 (s .steps)
+    ∷ codes mostTrainRoutes 0 89 (s .seconds)
+    ∷ codes mostLines neutral bToA (s .direction)
+    ∷ codes mostPlaces openBlock stage2 (s .stage)
+    ∷ codes mostPlaces 0 1 (s .bar)
     ∷ [])
 
 -- no code is outside its range: readings, orders 0..2, and those of routes, lines and blocks
 unfoldable pub inRange : State → Bool
-inRange s = every (codes 64 free none (s .section) ∷ codes 32 left none (s .point) ∷ codes 32 0 right (s .order) ∷ routesAndLinesInRange s ∷ [])
+inRange s = every (codes mostSections free readsNone (s .section) ∷ codes mostPoints left readsNone (s .point) ∷ codes mostPoints 0 right (s .order) ∷ routesAndLinesInRange s ∷ [])
+
+-- the tables that the refusals of orders look at
+abbrev pub tablesOf : State → Tables
+tablesOf s = record { section = s .section; point = s .point; phase = s .phase; direction = s .direction; stage = s .stage; bar = s .bar }
 
 -- ---- a state with tables made anew: sections and stages; points and orders; phases, steps and seconds; directions and stages; bars
 
@@ -50,24 +56,24 @@ stateOf section point order phase step second direction stage bar = record {
   point = point;
   order = order;
   phase = phase;
-  step = step;
-  second = second;
+  steps = step;
+  seconds = second;
   direction = direction;
   stage = stage;
   bar = bar;
 }
 
 unfoldable pub withSections : State → List ℕ → List ℕ → State
-withSections s section stage = stateOf section (s .point) (s .order) (s .phase) (s .step) (s .second) (s .direction) stage (s .bar)
+withSections s section stage = stateOf section (s .point) (s .order) (s .phase) (s .steps) (s .seconds) (s .direction) stage (s .bar)
 
 unfoldable pub withPoints : State → List ℕ → List ℕ → State
-withPoints s point order = stateOf (s .section) point order (s .phase) (s .step) (s .second) (s .direction) (s .stage) (s .bar)
+withPoints s point order = stateOf (s .section) point order (s .phase) (s .steps) (s .seconds) (s .direction) (s .stage) (s .bar)
 
 unfoldable pub withRoutes : State → List ℕ → List ℕ → List ℕ → State
 withRoutes s phase step second = stateOf (s .section) (s .point) (s .order) phase step second (s .direction) (s .stage) (s .bar)
 
 unfoldable pub withLines : State → List ℕ → List ℕ → State
-withLines s direction stage = stateOf (s .section) (s .point) (s .order) (s .phase) (s .step) (s .second) direction stage (s .bar)
+withLines s direction stage = stateOf (s .section) (s .point) (s .order) (s .phase) (s .steps) (s .seconds) direction stage (s .bar)
 
 unfoldable pub withBars : State → List ℕ → State
-withBars s bar = stateOf (s .section) (s .point) (s .order) (s .phase) (s .step) (s .second) (s .direction) (s .stage) bar
+withBars s bar = stateOf (s .section) (s .point) (s .order) (s .phase) (s .steps) (s .seconds) (s .direction) (s .stage) bar

@@ -1,224 +1,298 @@
-// One event: what is refused of it, what it does and what follows.
-use super::Answer;
+// The events of section 3's table, a method for each kind that holds what is refused of it and what it does; `specs/Rows` has the same table.
 use super::State;
-use super::ending::directions_after;
+use super::Tried;
 use super::orders;
-use super::settle::far_stages;
 use layout::Layout;
 use reasons::Refusal;
-use release::Gives;
-use release::Held;
+use reasons::events::is_outside;
+use reasons::events::no_such_block;
+use refusals::numbers_refusal;
+use tables::Gives;
 use tables::reading_for;
-use track::Line;
-use track::codes::IDLE;
+use track::codes::A_TO_B;
+use track::codes::B_TO_A;
+use track::codes::BAR;
+use track::codes::CANCEL_ROUTE;
+use track::codes::LEFT;
+use track::codes::READ_POINT;
+use track::codes::READ_SECTION;
+use track::codes::RELEASE_LINE;
+use track::codes::RIGHT;
+use track::codes::SECOND;
+use track::codes::SECURE_LINE;
+use track::codes::SET_ROUTE;
+use track::codes::THROW;
+use track::codes::UNBAR;
+use track::sizes::MOST_SECTIONS;
 ghost use mathlib.Core.Path.{_≡_};
 ghost use mathlib.Core.Bool.{true};
 ghost use Prim.Native.Nat.{_≤_};
-ghost use Rattle.interlocking.specs.Step.{orderRefusal, refusal, meant, gives, ownOf, refusedBy, stepWhere};
+ghost use Rattle.track.specs.Sizes.{mostLines};
+ghost use Rattle.interlocking.specs.Rows.{nothing, sectionRow, pointRow, throwRow, setRow, cancelRow, secureRow, manualRow, barRow, secondRow, noRow, rowOf};
+ghost use Rattle.interlocking.specs.Step.{moves, stays, tried};
 
-// What is refused of an order, per kind.
-fn order_refusal(l: Layout, s: State, k: u8, a: u8) -> Refusal
-    ensures { λ r. ⌜ r ≡ orderRefusal l s k a ⌝ }
+// Nothing is given; a number past the last section is no section.
+fn gives_nothing() -> Gives
+    ensures { λ e. ⌜ e ≡ nothing ⌝ }
 {
-    if k == 3 {
-        return refusals::throw_refusal(l, &s.section, &s.phase, &s.direction, a);
-    }
-    if k == 4 {
-        return refusals::set_refusal(
-            l,
-            &s.section,
-            &s.point,
-            &s.phase,
-            &s.direction,
-            &s.stage,
-            &s.bar,
-            a,
-        );
-    }
-    if k == 5 {
-        return refusals::cancel_refusal(&s.phase, a);
-    }
-    if k == 6 {
-        let ls = l.line;
-        return refusals::secure_refusal(ls, &s.point, &s.direction, &s.stage, &s.bar, a);
-    }
-    if k == 7 {
-        return refusals::manual_refusal(l, &s.section, &s.phase, a);
-    }
-    reasons::no_refusal()
-}
-
-// What an accepted event gives.
-fn event_gives(k: u8, a: u8, b: u32) -> Gives
-    ensures { λ e. ⌜ e ≡ gives k a (meant k b) ⌝ }
-{
-    if k == 1 {
-        let reading = reading_for(b);
-        return Gives {
-            section: a,
-            reading,
-            tick: 0,
-        };
-    }
-    if k == 10 {
-        return Gives {
-            section: 64,
-            reading: 0,
-            tick: 1,
-        };
-    }
     Gives {
-        section: 64,
+        section: MOST_SECTIONS,
         reading: 0,
         tick: 0,
     }
 }
 
-// What an accepted event does itself, where there are m lines; a position and a direction are 1 or 2.
-fn own_effect(ls: [Line; 8], m: u8, s: State, k: u8, a: u8, b: u32) -> State
-    requires { ⌜ (m ≤ 8) × (k ≡ 3 → b ≤ 2) × (k ≡ 6 → b ≤ 2) ⌝ }
-    ensures { λ t. ⌜ t ≡ ownOf ls m s k a (meant k b) ⌝ }
-{
-    if k == 1 {
-        return orders::read_section(s, m, ls, a, reading_for(b));
-    }
-    if k == 2 {
-        return orders::read_point(s, a, reading_for(b));
-    }
-    if k == 3 {
-        return orders::throw(s, a, b as u8);
-    }
-    if k == 4 {
-        return orders::lock(s, a);
-    }
-    if k == 5 {
-        return orders::cancel(s, a);
-    }
-    if k == 6 {
-        return orders::secure(s, a, b as u8);
-    }
-    if k == 7 {
-        return orders::release_by_hand(s, m, ls, a);
-    }
-    if k == 8 {
-        return orders::set_bar(s, a, b, 1);
-    }
-    if k == 9 {
-        return orders::set_bar(s, a, b, 0);
-    }
-    s
-}
-
 // A refusal leaves the state as it was.
-fn refused(s: State, f: Refusal) -> Answer
-    ensures { λ r. ⌜ r ≡ refusedBy f s ⌝ }
+fn refused(s: State, f: Refusal) -> Tried
+    ensures { λ r. ⌜ r ≡ stays f s ⌝ }
 {
-    Answer {
+    let gives = gives_nothing();
+    Tried {
+        next: s,
+        gives,
         number: f.number,
         detail: f.detail,
-        next: s,
     }
 }
 
-// What is refused of an event: what is refused of any, then what is refused of an order.
-fn event_refused(l: Layout, s: State, sound: bool, kind: u32, first: u32, second: u32) -> Refusal
-    ensures { λ r. ⌜ r ≡ refusal sound l s kind first second ⌝ }
+// Not refused: the state that the event makes, and what it gives.
+fn done(t: State, gives: Gives) -> Tried
+    ensures { λ r. ⌜ r ≡ moves t gives ⌝ }
 {
-    let f = refusals::event_refusal(l, sound, kind, first, second);
-    if f.number != 0 {
-        return f;
+    Tried {
+        next: t,
+        gives,
+        number: 0,
+        detail: 0,
     }
-    order_refusal(l, s, kind as u8, first as u8)
 }
 
-// The answer to an event, where soundness was asked. The routes are walked once: signals fall and routes are let go in one
-// turn, since far sections move no route; so the table of routes is copied once.
-pub fn event_answered(
-    l: Layout,
-    before: State,
+impl State {
+    // 1: a section reading.
+    fn section_reading(self, layout: Layout, sound: bool, section: u32, code: u32) -> Tried
+        requires { ⌜ (sound ≡ true → layout .lines ≤ mostLines) ⌝ }
+        ensures { λ r. ⌜ r ≡ tried sound self section (sectionRow layout self section code) ⌝ }
+    {
+        let missing = layout.sections as u32 <= section;
+        let numbers = numbers_refusal(sound, missing, section, false);
+        if numbers.number != 0 {
+            return refused(self, numbers);
+        }
+        let ls = layout.line;
+        let g = section as u8;
+        let reading = reading_for(code);
+        let t = orders::read_section(self, layout.lines, ls, g, reading);
+        done(
+            t,
+            Gives {
+                section: g,
+                reading,
+                tick: 0,
+            },
+        )
+    }
+
+    // 2: a point reading.
+    fn point_reading(self, layout: Layout, sound: bool, point: u32, code: u32) -> Tried
+        ensures { λ r. ⌜ r ≡ tried sound self point (pointRow layout self point code) ⌝ }
+    {
+        let missing = layout.points as u32 <= point;
+        let numbers = numbers_refusal(sound, missing, point, false);
+        if numbers.number != 0 {
+            return refused(self, numbers);
+        }
+        let reading = reading_for(code);
+        let t = orders::read_point(self, point as u8, reading);
+        let gives = gives_nothing();
+        done(t, gives)
+    }
+
+    // 3: throw a point, to 1 left or 2 right.
+    fn throw(self, layout: Layout, sound: bool, point: u32, position: u32) -> Tried
+        ensures { λ r. ⌜ r ≡ tried sound self point (throwRow layout self point position) ⌝ }
+    {
+        let missing = layout.points as u32 <= point;
+        let wrong = is_outside(LEFT as u32, RIGHT as u32, position);
+        let numbers = numbers_refusal(sound, missing, point, wrong);
+        if numbers.number != 0 {
+            return refused(self, numbers);
+        }
+        let p = point as u8;
+        let f = refusals::throw_refusal(layout, &self.section, &self.phase, &self.direction, p);
+        if f.number != 0 {
+            return refused(self, f);
+        }
+        let t = orders::throw(self, p, position as u8);
+        let gives = gives_nothing();
+        done(t, gives)
+    }
+
+    // 4: set a route; the second number is unused.
+    fn set(self, layout: Layout, sound: bool, route: u32, unused: u32) -> Tried
+        ensures { λ r. ⌜ r ≡ tried sound self route (setRow layout self route unused) ⌝ }
+    {
+        let missing = layout.routes as u32 <= route;
+        let numbers = numbers_refusal(sound, missing, route, unused != 0);
+        if numbers.number != 0 {
+            return refused(self, numbers);
+        }
+        let r = route as u8;
+        let f = refusals::set_refusal(
+            layout,
+            &self.section,
+            &self.point,
+            &self.phase,
+            &self.direction,
+            &self.stage,
+            &self.bar,
+            r,
+        );
+        if f.number != 0 {
+            return refused(self, f);
+        }
+        let t = orders::lock(self, r);
+        let gives = gives_nothing();
+        done(t, gives)
+    }
+
+    // 5: cancel a route; the second number is unused.
+    fn cancel(self, layout: Layout, sound: bool, route: u32, unused: u32) -> Tried
+        ensures { λ r. ⌜ r ≡ tried sound self route (cancelRow layout self route unused) ⌝ }
+    {
+        let missing = layout.routes as u32 <= route;
+        let numbers = numbers_refusal(sound, missing, route, unused != 0);
+        if numbers.number != 0 {
+            return refused(self, numbers);
+        }
+        let r = route as u8;
+        let f = refusals::cancel_refusal(&self.phase, r);
+        if f.number != 0 {
+            return refused(self, f);
+        }
+        let t = orders::cancel(self, r);
+        let gives = gives_nothing();
+        done(t, gives)
+    }
+
+    // 6: secure a line, 1 from A to B or 2 from B to A.
+    fn secure(self, layout: Layout, sound: bool, line: u32, direction: u32) -> Tried
+        ensures { λ r. ⌜ r ≡ tried sound self line (secureRow layout self line direction) ⌝ }
+    {
+        let missing = layout.lines as u32 <= line;
+        let wrong = is_outside(A_TO_B as u32, B_TO_A as u32, direction);
+        let numbers = numbers_refusal(sound, missing, line, wrong);
+        if numbers.number != 0 {
+            return refused(self, numbers);
+        }
+        let l = line as u8;
+        let f = refusals::secure_refusal(
+            layout,
+            &self.point,
+            &self.direction,
+            &self.stage,
+            &self.bar,
+            l,
+        );
+        if f.number != 0 {
+            return refused(self, f);
+        }
+        let t = orders::secure(self, l, direction as u8);
+        let gives = gives_nothing();
+        done(t, gives)
+    }
+
+    // 7: release a line by hand, on ground 1 not left, 2 in siding, 3 returned.
+    fn release_by_hand(self, layout: Layout, sound: bool, line: u32, ground: u32) -> Tried
+        requires { ⌜ (sound ≡ true → layout .lines ≤ mostLines) ⌝ }
+        ensures { λ r. ⌜ r ≡ tried sound self line (manualRow layout self line ground) ⌝ }
+    {
+        let missing = layout.lines as u32 <= line;
+        let wrong = is_outside(1, 3, ground);
+        let numbers = numbers_refusal(sound, missing, line, wrong);
+        if numbers.number != 0 {
+            return refused(self, numbers);
+        }
+        let l = line as u8;
+        let f = refusals::manual_refusal(layout, &self.section, &self.phase, l);
+        if f.number != 0 {
+            return refused(self, f);
+        }
+        let ls = layout.line;
+        let t = orders::release_by_hand(self, layout.lines, ls, l);
+        let gives = gives_nothing();
+        done(t, gives)
+    }
+
+    // 8, 9: a bar is set, 1, or cleared, 0, on a block counted from 0.
+    fn set_bar(self, layout: Layout, sound: bool, line: u32, block: u32, bar: u8) -> Tried
+        ensures { λ r. ⌜ r ≡ tried sound self line (barRow bar layout self line block) ⌝ }
+    {
+        let missing = layout.lines as u32 <= line;
+        let wrong = no_such_block(layout, line, block);
+        let numbers = numbers_refusal(sound, missing, line, wrong);
+        if numbers.number != 0 {
+            return refused(self, numbers);
+        }
+        let t = orders::set_bar(self, line as u8, block, bar);
+        let gives = gives_nothing();
+        done(t, gives)
+    }
+
+    // 10: one second has passed; both numbers are unused.
+    fn second(self, sound: bool, first: u32, second: u32) -> Tried
+        ensures { λ r. ⌜ r ≡ tried sound self first (secondRow self first second) ⌝ }
+    {
+        let wrong = !((first == 0) & (second == 0));
+        let numbers = numbers_refusal(sound, false, first, wrong);
+        if numbers.number != 0 {
+            return refused(self, numbers);
+        }
+        done(
+            self,
+            Gives {
+                section: MOST_SECTIONS,
+                reading: 0,
+                tick: 1,
+            },
+        )
+    }
+
+    // A kind that has no row: 1.
+    fn unknown(self, sound: bool, first: u32) -> Tried
+        ensures { λ r. ⌜ r ≡ tried sound self first (noRow self) ⌝ }
+    {
+        let numbers = numbers_refusal(sound, false, first, false);
+        if numbers.number != 0 {
+            return refused(self, numbers);
+        }
+        let f = reasons::refuse(1, 0);
+        refused(self, f)
+    }
+}
+
+// The event of a kind.
+pub fn event_tried(
+    s: State,
+    layout: Layout,
     sound: bool,
     kind: u32,
     first: u32,
     second: u32,
-) -> Answer
-    requires { ⌜ (sound ≡ true → (l .lines ≤ 8) × (l .routes ≤ 48)) ⌝ }
-    ensures { λ r. ⌜ r ≡ stepWhere sound l before kind first second ⌝ }
+) -> Tried
+    requires { ⌜ (sound ≡ true → layout .lines ≤ mostLines) ⌝ }
+    ensures { λ r. ⌜ r ≡ tried sound s first (rowOf layout s kind first second) ⌝ }
 {
-    let ls = l.line;
-    let rs = l.route;
-    let n = l.routes;
-    let m = l.lines;
-    let f = event_refused(l, before, sound, kind, first, second);
-    if f.number != 0 {
-        return refused(before, f);
-    }
-    let k = kind as u8;
-    let o = first as u8;
-    let s = own_effect(ls, m, before, k, o, second);
-    let e = event_gives(k, o, second);
-    let mut entry = [0u8; 48];
-    let mut fallen = s.phase;
-    let mut phase = s.phase;
-    let mut step = s.step;
-    let mut waited = s.second;
-    let mut r: u8 = 0;
-    while r < n {
-        let a = rs[r as usize];
-        entry[r as usize] = a.entry;
-        if s.phase[r as usize] == IDLE {
-            r += 1;
-            continue;
-        }
-        let h = Held {
-            phase: s.phase[r as usize],
-            step: s.step[r as usize],
-            second: s.second[r as usize],
-        };
-        let x = release::route_settled(ls, &s.section, &s.point, &s.stage, &s.bar, a, e, h);
-        fallen[r as usize] = x.fallen;
-        phase[r as usize] = x.phase;
-        step[r as usize] = x.step;
-        waited[r as usize] = x.second;
-        r += 1;
-    }
-    let directions = s.direction;
-    let stage = far_stages(
-        8 * m,
-        ls,
-        n,
-        &entry,
-        &s.section,
-        &before.phase,
-        &before.direction,
-        &before.point,
-        &before.stage,
-        &before.bar,
-        &fallen,
-        &s.direction,
-        &s.point,
-        &s.stage,
-        &s.bar,
-    );
-    let direction = directions_after(
-        directions,
-        m,
-        ls,
-        n,
-        rs,
-        &before.stage,
-        &stage,
-        &s.bar,
-        &phase,
-    );
-    let mut next = s;
-    next.phase = phase;
-    next.step = step;
-    next.second = waited;
-    next.direction = direction;
-    next.stage = stage;
-    Answer {
-        number: 0,
-        detail: 0,
-        next,
+    match kind {
+        READ_SECTION => s.section_reading(layout, sound, first, second),
+        READ_POINT => s.point_reading(layout, sound, first, second),
+        THROW => s.throw(layout, sound, first, second),
+        SET_ROUTE => s.set(layout, sound, first, second),
+        CANCEL_ROUTE => s.cancel(layout, sound, first, second),
+        SECURE_LINE => s.secure(layout, sound, first, second),
+        RELEASE_LINE => s.release_by_hand(layout, sound, first, second),
+        BAR => s.set_bar(layout, sound, first, second, 1),
+        UNBAR => s.set_bar(layout, sound, first, second, 0),
+        SECOND => s.second(sound, first, second),
+        _ => s.unknown(sound, first),
     }
 }

@@ -1,60 +1,73 @@
 // What an accepted event itself does to the state.
 use super::State;
 use super::stores::store;
+use tables::Gives;
+use tables::block_given;
 use track::Line;
 use track::codes::AT_PROCEED;
 use track::codes::CANCELLING;
 use track::codes::NEUTRAL;
 use track::codes::NONE;
 use track::codes::OPEN;
+use track::sizes::BLOCKS;
+use track::sizes::LINES;
+use track::sizes::MOST_BLOCKS;
+use track::sizes::PLACES;
+use track::sizes::POINTS;
+use track::sizes::ROUTES;
+use track::sizes::SECTIONS;
+use track::sizes::TRAIN_ROUTES;
 ghost use mathlib.Core.Path.{_≡_};
 ghost use Prim.Native.Nat.{_≤_};
-ghost use lib.Dec.{eqb, ltb};
-ghost use lib.ListN.{getD};
-ghost use Rattle.laws.specs.Tests.{_and_};
 ghost use Rattle.laws.specs.Tables.{each};
-ghost use Rattle.interlocking.specs.Own.{ownStageAt, ownSection, ownPoint, throwReading, ownThrow, ownSet, ownCancel, ownSecure, openAt, ownManual, ownBar};
+ghost use Rattle.track.specs.Sizes.{mostLines, mostPlaces};
+ghost use Rattle.interlocking.specs.Own.{ownGiven, ownStageAt, ownSection, ownPoint, throwReading, ownThrow, ownSet, ownCancel, ownSecure, openAt, ownManual, ownBar};
 
-// Section g is block i of the line of which the record is b.
-fn is_block(b: Line, g: u8, i: u8) -> bool
-    ensures { λ x. ⌜ x ≡ (ltb i (b .blocks) and eqb (getD (b .block) i 0) g) ⌝ }
+// What the event gives block i of a line, 0 for nothing; there is none past its last block.
+fn own_given(e: Gives, b: Line, i: u8) -> u8
+    ensures { λ x. ⌜ x ≡ ownGiven e b i ⌝ }
 {
     if b.blocks <= i {
-        return false;
+        return 0;
     }
-    let block = b.block;
-    laws::at8(block, i) == g
+    block_given(e, b, i)
 }
 
-// The stages of the first m places after section g was given v; the places of other sections are left at once.
-fn stages_after(stages: [u8; 64], m: u8, ls: [Line; 8], g: u8, v: u8) -> [u8; 64]
-    requires { ⌜ m ≤ 64 ⌝ }
-    ensures { λ x. ⌜ x ≡ each m (ownStageAt ls g v) stages ⌝ }
+// The stages of the first m places after what the event gives their blocks; those to which it gives nothing are left at once.
+fn stages_after(stages: [u8; PLACES], m: u8, ls: [Line; LINES], e: Gives) -> [u8; PLACES]
+    requires { ⌜ m ≤ mostPlaces ⌝ }
+    ensures { λ x. ⌜ x ≡ each m (ownStageAt ls e) stages ⌝ }
 {
     let mut stage = stages;
     let mut k: u8 = 0;
     while k < m {
-        let b = ls[(k / 8) as usize];
-        if !is_block(b, g, k % 8) {
+        let b = ls[(k / MOST_BLOCKS) as usize];
+        let given = own_given(e, b, k % MOST_BLOCKS);
+        if given == 0 {
             k += 1;
             continue;
         }
         let was = stage[k as usize];
-        stage[k as usize] = passage::own_stage(v, was);
+        stage[k as usize] = passage::own_stage(given, was);
         k += 1;
     }
     stage
 }
 
-// 1: section g reads v, and the block that it is has its own reading; there are n lines.
-pub fn read_section(s: State, n: u8, ls: [Line; 8], g: u8, v: u8) -> State
-    requires { ⌜ n ≤ 8 ⌝ }
+// 1: section g reads v, and the block that it belongs to has its own reading; there are n lines.
+pub fn read_section(s: State, n: u8, ls: [Line; LINES], g: u8, v: u8) -> State
+    requires { ⌜ n ≤ mostLines ⌝ }
     ensures { λ t. ⌜ t ≡ ownSection ls n s g v ⌝ }
 {
     let mut section = s.section;
-    store(&mut section, 64, g as usize, v);
+    store(&mut section, SECTIONS, g as usize, v);
     let stages = s.stage;
-    let stage = stages_after(stages, 8 * n, ls, g, v);
+    let e = Gives {
+        section: g,
+        reading: v,
+        tick: 0,
+    };
+    let stage = stages_after(stages, MOST_BLOCKS * n, ls, e);
     let mut t = s;
     t.section = section;
     t.stage = stage;
@@ -66,7 +79,7 @@ pub fn read_point(s: State, p: u8, v: u8) -> State
     ensures { λ t. ⌜ t ≡ ownPoint s p v ⌝ }
 {
     let mut point = s.point;
-    store(&mut point, 32, p as usize, v);
+    store(&mut point, POINTS, p as usize, v);
     let mut t = s;
     t.point = point;
     t
@@ -77,15 +90,15 @@ pub fn lock(s: State, r: u8) -> State
     ensures { λ t. ⌜ t ≡ ownSet s r ⌝ }
 {
     let mut phase = s.phase;
-    let mut step = s.step;
-    let mut second = s.second;
-    store(&mut phase, 48, r as usize, AT_PROCEED);
-    store(&mut step, 48, r as usize, 0);
-    store(&mut second, 48, r as usize, 0);
+    let mut step = s.steps;
+    let mut second = s.seconds;
+    store(&mut phase, ROUTES, r as usize, AT_PROCEED);
+    store(&mut step, TRAIN_ROUTES, r as usize, 0);
+    store(&mut second, TRAIN_ROUTES, r as usize, 0);
     let mut t = s;
     t.phase = phase;
-    t.step = step;
-    t.second = second;
+    t.steps = step;
+    t.seconds = second;
     t
 }
 
@@ -94,12 +107,12 @@ pub fn cancel(s: State, r: u8) -> State
     ensures { λ t. ⌜ t ≡ ownCancel s r ⌝ }
 {
     let mut phase = s.phase;
-    let mut second = s.second;
-    store(&mut phase, 48, r as usize, CANCELLING);
-    store(&mut second, 48, r as usize, 0);
+    let mut second = s.seconds;
+    store(&mut phase, ROUTES, r as usize, CANCELLING);
+    store(&mut second, TRAIN_ROUTES, r as usize, 0);
     let mut t = s;
     t.phase = phase;
-    t.second = second;
+    t.seconds = second;
     t
 }
 
@@ -108,26 +121,26 @@ pub fn secure(s: State, l: u8, w: u8) -> State
     ensures { λ t. ⌜ t ≡ ownSecure s l w ⌝ }
 {
     let mut direction = s.direction;
-    store(&mut direction, 8, l as usize, w);
+    store(&mut direction, LINES, l as usize, w);
     let mut t = s;
     t.direction = direction;
     t
 }
 
 // The stage at place k after line l was released by hand.
-fn opened_at(ls: [Line; 8], l: u8, k: u8, was: u8) -> u8
+fn opened_at(ls: [Line; LINES], l: u8, k: u8, was: u8) -> u8
     ensures { λ x. ⌜ x ≡ openAt ls l k was ⌝ }
 {
     let b = track::line_at(ls, l);
-    if (k / 8 == l) & (k % 8 < b.blocks) {
+    if (k / MOST_BLOCKS == l) & (k % MOST_BLOCKS < b.blocks) {
         return OPEN;
     }
     was
 }
 
 // The stages of the first m places after line l was released by hand.
-fn opened_stages(stages: [u8; 64], m: u8, ls: [Line; 8], l: u8) -> [u8; 64]
-    requires { ⌜ m ≤ 64 ⌝ }
+fn opened_stages(stages: [u8; PLACES], m: u8, ls: [Line; LINES], l: u8) -> [u8; PLACES]
+    requires { ⌜ m ≤ mostPlaces ⌝ }
     ensures { λ x. ⌜ x ≡ each m (openAt ls l) stages ⌝ }
 {
     let mut stage = stages;
@@ -141,14 +154,14 @@ fn opened_stages(stages: [u8; 64], m: u8, ls: [Line; 8], l: u8) -> [u8; 64]
 }
 
 // 7: line l, of n lines, is released by hand: every block open, the line neutral.
-pub fn release_by_hand(s: State, n: u8, ls: [Line; 8], l: u8) -> State
-    requires { ⌜ n ≤ 8 ⌝ }
+pub fn release_by_hand(s: State, n: u8, ls: [Line; LINES], l: u8) -> State
+    requires { ⌜ n ≤ mostLines ⌝ }
     ensures { λ t. ⌜ t ≡ ownManual ls n s l ⌝ }
 {
     let mut direction = s.direction;
-    store(&mut direction, 8, l as usize, NEUTRAL);
+    store(&mut direction, LINES, l as usize, NEUTRAL);
     let stages = s.stage;
-    let stage = opened_stages(stages, 8 * n, ls, l);
+    let stage = opened_stages(stages, MOST_BLOCKS * n, ls, l);
     let mut t = s;
     t.direction = direction;
     t.stage = stage;
@@ -159,16 +172,16 @@ pub fn release_by_hand(s: State, n: u8, ls: [Line; 8], l: u8) -> State
 pub fn set_bar(s: State, l: u8, i: u32, on: u8) -> State
     ensures { λ t. ⌜ t ≡ ownBar s l i on ⌝ }
 {
-    let k = 8 * (l as usize) + (i as usize);
+    let k = BLOCKS * (l as usize) + (i as usize);
     let mut bar = s.bar;
-    store(&mut bar, 64, k, on);
+    store(&mut bar, PLACES, k, on);
     let mut t = s;
     t.bar = bar;
     t
 }
 
 // The reading of a point that is thrown to w: none, unless it already read that position.
-fn thrown_reading(points: &[u8; 32], p: u8, w: u8) -> u8
+fn thrown_reading(points: &[u8; POINTS], p: u8, w: u8) -> u8
     ensures { λ x. ⌜ x ≡ throwReading (now (points .entry)) p w ⌝ }
 {
     if tables::point_reads(points, p) == w {
@@ -184,8 +197,8 @@ pub fn throw(s: State, p: u8, w: u8) -> State
     let x = thrown_reading(&s.point, p, w);
     let mut point = s.point;
     let mut order = s.order;
-    store(&mut point, 32, p as usize, x);
-    store(&mut order, 32, p as usize, w);
+    store(&mut point, POINTS, p as usize, x);
+    store(&mut order, POINTS, p as usize, w);
     let mut t = s;
     t.point = point;
     t.order = order;

@@ -9,16 +9,17 @@ use borrow.Author.Tests.{not-false, leb-true}
 use lib.Dec.{eqb}
 use Rattle.laws.specs.Choice.{if_then_else_}
 use Rattle.laws.proofs.Choice.{if-eq, if-ne}
-use Rattle.laws.specs.Tests.{all}
+use Rattle.laws.specs.Tests.{allBelow}
 use Rattle.laws.proofs.Tests.{every-at, every-stops, every-passes, every-last}
 use Rattle.laws.proofs.Loops.{iter-keeps}
 use Rattle.fields.specs.declared.Cursor.{Cursor}
 use Rattle.fields.proofs.Ranges.{code-most}
 use Rattle.track.specs.declared.Counts.{Counts}
-use Rattle.reading.specs.declared.Lines.{Lines}
-use Rattle.reading.specs.declared.Routes.{Routes}
-use Rattle.reading.specs.Lines.{lines}
-use Rattle.reading.specs.Routes.{routes, routesFrom, routeTurn}
+use Rattle.track.specs.Sizes.{mostTrainRoutes}
+use Rattle.file_objects.specs.declared.Lines.{Lines}
+use Rattle.file_objects.specs.declared.Routes.{Routes}
+use Rattle.file_objects.specs.Lines.{lines}
+use Rattle.file_objects.specs.Routes.{routes, routesFrom, routeTurn}
 use Rattle.pairs.specs.declared.Pairs.{Pairs}
 use Rattle.pairs.specs.Pairs.{pairs}
 use Rattle.layout.specs.declared.Layout.{Layout}
@@ -36,19 +37,19 @@ pub whole-made : (s : List ℕ) (h : Heading) (a b : Counts) (l : Lines) (r : Ro
 unfolding whole
 whole-made s h a b l r p e₁ e₂ e₃ e₄ e₅ e₆ = rw (e₆, e₅, e₄, e₃, e₂, e₁)
 
--- there are at most 48 routes in a file: the count says so, and no turn changes it
-routes-few : (s : List ℕ) (n : Counts) (c : Cursor) → routes s n c .count ≤ 48
+-- a file has no more routes than there may be: the count says so, and no turn changes it
+routes-few : (s : List ℕ) (n : Counts) (c : Cursor) → routes s n c .count ≤ mostTrainRoutes
 unfolding routes routesFrom routeTurn
 routes-few s n c =
-    iter-keeps (λ i (t : Routes). t .count ≤ 48) (routeTurn s n) _ _ (code-most s c 0 48 refl) (λ i b l p. p)
+    iter-keeps (λ i (t : Routes). t .count ≤ mostTrainRoutes) (routeTurn s n) _ _ (code-most s c 0 mostTrainRoutes refl) (λ i b l p. p)
 
 -- so in what was read of it
-pub whole-few : (s : List ℕ) {w : Whole} → w ≡ whole s → w .layout .routes ≤ 48
+pub whole-few : (s : List ℕ) {w : Whole} → w ≡ whole s → w .layout .routes ≤ mostTrainRoutes
 unfolding whole
 whole-few s e = rw e (routes-few s _ _)
 
 -- and in a record that is in range, by the seventh of its tests
-pub fits-few : (L : Layout) (v : Bool) → v ≡ fits L → not v ≡ false → L .routes ≤ 48
+pub fits-few : (L : Layout) (v : Bool) → v ≡ fits L → not v ≡ false → L .routes ≤ mostTrainRoutes
 unfolding fits
 fits-few L v e q = leb-true _ _ (every-at _ (sym e ∙ not-false v q) 6)
 
@@ -91,12 +92,12 @@ module _ (L : Layout) (a : Bool) (p : a ≡ fits L) where
   sound-range q = every-stops _ _ a p q
 
   -- in range, and the conflicts are not both ways: not sound
-  pub sound-mirror : (b : Bool) → not a ≡ false → b ≡ all (L .routes) (rowMirrors (L .conflict)) → not b ≡ true → false ≡ sound L
+  pub sound-mirror : (b : Bool) → not a ≡ false → b ≡ allBelow (L .routes) (rowMirrors (L .conflict)) → not b ≡ true → false ≡ sound L
   unfolding sound mirrored
   sound-mirror b q r s = every-passes _ _ a _ _ p q (every-stops _ _ b r s)
 
   -- in range, and they are: sound where no rule is broken
-  pub sound-rules : (b : Bool) (k : ℕ) → not a ≡ false → b ≡ all (L .routes) (rowMirrors (L .conflict)) → not b ≡ false → k ≡ broken L → eqb k 0 ≡ sound L
+  pub sound-rules : (b : Bool) (k : ℕ) → not a ≡ false → b ≡ allBelow (L .routes) (rowMirrors (L .conflict)) → not b ≡ false → k ≡ broken L → eqb k 0 ≡ sound L
   unfolding sound mirrored
   sound-rules b k q r s e = every-passes _ _ a _ _ p q (every-passes _ _ b _ _ r s (every-last _ _ (ap (λ n. eqb n 0) e)))
 

@@ -8,14 +8,15 @@ use borrow.Author.Tests.{eq-eqb, ne-eqb}
 use lib.Dec.{eqb, leb}
 use lib.ListN.{length, getD}
 use Rattle.laws.specs.Choice.{if_then_else_}
-use Rattle.laws.specs.Tests.{_and_, implies, every, all}
+use Rattle.laws.specs.Tests.{_and_, implies, every, allBelow}
 use Rattle.laws.proofs.Tests.{implies-from, all-same}
-use Rattle.laws.proofs.Loops.{Held, held-on, all-stops, all-done}
+use Rattle.laws.proofs.Loops.{SoFar, held-on, all-stops, all-done}
 use Rattle.laws.proofs.Tables.{table-at}
 use Rattle.laws.proofs.Arrays.{read-in}
 use Rattle.track.specs.declared.Counts.{Counts}
 use Rattle.track.specs.declared.Line.{Line}
 use Rattle.track.specs.declared.Route.{Route}
+use Rattle.track.specs.Sizes.{mostSections, mostPoints, mostSignals, mostLines, mostTrainRoutes}
 use Rattle.track.specs.Objects.{line, route, noRoute}
 use Rattle.track.specs.Lists.{between}
 use Rattle.track.specs.Ranges.{lineFits, routeFits}
@@ -32,21 +33,21 @@ use Rattle.layout.specs.Walks.{lineKeeps, routeKeeps, blocksApart, lists
 -- ---- an entry of an array of routes, as the code reads it
 
 -- whether a route keeps rule k
-pub kept-at : (rs : List Route) (i n : ℕ) (d : Route) (k : ℕ) (c : Counts) (ls : List Line) (blocks : ℕ) {v : Bool} → length rs ≡ 48 → i < n → n ≤ 48
+pub kept-at : (rs : List Route) (i n : ℕ) (d : Route) (k : ℕ) (c : Counts) (ls : List Line) (blocks : ℕ) {v : Bool} → length rs ≡ mostTrainRoutes → i < n → n ≤ mostTrainRoutes
     → v ≡ routeKeeps k c ls blocks (getD rs i d) → v ≡ routeKeeps k c ls blocks (route rs i)
 unfolding route
-kept-at rs i n d k c ls blocks q b few e = e ∙ ap (routeKeeps k c ls blocks) (read-in rs i 48 d noRoute q (omega arith))
+kept-at rs i n d k c ls blocks q b few e = e ∙ ap (routeKeeps k c ls blocks) (read-in rs i mostTrainRoutes d noRoute q (omega arith))
 
 -- what rule 6 asks of a route
-pub reach-at : (rs : List Route) (i : ℕ) (d : Route) {v : Reach} → length rs ≡ 48 → i < 48 → v ≡ reachOf (getD rs i d) → v ≡ reachOf (route rs i)
+pub reach-at : (rs : List Route) (i : ℕ) (d : Route) {v : Reach} → length rs ≡ mostTrainRoutes → i < mostTrainRoutes → v ≡ reachOf (getD rs i d) → v ≡ reachOf (route rs i)
 unfolding route
-reach-at rs i d q b e = e ∙ ap reachOf (read-in rs i 48 d noRoute q b)
+reach-at rs i d q b e = e ∙ ap reachOf (read-in rs i mostTrainRoutes d noRoute q b)
 
 -- whether two routes keep rule 6, by the table of what it asks
-pub row-at : (m : List ℕ) (t : List Reach) (r q : ℕ) (d : Reach) {v : Bool} → length t ≡ 48 → r < 48 → q < r
+pub row-at : (m : List ℕ) (t : List Reach) (r q : ℕ) (d : Reach) {v : Bool} → length t ≡ mostTrainRoutes → r < mostTrainRoutes → q < r
     → v ≡ pairKeeps m r q (getD t r d) (getD t q d) → v ≡ rowKeeps m t r q
 unfolding rowKeeps
-row-at m t r q d n h l e = e ∙ ap₂ (pairKeeps m r q) (read-in t r 48 d noReach n h) (read-in t q 48 d noReach n (omega arith))
+row-at m t r q d n h l e = e ∙ ap₂ (pairKeeps m r q) (read-in t r mostTrainRoutes d noReach n h) (read-in t q mostTrainRoutes d noReach n (omega arith))
 
 -- ---- rule 6 for two routes: what is listed keeps it, and what is not must not clash
 
@@ -69,26 +70,26 @@ module _ (m : List ℕ) (r q : ℕ) (a b : Reach) {e : ℕ} (p : e ≡ entryOf m
 
 -- ---- rule 6 for all routes before r, and for r with those before q
 
-module _ (m : List ℕ) (t : List Reach) (n r q : ℕ) (h : Held n (λ k. all k (rowKeeps m t k)) r) (l : r < n) (j : Held r (rowKeeps m t r) q) where
+module _ (m : List ℕ) (t : List Reach) (n r q : ℕ) (h : SoFar n (λ k. allBelow k (rowKeeps m t k)) r) (l : r < n) (j : SoFar r (rowKeeps m t r) q) where
   -- r does not keep it with q: not all do
-  pub rows-stop : {v : Bool} → q < r → v ≡ rowKeeps m t r q → not v ≡ true → false ≡ all n (λ k. all k (rowKeeps m t k))
+  pub rows-stop : {v : Bool} → q < r → v ≡ rowKeeps m t r q → not v ≡ true → false ≡ allBelow n (λ k. allBelow k (rowKeeps m t k))
   rows-stop s e f = all-stops n _ r h l (all-stops r _ q j s e f) refl
 
   -- r keeps it with each before it: one route more
-  pub rows-on : r ≤ q → Held n (λ k. all k (rowKeeps m t k)) (r + 1)
+  pub rows-on : r ≤ q → SoFar n (λ k. allBelow k (rowKeeps m t k)) (r + 1)
   rows-on s = held-on n _ r h l (all-done r _ q j s) refl
 
 -- ---- each rule, by the walk that tests it
 
 module _ (L : Layout) (v : Bool) (c : Counts) (same : c ≡ counts L) where
   -- the walk of rule 1 over the lines asks of each line just what the rule does
-  once-is : all (L .lines) (lineKeeps 1 (counts L) (L .line)) ≡ all (L .lines) (once (L .line))
+  once-is : allBelow (L .lines) (lineKeeps 1 (counts L) (L .line)) ≡ allBelow (L .lines) (once (L .line))
   unfolding lineKeeps if_then_else_
   once-is = all-same _ _ _ (λ l h. refl)
 
   -- its walk over the routes asks the same by the set of all blocks: no path section is a block
-  paths-is : all (L .routes) (λ r. routeKeeps 1 (counts L) (L .line) (blockSet (L .lines) (L .line)) (routeIn L r))
-      ≡ all (L .routes) (λ r. not (share (isBlock (L .lines) (L .line)) (inPath (routeIn L r))))
+  paths-is : allBelow (L .routes) (λ r. routeKeeps 1 (counts L) (L .line) (blockSet (L .lines) (L .line)) (routeIn L r))
+      ≡ allBelow (L .routes) (λ r. not (share (isBlock (L .lines) (L .line)) (inPath (routeIn L r))))
   unfolding routeKeeps if_then_else_
   paths-is = all-same _ _ _ (λ r h. offBlocks-is (L .lines) (L .line) (routeIn L r))
 
@@ -98,7 +99,7 @@ module _ (L : Layout) (v : Bool) (c : Counts) (same : c ≡ counts L) where
   rule1-by e = (rw same at e) ∙ rw (once-is, paths-is, inner-is (L .lines) (L .line))
 
   -- rule 2: the lines
-  pub rule2-by : v ≡ all (c .lines) (lineKeeps 2 c (L .line)) → v ≡ rule2 L
+  pub rule2-by : v ≡ allBelow (c .lines) (lineKeeps 2 c (L .line)) → v ≡ rule2 L
   unfolding rule2 lineKeeps counts if_then_else_
   rule2-by e = (rw same at e) ∙ all-same _ _ _ (λ l h. refl)
 
@@ -108,40 +109,40 @@ module _ (L : Layout) (v : Bool) (c : Counts) (same : c ≡ counts L) where
   rule3-by e = (rw same at e) ∙ ap₂ _and_ (all-same (L .routes) _ _ (λ r h. refl)) (all-same (L .lines) _ _ (λ l h. refl))
 
   -- rule 4: the routes
-  pub rule4-by : v ≡ all (L .routes) (λ r. routeKeeps 4 c (L .line) 0 (route (L .route) r)) → v ≡ rule4 L
+  pub rule4-by : v ≡ allBelow (L .routes) (λ r. routeKeeps 4 c (L .line) 0 (route (L .route) r)) → v ≡ rule4 L
   unfolding rule4 routeIn routeKeeps if_then_else_
   rule4-by e = e ∙ all-same _ _ _ (λ r h. refl)
 
   -- rule 5: the routes
-  pub rule5-by : v ≡ all (L .routes) (λ r. routeKeeps 5 c (L .line) 0 (route (L .route) r)) → v ≡ rule5 L
+  pub rule5-by : v ≡ allBelow (L .routes) (λ r. routeKeeps 5 c (L .line) 0 (route (L .route) r)) → v ≡ rule5 L
   unfolding rule5 routeIn counts routeKeeps if_then_else_
   rule5-by e = (rw same at e) ∙ all-same _ _ _ (λ r h. refl)
 
 module _ (L : Layout) (v : Bool) where
   -- rule 6: each route with each before it, by the table of what it asks of each
-  pub rule6-by : L .routes ≤ 48 → v ≡ all (L .routes) (λ r. all r (rowKeeps (L .conflict) (reaches (L .route)) r)) → v ≡ rule6 L
+  pub rule6-by : L .routes ≤ mostTrainRoutes → v ≡ allBelow (L .routes) (λ r. allBelow r (rowKeeps (L .conflict) (reaches (L .route)) r)) → v ≡ rule6 L
   unfolding rule6 rowKeeps pairKeeps reaches routeIn conflict
   rule6-by few e =
       e ∙ all-same _ _ _ (λ r h. all-same _ _ _ (λ q l.
       ap (λ t. implies t (eqb (entryOf (L .conflict) r q) 1))
-      (ap₂ clashing (table-at 48 _ noReach r (omega arith)) (table-at 48 _ noReach q (omega arith)) ∙ clashing-is (routeIn L r) (routeIn L q))))
+      (ap₂ clashing (table-at mostTrainRoutes _ noReach r (omega arith)) (table-at mostTrainRoutes _ noReach q (omega arith)) ∙ clashing-is (routeIn L r) (routeIn L q))))
 
 -- ---- the ranges, by the walks that test them
 
 module _ (L : Layout) where
   -- the walk over the lines asks the ranges of each
-  lines-fit-is : all (L .lines) (lineKeeps 0 (counts L) (L .line)) ≡ all (L .lines) (λ l. lineFits (counts L) (lineIn L l))
+  lines-fit-is : allBelow (L .lines) (lineKeeps 0 (counts L) (L .line)) ≡ allBelow (L .lines) (λ l. lineFits (counts L) (lineIn L l))
   unfolding lineIn lineKeeps if_then_else_
   lines-fit-is = all-same _ _ _ (λ l h. refl)
 
   -- the walk over the routes asks the ranges of each
-  routes-fit-is : all (L .routes) (λ r. routeKeeps 0 (counts L) (L .line) 0 (route (L .route) r)) ≡ all (L .routes) (λ r. routeFits (counts L) (routeIn L r))
+  routes-fit-is : allBelow (L .routes) (λ r. routeKeeps 0 (counts L) (L .line) 0 (route (L .route) r)) ≡ allBelow (L .routes) (λ r. routeFits (counts L) (routeIn L r))
   unfolding routeIn routeKeeps if_then_else_
   routes-fit-is = all-same _ _ _ (λ r h. refl)
 
   -- the walks over lines and routes, with the other tests, are the whole test
-  pub fits-made : (c : Counts) (a b d e : Bool) → c ≡ counts L → a ≡ between 1 64 (L .sections) → b ≡ sectionsFit (L .points) (L .sections) (L .pointsection)
-      → d ≡ all (c .lines) (lineKeeps 0 c (L .line)) → e ≡ all (L .routes) (λ r. routeKeeps 0 c (L .line) 0 (route (L .route) r))
-      → a && (leb (L .points) 32 && (b && (leb (L .signals) 32 && (leb (L .lines) 8 && (d && (leb (L .routes) 48 && e)))))) ≡ fits L
+  pub fits-made : (c : Counts) (a b d e : Bool) → c ≡ counts L → a ≡ between 1 mostSections (L .sections) → b ≡ sectionsFit (L .points) (L .sections) (L .pointsection)
+      → d ≡ allBelow (c .lines) (lineKeeps 0 c (L .line)) → e ≡ allBelow (L .routes) (λ r. routeKeeps 0 c (L .line) 0 (route (L .route) r))
+      → a && (leb (L .points) mostPoints && (b && (leb (L .signals) mostSignals && (leb (L .lines) mostLines && (d && (leb (L .routes) mostTrainRoutes && e)))))) ≡ fits L
   unfolding fits every counts
   fits-made c a b d e same p q x y = rw (p, q, (rw same at x) ∙ lines-fit-is, (rw same at y) ∙ routes-fit-is)

@@ -8,9 +8,9 @@ use Rattle.track.specs.declared.Counts.{Counts}
 use Rattle.track.specs.declared.Line.{Line}
 use Rattle.track.specs.declared.Route.{Route}
 use Rattle.track.specs.Objects.{line, route}
-use Rattle.reading.specs.Sections.{noSections}
-use Rattle.reading.specs.Lines.{noLines}
-use Rattle.reading.specs.Routes.{noRoutes}
+use Rattle.file_objects.specs.Sections.{noSections}
+use Rattle.file_objects.specs.Lines.{noLines}
+use Rattle.file_objects.specs.Routes.{noRoutes}
 use Rattle.pairs.specs.Pairs.{placeOf, noPairs}
 use Rattle.layout.specs.declared.Layout.{Layout}
 

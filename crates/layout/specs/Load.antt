@@ -7,12 +7,13 @@ use Rattle.laws.specs.Choice.{if_then_else_}
 use Rattle.fields.specs.declared.Cursor.{Cursor}
 use Rattle.fields.specs.Fields.{code}
 use Rattle.track.specs.declared.Counts.{Counts}
-use Rattle.reading.specs.declared.Owned.{Owned}
-use Rattle.reading.specs.declared.Lines.{Lines}
-use Rattle.reading.specs.declared.Routes.{Routes}
-use Rattle.reading.specs.Sections.{sections}
-use Rattle.reading.specs.Lines.{lines}
-use Rattle.reading.specs.Routes.{routes}
+use Rattle.track.specs.Sizes.{mostSections, mostSignals}
+use Rattle.file_objects.specs.declared.Owned.{Owned}
+use Rattle.file_objects.specs.declared.Lines.{Lines}
+use Rattle.file_objects.specs.declared.Routes.{Routes}
+use Rattle.file_objects.specs.Sections.{sections}
+use Rattle.file_objects.specs.Lines.{lines}
+use Rattle.file_objects.specs.Routes.{routes}
 use Rattle.pairs.specs.declared.Pairs.{Pairs}
 use Rattle.pairs.specs.Pairs.{pairs}
 use Rattle.layout.specs.declared.Loaded.{Loaded}
@@ -29,9 +30,9 @@ start = record { at = 0; fault = 0; value = 0 }
 unfoldable pub heading : List ℕ → Heading
 heading s =
     let version : Cursor = code s start 1 1 in
-    let b : Cursor = code s version 1 64 in
+    let b : Cursor = code s version 1 mostSections in
     let p : Owned = sections s b (b .value) in
-    let d : Cursor = code s (p .cur) 0 32 in
+    let d : Cursor = code s (p .cur) 0 mostSignals in
     record { cur = d; sections = b .value; points = p .count; pointsection = p .section; signals = d .value }
 
 -- the objects that lines and routes may refer to

@@ -4,7 +4,8 @@ use mathlib.Core.Bool.{Bool}
 use mathlib.Core.List.{List, [], _∷_}
 use lib.Dec.{eqb, ltb, leb}
 use lib.ListN.{getD}
-use Rattle.laws.specs.Tests.{_and_, every, all}
+use Rattle.laws.specs.Tests.{_and_, every, allBelow}
+use Rattle.track.specs.Sizes.{mostSections, mostPoints, mostSignals, mostLines, mostTrainRoutes}
 use Rattle.track.specs.Lists.{between}
 use Rattle.track.specs.Ranges.{lineFits, routeFits}
 use Rattle.layout.specs.declared.Layout.{Layout}
@@ -13,19 +14,19 @@ use Rattle.layout.specs.Rules.{broken}
 
 -- each of n points has a section that there is for its own
 unfoldable pub sectionsFit : ℕ → ℕ → List ℕ → Bool
-sectionsFit n sections own = all n (λ p. ltb (getD own p 0) sections)
+sectionsFit n sections own = allBelow n (λ p. ltb (getD own p 0) sections)
 
 -- every count, code and reference is in its range: sections 1..64, points 0..32, signals 0..32, lines 0..8, routes 0..48
 unfoldable pub fits : Layout → Bool
 fits L = every (
-    between 1 64 (L .sections)
-    ∷ leb (L .points) 32
+    between 1 mostSections (L .sections)
+    ∷ leb (L .points) mostPoints
     ∷ sectionsFit (L .points) (L .sections) (L .pointsection)
-    ∷ leb (L .signals) 32
-    ∷ leb (L .lines) 8
-    ∷ all (L .lines) (λ l. lineFits (counts L) (lineIn L l))
-    ∷ leb (L .routes) 48
-    ∷ all (L .routes) (λ r. routeFits (counts L) (routeIn L r))
+    ∷ leb (L .signals) mostSignals
+    ∷ leb (L .lines) mostLines
+    ∷ allBelow (L .lines) (λ l. lineFits (counts L) (lineIn L l))
+    ∷ leb (L .routes) mostTrainRoutes
+    ∷ allBelow (L .routes) (λ r. routeFits (counts L) (routeIn L r))
     ∷ [])
 
 -- the table of conflicts says 0 or 1 of the routes r and q, and the same of q and r
@@ -34,10 +35,10 @@ pairMirrors m r q = leb (entryOf m r q) 1 and eqb (entryOf m r q) (entryOf m q r
 
 -- no route conflicts with itself, and each two conflict both ways or not at all
 unfoldable pub rowMirrors : List ℕ → ℕ → Bool
-rowMirrors m r = eqb (entryOf m r r) 0 and all r (pairMirrors m r)
+rowMirrors m r = eqb (entryOf m r r) 0 and allBelow r (pairMirrors m r)
 
 unfoldable pub mirrored : Layout → Bool
-mirrored L = all (L .routes) (rowMirrors (L .conflict))
+mirrored L = allBelow (L .routes) (rowMirrors (L .conflict))
 
 -- in range, conflicts both ways, and no rule broken
 unfoldable pub sound : Layout → Bool

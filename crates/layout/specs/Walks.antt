@@ -5,12 +5,13 @@ use mathlib.Core.List.{List, [], _∷_}
 use lib.Dec.{eqb}
 use lib.ListN.{getD}
 use Rattle.laws.specs.Choice.{if_then_else_}
-use Rattle.laws.specs.Tests.{_and_, implies, every, all}
+use Rattle.laws.specs.Tests.{_and_, implies, every, allBelow}
 use Rattle.laws.specs.Tables.{table}
 use Rattle.sets.specs.Sets.{common}
 use Rattle.track.specs.declared.Counts.{Counts}
 use Rattle.track.specs.declared.Line.{Line}
 use Rattle.track.specs.declared.Route.{Route}
+use Rattle.track.specs.Sizes.{mostTrainRoutes}
 use Rattle.track.specs.Objects.{line, route}
 use Rattle.track.specs.Ranges.{lineFits, routeFits}
 use Rattle.rules.specs.declared.Reach.{Reach}
@@ -35,14 +36,14 @@ routeKeeps k c ls blocks a =
 -- rule 1, with the set of all blocks and that of all inner sections
 unfoldable pub blocksApart : Counts → List Line → ℕ → List Route → Bool
 blocksApart c ls n rs = every (
-    all (c .lines) (lineKeeps 1 c ls)
-    ∷ all n (λ r. routeKeeps 1 c ls (blockSet (c .lines) ls) (route rs r))
+    allBelow (c .lines) (lineKeeps 1 c ls)
+    ∷ allBelow n (λ r. routeKeeps 1 c ls (blockSet (c .lines) ls) (route rs r))
     ∷ not (common (blockSet (c .lines) ls) (innerSet (c .lines) ls))
     ∷ [])
 
 -- rule 3
 unfoldable pub listsDiffer : Counts → List Line → ℕ → List Route → Bool
-listsDiffer c ls n rs = all n (λ r. routeKeeps 3 c ls 0 (route rs r)) and all (c .lines) (lineKeeps 3 c ls)
+listsDiffer c ls n rs = allBelow n (λ r. routeKeeps 3 c ls 0 (route rs r)) and allBelow (c .lines) (lineKeeps 3 c ls)
 
 -- nothing that rule 6 could ask for
 unfoldable pub noReach : Reach
@@ -50,7 +51,7 @@ noReach = record { entry = 0; path = 0; left = 0; right = 0 }
 
 -- what rule 6 asks of each route
 unfoldable pub reaches : List Route → List Reach
-reaches rs = table 48 (λ r. reachOf (route rs r))
+reaches rs = table mostTrainRoutes (λ r. reachOf (route rs r))
 
 -- rule 6 for the routes r and q
 unfoldable pub pairKeeps : List ℕ → ℕ → ℕ → Reach → Reach → Bool

@@ -3,6 +3,9 @@ use super::Layout;
 use fields::Cursor;
 use fields::read_code;
 use track::Counts;
+use track::sizes::MOST_SECTIONS;
+use track::sizes::MOST_SIGNALS;
+use track::sizes::POINTS;
 ghost use mathlib.Core.Path.{_≡_};
 ghost use Rattle.layout.specs.Load.{heading, countsOf, whole};
 
@@ -11,7 +14,7 @@ pub struct Heading {
     pub cur: Cursor,
     pub sections: u8,
     pub points: u8,
-    pub pointsection: [u8; 32],
+    pub pointsection: [u8; POINTS],
     pub signals: u8,
 }
 
@@ -31,10 +34,10 @@ fn read_heading(s: &[u8]) -> Heading
         value: 0,
     };
     let version = read_code(s, c, 1, 1);
-    let b = read_code(s, version, 1, 64);
-    let p = reading::read_sections(s, b, b.value);
+    let b = read_code(s, version, 1, MOST_SECTIONS);
+    let p = file_objects::read_sections(s, b, b.value);
     let c1 = p.cur;
-    let d = read_code(s, c1, 0, 32);
+    let d = read_code(s, c1, 0, MOST_SIGNALS);
     let pointsection = p.section;
     Heading {
         cur: d,
@@ -63,9 +66,9 @@ pub fn read_whole(s: &[u8]) -> Whole
 {
     let h = read_heading(s);
     let c1 = h.cur;
-    let l = reading::read_lines(s, counts_of(h, 0), c1);
+    let l = file_objects::read_lines(s, counts_of(h, 0), c1);
     let c2 = l.cur;
-    let r = reading::read_routes(s, counts_of(h, l.count), c2);
+    let r = file_objects::read_routes(s, counts_of(h, l.count), c2);
     let c3 = r.cur;
     let p = pairs::read_pairs(s, c3, r.count);
     let cur = p.cur;

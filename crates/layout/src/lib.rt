@@ -6,9 +6,19 @@ mod walks;
 use track::Counts;
 use track::Line;
 use track::Route;
+use track::sizes::LINES;
+use track::sizes::MOST_LINES;
+use track::sizes::MOST_POINTS;
+use track::sizes::MOST_SECTIONS;
+use track::sizes::MOST_SIGNALS;
+use track::sizes::MOST_TRAIN_ROUTES;
+use track::sizes::PAIRS;
+use track::sizes::POINTS;
+use track::sizes::TRAIN_ROUTES;
 ghost use mathlib.Core.Path.{_≡_};
 ghost use mathlib.Core.List.{[], _∷_};
 ghost use Prim.Native.Nat.{_≤_};
+ghost use Rattle.track.specs.Sizes.{mostTrainRoutes};
 ghost use Rattle.layout.specs.Layout.{noLayout, counts};
 ghost use Rattle.layout.specs.Rules.{rule1, rule2, rule3, rule4, rule5, rule6, firstFailed, broken};
 ghost use Rattle.layout.specs.Sound.{fits, sound};
@@ -20,13 +30,13 @@ ghost use Rattle.layout.specs.Load.{refused, finished, load};
 pub struct Layout {
     pub sections: u8,
     pub points: u8,
-    pub pointsection: [u8; 32],
+    pub pointsection: [u8; POINTS],
     pub signals: u8,
     pub lines: u8,
-    pub line: [Line; 8],
+    pub line: [Line; LINES],
     pub routes: u8,
-    pub route: [Route; 48],
-    pub conflict: [u8; 2304],
+    pub route: [Route; TRAIN_ROUTES],
+    pub conflict: [u8; PAIRS],
 }
 
 // The answer to a layout file: 0, 0 and the layout; or a fault's number with its detail, and the layout with no objects.
@@ -40,9 +50,9 @@ pub struct Loaded {
 pub fn no_layout() -> Layout
     ensures { λ r. ⌜ r ≡ noLayout ⌝ }
 {
-    let pointsection = reading::no_sections();
-    let line = reading::no_lines();
-    let route = reading::no_routes();
+    let pointsection = file_objects::no_sections();
+    let line = file_objects::no_lines();
+    let route = file_objects::no_routes();
     let conflict = pairs::no_pairs();
     Layout {
         sections: 0,
@@ -71,7 +81,7 @@ fn counts_of(l: Layout) -> Counts
 
 // The first broken one of the rules 1 to 3, or 0.
 fn broken_early(l: Layout) -> u8
-    requires { ⌜ l .routes ≤ 48 ⌝ }
+    requires { ⌜ l .routes ≤ mostTrainRoutes ⌝ }
     ensures { λ r. ⌜ r ≡ firstFailed 1 (rule1 l ∷ rule2 l ∷ rule3 l ∷ []) ⌝ }
 {
     let c = counts_of(l);
@@ -92,7 +102,7 @@ fn broken_early(l: Layout) -> u8
 
 // The first broken one of the rules 4 to 6, or 0.
 fn broken_late(l: Layout) -> u8
-    requires { ⌜ l .routes ≤ 48 ⌝ }
+    requires { ⌜ l .routes ≤ mostTrainRoutes ⌝ }
     ensures { λ r. ⌜ r ≡ firstFailed 4 (rule4 l ∷ rule5 l ∷ rule6 l ∷ []) ⌝ }
 {
     let c = counts_of(l);
@@ -113,7 +123,7 @@ fn broken_late(l: Layout) -> u8
 
 // The first broken rule's number, 0 where none is.
 fn first_broken(l: Layout) -> u8
-    requires { ⌜ l .routes ≤ 48 ⌝ }
+    requires { ⌜ l .routes ≤ mostTrainRoutes ⌝ }
     ensures { λ r. ⌜ r ≡ broken l ⌝ }
 {
     let early = broken_early(l);
@@ -132,18 +142,18 @@ fn in_range(l: Layout) -> bool
     let ls = l.line;
     let rs = l.route;
     let n = l.routes;
-    if 32 < l.points {
+    if MOST_POINTS < l.points {
         return false;
     }
-    if 48 < n {
+    if MOST_TRAIN_ROUTES < n {
         return false;
     }
-    let sections = track::is_between(1, 64, l.sections);
+    let sections = track::is_between(1, MOST_SECTIONS, l.sections);
     let points = walks::sections_fit(own, l.points, l.sections);
     let lines = walks::lines_keep(0, c, ls);
     let routes = walks::routes_keep(0, c, ls, 0, n, rs);
-    let rest = (l.lines <= 8) & (lines & ((n <= 48) & routes));
-    sections & ((l.points <= 32) & (points & ((l.signals <= 32) & rest)))
+    let rest = (l.lines <= MOST_LINES) & (lines & ((n <= MOST_TRAIN_ROUTES) & routes));
+    sections & ((l.points <= MOST_POINTS) & (points & ((l.signals <= MOST_SIGNALS) & rest)))
 }
 
 impl Layout {
@@ -175,7 +185,7 @@ fn refuse(number: u8, detail: usize) -> Loaded
 
 // What was read of a file of n bytes, held to its end and to the rules.
 fn finish(w: file::Whole, n: usize) -> Loaded
-    requires { ⌜ w .layout .routes ≤ 48 ⌝ }
+    requires { ⌜ w .layout .routes ≤ mostTrainRoutes ⌝ }
     ensures { λ r. ⌜ r ≡ finished w n ⌝ }
 {
     let c = w.cur;

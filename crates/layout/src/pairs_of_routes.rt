@@ -2,16 +2,20 @@
 use pairs::place_of;
 use rules::Reach;
 use track::Route;
+use track::sizes::MOST_TRAIN_ROUTES;
+use track::sizes::PAIRS;
+use track::sizes::TRAIN_ROUTES;
 ghost use mathlib.Core.Path.{_≡_};
 ghost use Prim.Native.Nat.{_<_, _≤_};
-ghost use Rattle.laws.specs.Tests.{all};
+ghost use Rattle.laws.specs.Tests.{allBelow};
+ghost use Rattle.track.specs.Sizes.{mostTrainRoutes};
 ghost use Rattle.layout.specs.Layout.{entryOf};
 ghost use Rattle.layout.specs.Sound.{pairMirrors, rowMirrors};
 ghost use Rattle.layout.specs.Walks.{noReach, reaches, pairKeeps, rowKeeps};
 
 // The entry of the table of conflicts for the routes r and q.
-fn entry(m: &[u8; 2304], r: u8, q: u8) -> u8
-    requires { ⌜ (r < 48) × (q < 48) ⌝ }
+fn entry(m: &[u8; PAIRS], r: u8, q: u8) -> u8
+    requires { ⌜ (r < mostTrainRoutes) × (q < mostTrainRoutes) ⌝ }
     ensures { λ x. ⌜ x ≡ entryOf (now (m .entry)) r q ⌝ }
 {
     let place = place_of(r, q);
@@ -31,13 +35,13 @@ fn no_reach() -> Reach
 }
 
 // What rule 6 asks of each route.
-fn reach_table(rs: [Route; 48]) -> [Reach; 48]
+fn reach_table(rs: [Route; TRAIN_ROUTES]) -> [Reach; TRAIN_ROUTES]
     ensures { λ t. ⌜ t ≡ reaches rs ⌝ }
 {
     let none = no_reach();
-    let mut t = [none; 48];
+    let mut t = [none; TRAIN_ROUTES];
     let mut i: u8 = 0;
-    while i < 48 {
+    while i < MOST_TRAIN_ROUTES {
         let a = rs[i as usize];
         t[i as usize] = rules::route_reach(a);
         i += 1;
@@ -46,8 +50,8 @@ fn reach_table(rs: [Route; 48]) -> [Reach; 48]
 }
 
 // Rule 6 for the routes r and q: where they clash they are listed.
-fn pair_keeps(m: &[u8; 2304], r: u8, q: u8, a: Reach, b: Reach) -> bool
-    requires { ⌜ (r < 48) × (q < 48) ⌝ }
+fn pair_keeps(m: &[u8; PAIRS], r: u8, q: u8, a: Reach, b: Reach) -> bool
+    requires { ⌜ (r < mostTrainRoutes) × (q < mostTrainRoutes) ⌝ }
     ensures { λ x. ⌜ x ≡ pairKeeps (now (m .entry)) r q a b ⌝ }
 {
     if entry(m, r, q) == 1 {
@@ -57,9 +61,9 @@ fn pair_keeps(m: &[u8; 2304], r: u8, q: u8, a: Reach, b: Reach) -> bool
 }
 
 // Rule 6 for each of n routes and each before it.
-fn rows_keep(m: &[u8; 2304], t: [Reach; 48], n: u8) -> bool
-    requires { ⌜ n ≤ 48 ⌝ }
-    ensures { λ x. ⌜ x ≡ all n (λ r. all r (rowKeeps (now (m .entry)) t r)) ⌝ }
+fn rows_keep(m: &[u8; PAIRS], t: [Reach; TRAIN_ROUTES], n: u8) -> bool
+    requires { ⌜ n ≤ mostTrainRoutes ⌝ }
+    ensures { λ x. ⌜ x ≡ allBelow n (λ r. allBelow r (rowKeeps (now (m .entry)) t r)) ⌝ }
 {
     let mut r: u8 = 0;
     while r < n {
@@ -78,17 +82,17 @@ fn rows_keep(m: &[u8; 2304], t: [Reach; 48], n: u8) -> bool
 }
 
 // Rule 6.
-pub fn rule_6(m: &[u8; 2304], n: u8, rs: [Route; 48]) -> bool
-    requires { ⌜ n ≤ 48 ⌝ }
-    ensures { λ x. ⌜ x ≡ all n (λ r. all r (rowKeeps (now (m .entry)) (reaches rs) r)) ⌝ }
+pub fn rule_6(m: &[u8; PAIRS], n: u8, rs: [Route; TRAIN_ROUTES]) -> bool
+    requires { ⌜ n ≤ mostTrainRoutes ⌝ }
+    ensures { λ x. ⌜ x ≡ allBelow n (λ r. allBelow r (rowKeeps (now (m .entry)) (reaches rs) r)) ⌝ }
 {
     let t = reach_table(rs);
     rows_keep(m, t, n)
 }
 
 // The table says the same of r and q as of q and r, and says 0 or 1.
-fn pair_mirrors(m: &[u8; 2304], r: u8, q: u8) -> bool
-    requires { ⌜ (r < 48) × (q < 48) ⌝ }
+fn pair_mirrors(m: &[u8; PAIRS], r: u8, q: u8) -> bool
+    requires { ⌜ (r < mostTrainRoutes) × (q < mostTrainRoutes) ⌝ }
     ensures { λ x. ⌜ x ≡ pairMirrors (now (m .entry)) r q ⌝ }
 {
     let one = entry(m, r, q);
@@ -97,9 +101,9 @@ fn pair_mirrors(m: &[u8; 2304], r: u8, q: u8) -> bool
 }
 
 // So it does of the route r and each before it.
-fn pairs_mirror(m: &[u8; 2304], r: u8) -> bool
-    requires { ⌜ r < 48 ⌝ }
-    ensures { λ x. ⌜ x ≡ all r (pairMirrors (now (m .entry)) r) ⌝ }
+fn pairs_mirror(m: &[u8; PAIRS], r: u8) -> bool
+    requires { ⌜ r < mostTrainRoutes ⌝ }
+    ensures { λ x. ⌜ x ≡ allBelow r (pairMirrors (now (m .entry)) r) ⌝ }
 {
     let mut q: u8 = 0;
     while q < r {
@@ -112,8 +116,8 @@ fn pairs_mirror(m: &[u8; 2304], r: u8) -> bool
 }
 
 // And it does not list the route r as conflicting with itself.
-fn row_mirrors(m: &[u8; 2304], r: u8) -> bool
-    requires { ⌜ r < 48 ⌝ }
+fn row_mirrors(m: &[u8; PAIRS], r: u8) -> bool
+    requires { ⌜ r < mostTrainRoutes ⌝ }
     ensures { λ x. ⌜ x ≡ rowMirrors (now (m .entry)) r ⌝ }
 {
     let own = entry(m, r, r);
@@ -122,9 +126,9 @@ fn row_mirrors(m: &[u8; 2304], r: u8) -> bool
 }
 
 // The conflicts of n routes are pairs of two, listed both ways.
-pub fn mirrored(m: &[u8; 2304], n: u8) -> bool
-    requires { ⌜ n ≤ 48 ⌝ }
-    ensures { λ x. ⌜ x ≡ all n (rowMirrors (now (m .entry))) ⌝ }
+pub fn mirrored(m: &[u8; PAIRS], n: u8) -> bool
+    requires { ⌜ n ≤ mostTrainRoutes ⌝ }
+    ensures { λ x. ⌜ x ≡ allBelow n (rowMirrors (now (m .entry))) ⌝ }
 {
     let mut r: u8 = 0;
     while r < n {

@@ -2,18 +2,22 @@
 use track::Counts;
 use track::Line;
 use track::Route;
+use track::sizes::LINES;
+use track::sizes::POINTS;
+use track::sizes::TRAIN_ROUTES;
 ghost use mathlib.Core.Path.{_≡_};
 ghost use Prim.Native.Nat.{_<_, _≤_};
 ghost use lib.Dec.{ltb};
 ghost use lib.ListN.{getD};
-ghost use Rattle.laws.specs.Tests.{all};
+ghost use Rattle.laws.specs.Tests.{allBelow};
+ghost use Rattle.track.specs.Sizes.{mostPoints, mostTrainRoutes};
 ghost use Rattle.track.specs.Objects.{line, route};
 ghost use Rattle.track.specs.Ranges.{lineFits};
 ghost use Rattle.layout.specs.Walks.{lineKeeps, routeKeeps, blocksApart, listsDiffer};
 ghost use Rattle.layout.specs.Sound.{sectionsFit};
 
 // Line l keeps rule k, 1 to 3; 0 asks that its numbers are in range.
-fn line_keeps(k: u8, c: Counts, ls: [Line; 8], l: u8) -> bool
+fn line_keeps(k: u8, c: Counts, ls: [Line; LINES], l: u8) -> bool
     ensures { λ r. ⌜ r ≡ lineKeeps k c ls l ⌝ }
 {
     if k == 0 {
@@ -29,7 +33,7 @@ fn line_keeps(k: u8, c: Counts, ls: [Line; 8], l: u8) -> bool
 }
 
 // The numbers of line l are in range.
-fn line_fits(c: Counts, ls: [Line; 8], l: u8) -> bool
+fn line_fits(c: Counts, ls: [Line; LINES], l: u8) -> bool
     ensures { λ r. ⌜ r ≡ lineFits c (line ls l) ⌝ }
 {
     let a = track::line_at(ls, l);
@@ -37,8 +41,8 @@ fn line_fits(c: Counts, ls: [Line; 8], l: u8) -> bool
 }
 
 // Each line keeps rule k.
-pub fn lines_keep(k: u8, c: Counts, ls: [Line; 8]) -> bool
-    ensures { λ r. ⌜ r ≡ all (c .lines) (lineKeeps k c ls) ⌝ }
+pub fn lines_keep(k: u8, c: Counts, ls: [Line; LINES]) -> bool
+    ensures { λ r. ⌜ r ≡ allBelow (c .lines) (lineKeeps k c ls) ⌝ }
 {
     let n = c.lines;
     let mut l: u8 = 0;
@@ -52,7 +56,7 @@ pub fn lines_keep(k: u8, c: Counts, ls: [Line; 8]) -> bool
 }
 
 // A route keeps rule k, 1 or 3 to 5, where `blocks` is the set of all blocks; 0 asks that its numbers are in range.
-fn route_keeps(k: u8, c: Counts, ls: [Line; 8], blocks: u64, a: Route) -> bool
+fn route_keeps(k: u8, c: Counts, ls: [Line; LINES], blocks: u64, a: Route) -> bool
     ensures { λ r. ⌜ r ≡ routeKeeps k c ls blocks a ⌝ }
 {
     if k == 0 {
@@ -71,9 +75,16 @@ fn route_keeps(k: u8, c: Counts, ls: [Line; 8], blocks: u64, a: Route) -> bool
 }
 
 // Each route keeps rule k.
-pub fn routes_keep(k: u8, c: Counts, ls: [Line; 8], blocks: u64, n: u8, rs: [Route; 48]) -> bool
-    requires { ⌜ n ≤ 48 ⌝ }
-    ensures { λ r. ⌜ r ≡ all n (λ i. routeKeeps k c ls blocks (route rs i)) ⌝ }
+pub fn routes_keep(
+    k: u8,
+    c: Counts,
+    ls: [Line; LINES],
+    blocks: u64,
+    n: u8,
+    rs: [Route; TRAIN_ROUTES],
+) -> bool
+    requires { ⌜ n ≤ mostTrainRoutes ⌝ }
+    ensures { λ r. ⌜ r ≡ allBelow n (λ i. routeKeeps k c ls blocks (route rs i)) ⌝ }
 {
     let mut i: u8 = 0;
     while i < n {
@@ -87,8 +98,8 @@ pub fn routes_keep(k: u8, c: Counts, ls: [Line; 8], blocks: u64, n: u8, rs: [Rou
 }
 
 // Rule 1: the blocks of each line once, no path over a block, no inner section a block.
-pub fn rule_1(c: Counts, ls: [Line; 8], n: u8, rs: [Route; 48]) -> bool
-    requires { ⌜ n ≤ 48 ⌝ }
+pub fn rule_1(c: Counts, ls: [Line; LINES], n: u8, rs: [Route; TRAIN_ROUTES]) -> bool
+    requires { ⌜ n ≤ mostTrainRoutes ⌝ }
     ensures { λ r. ⌜ r ≡ blocksApart c ls n rs ⌝ }
 {
     let blocks = rules::block_set(ls, c.lines);
@@ -100,8 +111,8 @@ pub fn rule_1(c: Counts, ls: [Line; 8], n: u8, rs: [Route; 48]) -> bool
 }
 
 // Rule 3: the lists of each route, and the points of each line.
-pub fn rule_3(c: Counts, ls: [Line; 8], n: u8, rs: [Route; 48]) -> bool
-    requires { ⌜ n ≤ 48 ⌝ }
+pub fn rule_3(c: Counts, ls: [Line; LINES], n: u8, rs: [Route; TRAIN_ROUTES]) -> bool
+    requires { ⌜ n ≤ mostTrainRoutes ⌝ }
     ensures { λ r. ⌜ r ≡ listsDiffer c ls n rs ⌝ }
 {
     let routes = routes_keep(3, c, ls, 0, n, rs);
@@ -110,16 +121,16 @@ pub fn rule_3(c: Counts, ls: [Line; 8], n: u8, rs: [Route; 48]) -> bool
 }
 
 // The own section of point i is one that there is.
-fn section_fits(own: [u8; 32], i: u8, sections: u8) -> bool
-    requires { ⌜ i < 32 ⌝ }
+fn section_fits(own: [u8; POINTS], i: u8, sections: u8) -> bool
+    requires { ⌜ i < mostPoints ⌝ }
     ensures { λ r. ⌜ r ≡ ltb (getD own i 0) sections ⌝ }
 {
     own[i as usize] < sections
 }
 
 // The own section of each point is one that there is.
-pub fn sections_fit(own: [u8; 32], n: u8, sections: u8) -> bool
-    requires { ⌜ n ≤ 32 ⌝ }
+pub fn sections_fit(own: [u8; POINTS], n: u8, sections: u8) -> bool
+    requires { ⌜ n ≤ mostPoints ⌝ }
     ensures { λ r. ⌜ r ≡ sectionsFit n sections own ⌝ }
 {
     let mut i: u8 = 0;

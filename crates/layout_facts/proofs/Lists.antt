@@ -8,7 +8,8 @@ use native.Mathlib.Omega.{arith}
 use lib.Dec.{eqb}
 use lib.ListN.{getD}
 use Rattle.laws.specs.Tests.{_or_}
-use Rattle.track.specs.Lists.{among, differ, between, referring, positions}
+use Rattle.track.specs.Sizes.{mostSections}
+use Rattle.track.specs.Lists.{among, allDiffer, between, referring, positions}
 use Rattle.rules.specs.Rules.{share}
 use Rattle.layout_facts.proofs.Means.{eqb-means, ltb-means, leb-means, not-means, and-means, or-means, all-means, any-means}
 use Rattle.layout_facts.proofs.Order.{same-number, to-one, one-of}
@@ -19,8 +20,8 @@ unfolding among
 among-means n xs g = any-means (λ i l. eqb-means _ _)
 
 -- of the first n, two that are equal stand at one place
-pub differ-means : (n : ℕ) (xs : List ℕ) → differ n xs ≡ true ↔ ((i j : ℕ) → i < n → j < n → getD xs i 0 ≡ getD xs j 0 → i ≡ j)
-unfolding differ
+pub differ-means : (n : ℕ) (xs : List ℕ) → allDiffer n xs ≡ true ↔ ((i j : ℕ) → i < n → j < n → getD xs i 0 ≡ getD xs j 0 → i ≡ j)
+unfolding allDiffer
 differ-means n xs =
     Iff·trans (all-means (λ i l. not-means (among-means i xs (getD xs i 0)))) (
       λ d. same-number (λ i j e. sym e) (λ i hi j l e. d i hi (j, l, sym e)),
@@ -43,8 +44,8 @@ unfolding positions
 positions-means n xs =
     all-means (λ i l. Iff·trans (between-means _ _ _) (λ s. one-of _ 1 2 (omega arith), ⊎-elim (λ e. omega arith) (λ e. omega arith)))
 
--- some number passes both of two tests, of which the first holds only below 64
-pub share-means : {p q : ℕ → Bool} {P Q : ℕ → Type 0} → ((g : ℕ) → p g ≡ true ↔ P g) → ((g : ℕ) → q g ≡ true ↔ Q g) → ((g : ℕ) → P g → g < 64)
+-- some number passes both of two tests, of which the first holds only of numbers that `share` looks through
+pub share-means : {p q : ℕ → Bool} {P Q : ℕ → Type 0} → ((g : ℕ) → p g ≡ true ↔ P g) → ((g : ℕ) → q g ≡ true ↔ Q g) → ((g : ℕ) → P g → g < mostSections)
     → share p q ≡ true ↔ (g : ℕ) × P g × Q g
 unfolding share
 share-means a b few =

@@ -11,10 +11,11 @@ use lib.ListN.{length}
 use Rattle.laws.specs.Tests.{_and_, every}
 use Rattle.laws.proofs.Choice.{if-both}
 use Rattle.laws.proofs.Tests.{and-both, every-one, every-more, all-from}
+use Rattle.track.specs.Sizes.{mostSections, mostPoints, mostSignals, mostLines, mostTrainRoutes}
 use Rattle.track.specs.Lists.{between}
 use Rattle.track.specs.Ranges.{lineFits}
 use Rattle.fields.proofs.Ranges.{Known, code-known, code-most, code-in}
-use Rattle.reading.proofs.Ranges.{between-from, sections-known, sections-in, lines-known, lines-in, routes-known, routes-in}
+use Rattle.file_objects.proofs.Ranges.{between-from, sections-known, sections-in, lines-known, lines-in, routes-known, routes-in}
 use Rattle.pairs.proofs.Ranges.{Said, neither, both, pairs-known, pairs-in}
 use Rattle.layout.specs.declared.Loaded.{Loaded}
 use Rattle.layout.specs.declared.file.Whole.{Whole}
@@ -31,7 +32,7 @@ use Rattle.layout_facts.specs.Loaded.{Answered}
 whole-known : (s : List ℕ) → Known (whole s .cur)
 unfolding whole heading
 whole-known s =
-    pairs-known s _ _ (routes-known s _ _ (lines-known s _ _ (code-known s _ 0 32 (sections-known s _ _ (code-known s _ 1 64 (code-known s start 1 1 (inl refl)))))))
+    pairs-known s _ _ (routes-known s _ _ (lines-known s _ _ (code-known s _ 0 mostSignals (sections-known s _ _ (code-known s _ 1 mostSections (code-known s start 1 1 (inl refl)))))))
 
 -- with no fault it is in range
 whole-fits : (s : List ℕ) → whole s .cur .fault ≡ 0 → fits (whole s .layout) ≡ true
@@ -39,13 +40,13 @@ unfolding whole heading countsOf fits counts sectionsFit lineIn routeIn lineFits
 whole-fits s e =
     let r = routes-in s _ _ (pairs-in s _ _ (whole-few s refl) e .0) in
     let l = lines-in s _ _ (r .0) in
-    let signals = code-in s _ 0 32 (l .0) in
+    let signals = code-in s _ 0 mostSignals (l .0) in
     let p = sections-in s _ _ (signals .0) in
-    let sections = code-in s _ 1 64 (p .0) in
-    every-more _ _ _ (between-from 1 64 _ (sections .1) (code-most s _ 1 64 refl)) (every-more _ _ _ (le-leb _ 32 (p .1 .most))
-    (every-more _ _ _ (all-from _ _ (λ k h. lt-ltb _ _ (p .1 .each k h))) (every-more _ _ _ (le-leb _ 32 (code-most s _ 0 32 refl))
-    (every-more _ _ _ (le-leb _ 8 (l .1 .most)) (every-more _ _ _ (all-from _ _ (l .1 .each))
-    (every-more _ _ _ (le-leb _ 48 (r .1 .most)) (every-one _ (all-from _ _ (r .1 .each)))))))))
+    let sections = code-in s _ 1 mostSections (p .0) in
+    every-more _ _ _ (between-from 1 mostSections _ (sections .1) (code-most s _ 1 mostSections refl)) (every-more _ _ _ (le-leb _ mostPoints (p .1 .most))
+    (every-more _ _ _ (all-from _ _ (λ k h. lt-ltb _ _ (p .1 .each k h))) (every-more _ _ _ (le-leb _ mostSignals (code-most s _ 0 mostSignals refl))
+    (every-more _ _ _ (le-leb _ mostLines (l .1 .most)) (every-more _ _ _ (all-from _ _ (l .1 .each))
+    (every-more _ _ _ (le-leb _ mostTrainRoutes (r .1 .most)) (every-one _ (all-from _ _ (r .1 .each)))))))))
 
 -- no route is listed with itself
 own-none : (m : List ℕ) (n r : ℕ) → Said m n r r → entryOf m r r ≡ 0

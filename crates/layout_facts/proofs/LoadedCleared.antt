@@ -3,7 +3,7 @@ use Prim.Native.Nat.{ℕ, _≤_}
 use mathlib.Core.Path.{_≡_, refl}
 use mathlib.Core.List.{List}
 use native.Mathlib.Omega.{arith}
-use Rattle.reading.proofs.Cleared.{sections-past, lines-past, lines-cleared, routes-past, routes-cleared}
+use Rattle.file_objects.proofs.Cleared.{sections-past, lines-past, lines-cleared, routes-past, routes-cleared}
 use Rattle.pairs.proofs.Ranges.{Said, neither, both, pairs-in}
 use Rattle.layout.specs.Layout.{lineIn, routeIn, entryOf}
 use Rattle.layout.specs.Load.{heading, whole, load}

@@ -6,7 +6,7 @@ use mathlib.Core.List.{List, [], _∷_}
 use mathlib.Core.Logic.{_↔_, _⊎_, ⊎-elim, ⊎-map}
 use borrow.Author.Tests.{eqb-true, eq-eqb, ltb-true, lt-ltb, leb-true, le-leb, not-true}
 use lib.Dec.{eqb, ltb, leb}
-use Rattle.laws.specs.Tests.{_and_, _or_, implies, every, all, any}
+use Rattle.laws.specs.Tests.{_and_, _or_, implies, every, allBelow, anyBelow}
 use Rattle.laws.proofs.Tests.{and-left, and-right, and-both, or-cases, or-left, or-right, implied, implies-from, not-both, fails-from, fails-not, all-at, all-from, any-at, any-some}
 
 -- ---- tests of two numbers
@@ -64,9 +64,9 @@ p & q = (p, q)
 
 module _ {n : ℕ} {p : ℕ → Bool} {P : ℕ → Type 0} (m : (k : ℕ) → k < n → p k ≡ true ↔ P k) where
   -- at each
-  pub all-means : all n p ≡ true ↔ ((k : ℕ) → k < n → P k)
+  pub all-means : allBelow n p ≡ true ↔ ((k : ℕ) → k < n → P k)
   all-means = (λ t k l. m k l .0 (all-at _ _ t k l), λ s. all-from _ _ (λ k l. m k l .1 (s k l)))
 
   -- at some
-  pub any-means : any n p ≡ true ↔ (k : ℕ) × (k < n) × P k
+  pub any-means : anyBelow n p ≡ true ↔ (k : ℕ) × (k < n) × P k
   any-means = (λ t. let f = any-some _ _ t in (f .0, f .1, m _ (f .1) .0 (f .2)), λ s. any-at _ _ (s .0) (s .1) (m _ (s .1) .1 (s .2)))

@@ -1,6 +1,6 @@
 -- Numbers one before the other, and numbers that are one of two or three.
 use Prim.Native.Nat.{ℕ, zero, suc, _<_, _≤_}
-use mathlib.Core.Path.{_≡_, sym, ap, subst, _∙_}
+use mathlib.Core.Path.{_≡_, sym, subst}
 use mathlib.Core.Logic.{_↔_, _≢_, _⊎_, inl, inr, ⊎-elim}
 use native.Mathlib.Omega.{arith}
 use native.Mathlib.Decide.{ℕ-discrete, decLt}
@@ -23,18 +23,21 @@ same-number turn h i j hi hj p = go (ℕ-discrete i j)
     go (yes e) = e
     go (no d) = absurd (either-order (λ i j hi hj f p. f (turn j i p)) h i j hi hj d p)
 
--- things of one line are things of no other: where those of each line differ, and from those of the lines before, two that are equal are one
-pub once-over : {n : ℕ} {Of : ℕ → ℕ → Type 0} (x : ℕ → ℕ → ℕ) → ((l : ℕ) → l < n → (i j : ℕ) → Of l i → Of l j → x l i ≡ x l j → i ≡ j)
-    → ((l : ℕ) → l < n → (k : ℕ) → k < l → (i j : ℕ) → Of l i → Of k j → x l i ≢ x k j)
-    → (l i k j : ℕ) → l < n → Of l i → k < n → Of k j → x l i ≡ x k j → (l ≡ k) × (i ≡ j)
-once-over {n} {Of} x own apart l i k j hl vi hk vj e = (same, own l hl i j vi (subst (λ m. Of m j) (sym same) vj) (e ∙ ap (λ m. x m j) (sym same)))
+-- what one place of a line has no other place has: where no two places of a line have it, nor one of a line before, two places that have it are one
+pub once-over : {n : ℕ} {Of : ℕ → ℕ → Type 0} (Has : ℕ → ℕ → ℕ → Type 0)
+    → ((l : ℕ) → l < n → (i j g : ℕ) → Of l i → Of l j → Has l i g → Has l j g → i ≡ j)
+    → ((l : ℕ) → l < n → (k : ℕ) → k < l → (i j g : ℕ) → Of l i → Of k j → Has l i g → Has k j g → ⊥)
+    → (l i k j g : ℕ) → l < n → Of l i → k < n → Of k j → Has l i g → Has k j g → (l ≡ k) × (i ≡ j)
+once-over {n} {Of} Has own apart l i k j g hl vi hk vj p q =
+    (same, own l hl i j g vi (subst (λ m. Of m j) (sym same) vj) p (subst (λ m. Has m j g) (sym same) q))
   where
     Agree : ℕ → ℕ → Type 0
-    Agree l k = (i : ℕ) × (j : ℕ) × Of l i × Of k j × (x l i ≡ x k j)
+    Agree l k = (i : ℕ) × (j : ℕ) × Of l i × Of k j × Has l i g × Has k j g
 
     same : l ≡ k
     same =
-        same-number {P = Agree} (λ l k s. (s .1, s .0, s .3, s .2, sym (s .4))) (λ l hl k b s. apart l hl k b (s .0) (s .1) (s .2) (s .3) (s .4)) l k hl hk (i, j, vi, vj, e)
+        same-number {P = Agree} (λ l k s. (s .1, s .0, s .3, s .2, s .5, s .4)) (λ l hl k b s. apart l hl k b (s .0) (s .1) g (s .2) (s .3) (s .4) (s .5)) l k hl hk
+        (i, j, vi, vj, p, q)
 
 -- what holds of 0 and of 1 holds of each up to 1
 pub to-one : (P : ℕ → Type 0) → P 0 → P 1 → (e : ℕ) → e ≤ 1 → P e

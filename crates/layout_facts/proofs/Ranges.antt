@@ -7,12 +7,14 @@ use mathlib.Core.Logic.{_↔_, Iff·trans, _⊎_}
 use native.Mathlib.Omega.{arith}
 use lib.ListN.{getD}
 use Rattle.laws.specs.Choice.{if_then_else_}
+use Rattle.track.specs.Sizes.{mostListed}
 use Rattle.track.specs.Objects.{inner, entrance}
 use Rattle.track.specs.Ranges.{pointsFit, lineFits, routeFits}
+use Rattle.track.proofs.OnlySection.{only-in, in-only}
 use Rattle.layout.specs.declared.Layout.{Layout}
 use Rattle.layout.specs.Layout.{counts, lineIn, routeIn}
 use Rattle.layout.specs.Sound.{sectionsFit, fits}
-use Rattle.layout_facts.specs.Plain.{ownSection, block, innerSection, entranceSignal, linePoint, linePosition, path, overlap, routePoint, routePosition, LineRanges, RouteRanges, Ranges}
+use Rattle.layout_facts.specs.Plain.{ownSection, InBlock, innerSection, entranceSignal, linePoint, linePosition, path, overlap, routePoint, routePosition, LineRanges, RouteRanges, Ranges}
 use Rattle.layout_facts.proofs.Means.{eqb-means, ltb-means, leb-means, lastly, _also_, _&_, every-means, and-means, or-means, all-means}
 use Rattle.layout_facts.proofs.Order.{to-one, unless}
 use Rattle.layout_facts.proofs.Lists.{between-means, referring-means, positions-means}
@@ -20,27 +22,27 @@ use Rattle.layout_facts.proofs.Lists.{between-means, referring-means, p
 -- points 0..8 as (point, position)
 pointsFit-means : (objects n : ℕ) (point position : List ℕ)
     → pointsFit objects n point position ≡ true
-    ↔ (n ≤ 8) × (((i : ℕ) → i < n → getD point i 0 < objects) × ((i : ℕ) → i < n → getD position i 0 ≡ 1 ⊎ getD position i 0 ≡ 2))
+    ↔ (n ≤ mostListed) × (((i : ℕ) → i < n → getD point i 0 < objects) × ((i : ℕ) → i < n → getD position i 0 ≡ 1 ⊎ getD position i 0 ≡ 2))
 unfolding pointsFit
 pointsFit-means objects n point position = every-means (leb-means _ _ also referring-means _ _ _ also lastly (positions-means _ _))
 
 -- a line
 lineFits-means : (L : Layout) (l : ℕ) → lineFits (counts L) (lineIn L l) ≡ true ↔ LineRanges L l
-unfolding lineFits counts block innerSection entranceSignal inner entrance if_then_else_ linePoint linePosition
+unfolding lineFits counts InBlock innerSection entranceSignal inner entrance if_then_else_ linePoint linePosition
 lineFits-means L l =
     Iff·trans (every-means (
     between-means _ _ _ also referring-means _ _ _ also ltb-means _ _ also ltb-means _ _ also ltb-means _ _ also ltb-means _ _
     also lastly (pointsFit-means _ _ _ _))) (
       λ (blocks, (block, (innera, (innerb, (entrancea, (entranceb, (points, (point, position)))))))). record {
         blockCount = blocks;
-        blocks = block;
+        blocks = λ i g h p. omega (arith, block i h, in-only (lineIn L l) i g p);
         inners = to-one _ innera innerb;
         entrances = to-one _ entrancea entranceb;
         pointCount = points;
         points = point;
         positions = position;
       },
-      λ s. s .blockCount & s .blocks & s .inners 0 (omega arith) & s .inners 1 (omega arith) & s .entrances 0 (omega arith) & s .entrances 1 (omega arith)
+      λ s. s .blockCount & (λ i h. s .blocks i _ h (only-in (lineIn L l) i)) & s .inners 0 (omega arith) & s .inners 1 (omega arith) & s .entrances 0 (omega arith) & s .entrances 1 (omega arith)
           & s .pointCount & s .points & s .positions,
     )
 

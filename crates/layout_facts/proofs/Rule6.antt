@@ -4,6 +4,7 @@ use mathlib.Core.Path.{_≡_, refl, sym, _∙_}
 use mathlib.Core.Bool.{true}
 use mathlib.Core.Logic.{_↔_, Iff·rfl, Iff·trans, _≢_, _⊎_, inl, inr, ⊎-elim}
 use native.Mathlib.Omega.{arith}
+use Rattle.track.specs.Sizes.{mostSections}
 use Rattle.rules.specs.Rules.{hasPoint, clashes}
 use Rattle.layout.specs.declared.Layout.{Layout}
 use Rattle.layout.specs.Layout.{routeIn}
@@ -49,8 +50,8 @@ module _ (L : Layout) (R : Ranges L) where
       go (inr a) (inl b) = inr (routePoint L r i, (i, hi, (a, refl)), (j, hj, (b, sym e)))
       go (inr a) (inr b) = absurd (d (a ∙ sym b))
 
-  -- a route's point is below 64
-  point-few : (w r : ℕ) → r < L .routes → (p : ℕ) → HasPoint L w r p → p < 64
+  -- a route's point is one that `share` looks through
+  point-few : (w r : ℕ) → r < L .routes → (p : ℕ) → HasPoint L w r p → p < mostSections
   point-few w r hr p (i, hi, (a, e)) = let b = R .routes r hr .points i hi in omega arith
 
   -- the same entry signal, a common path section, or a common point in different positions

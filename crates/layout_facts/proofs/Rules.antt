@@ -5,21 +5,24 @@ use mathlib.Core.Bool.{true}
 use mathlib.Core.Logic.{_↔_, Iff·trans, _≢_, _⊎_}
 use native.Mathlib.Omega.{arith}
 use Rattle.laws.specs.Choice.{if_then_else_}
+use Rattle.track.specs.Sizes.{mostSections}
 use Rattle.track.specs.Objects.{inner, entrance}
+use Rattle.track.specs.Blocks.{onlySection, blocksDiffer}
+use Rattle.track.proofs.OnlySection.{only-in, in-only}
 use Rattle.rules.specs.Rules.{hasBlock, isBlock, hasInner, isInner, inPath, hasEntrance, isEntrance, once, lineEnds, linePoints, routeLists, routeLength, routeEnds}
 use Rattle.layout.specs.declared.Layout.{Layout}
 use Rattle.layout.specs.Layout.{lineIn, routeIn}
 use Rattle.layout.specs.Rules.{rule1, rule2, rule3, rule4, rule5}
-use Rattle.layout_facts.specs.Plain.{block, innerSection, entranceSignal, linePoint, path, routePoint, Ranges, Rule1, Rule2, Rule3, Rule4, Rule5}
+use Rattle.layout_facts.specs.Plain.{InBlock, innerSection, entranceSignal, linePoint, path, routePoint, Ranges, Rule1, Rule2, Rule3, Rule4, Rule5}
 use Rattle.layout_facts.proofs.Means.{eqb-means, leb-means, not-means, and-means, or-means, implies-means, lastly, _also_, _&_, every-means, all-means, any-means}
 use Rattle.layout_facts.proofs.Order.{once-over, to-one, unless}
 use Rattle.layout_facts.proofs.Lists.{among-means, differ-means, share-means, ends-means, apart-means}
 
 -- ---- what a section or a signal is
 
--- section g is a block of one of the first n lines
+-- section g is in a block of one of the first n lines
 abbrev Block : Layout → ℕ → ℕ → Type 0
-Block L n g = (l : ℕ) × (l < n) × ((i : ℕ) × (i < lineIn L l .blocks) × (block L l i ≡ g))
+Block L n g = (l : ℕ) × (l < n) × ((i : ℕ) × (i < lineIn L l .blocks) × InBlock L l i g)
 
 -- section g is an inner section of one of the first n lines
 abbrev Inner : Layout → ℕ → ℕ → Type 0
@@ -31,9 +34,9 @@ Entrance L n x = (l : ℕ) × (l < n) × ((e : ℕ) × (e ≤ 1) × (entranceSig
 
 module _ (L : Layout) where
   -- the test for a block of line l
-  hasBlock-means : (l g : ℕ) → hasBlock (L .line) g l ≡ true ↔ (i : ℕ) × (i < lineIn L l .blocks) × (block L l i ≡ g)
-  unfolding hasBlock lineIn block
-  hasBlock-means l g = among-means _ _ _
+  hasBlock-means : (l g : ℕ) → hasBlock (L .line) g l ≡ true ↔ (i : ℕ) × (i < lineIn L l .blocks) × InBlock L l i g
+  unfolding hasBlock lineIn InBlock
+  hasBlock-means l g = any-means (λ i h. (λ t. t, λ t. t))
 
   -- the test for a block
   isBlock-means : (n g : ℕ) → isBlock n (L .line) g ≡ true ↔ Block L n g
@@ -58,20 +61,30 @@ module _ (L : Layout) where
 -- ---- rule 1
 
 module _ (L : Layout) (R : Ranges L) where
-  -- a block of one of the first n lines is below 64
-  block-few : (n : ℕ) → n ≤ L .lines → (g : ℕ) → Block L n g → g < 64
-  block-few n few g (l, hl, (i, hi, e)) = let b = R .lines l (omega arith) .blocks i hi in omega arith
+  -- a block of one of the first n lines is one of the sections that there may be
+  block-few : (n : ℕ) → n ≤ L .lines → (g : ℕ) → Block L n g → g < mostSections
+  block-few n few g (l, hl, (i, hi, e)) = let b = R .lines l (omega arith) .blocks i g hi e in omega arith
 
-  -- the blocks of line l differ, and none is a block of a line before it
+  -- two blocks of line l that have a section in common have the same one, so they are one block
+  differ : (l : ℕ) → blocksDiffer (lineIn L l) ≡ true
+      ↔ ((i j g : ℕ) → i < lineIn L l .blocks → j < lineIn L l .blocks → InBlock L l i g → InBlock L l j g → i ≡ j)
+  unfolding blocksDiffer InBlock
+  differ l =
+      Iff·trans (differ-means _ _) (
+        λ d i j g hi hj p q. d i j hi hj (in-only (lineIn L l) i g p ∙ sym (in-only (lineIn L l) j g q)),
+        λ d i j hi hj e. d i j (onlySection (lineIn L l) j) hi hj (rw e at (only-in (lineIn L l) i)) (only-in (lineIn L l) j),
+      )
+
+  -- no section is in two blocks of line l, and none is in a block of a line before it
   once-means : (l : ℕ) → l < L .lines → once (L .line) l ≡ true
-      ↔ ((i j : ℕ) → i < lineIn L l .blocks → j < lineIn L l .blocks → block L l i ≡ block L l j → i ≡ j)
-      × ((k : ℕ) → k < l → (i j : ℕ) → i < lineIn L l .blocks → j < lineIn L k .blocks → block L l i ≢ block L k j)
-  unfolding once lineIn block
+      ↔ ((i j g : ℕ) → i < lineIn L l .blocks → j < lineIn L l .blocks → InBlock L l i g → InBlock L l j g → i ≡ j)
+      × ((k : ℕ) → k < l → (i j g : ℕ) → i < lineIn L l .blocks → j < lineIn L k .blocks → InBlock L l i g → InBlock L k j g → ⊥)
+  unfolding once lineIn
   once-means l hl =
-      Iff·trans (and-means (differ-means _ _)
+      Iff·trans (and-means (differ l)
       (not-means (share-means (hasBlock-means L l) (isBlock-means L l) (λ g (i, hi, e). block-few _ hl g (l, omega arith, (i, hi, e)))))) (
-        λ (own, apart). own & λ k b i j hi hj e. apart (block L l i, (i, hi, refl), (k, b, (j, hj, sym e))),
-        λ (own, apart). own & λ (g, (i, hi, e), (k, b, (j, hj, f))). apart k b i j hi hj (e ∙ sym f),
+        λ (own, apart). own & λ k b i j g hi hj e f. apart (g, (i, hi, e), (k, b, (j, hj, f))),
+        λ (own, apart). own & λ (g, (i, hi, e), (k, b, (j, hj, f))). apart k b i j g hi hj e f,
       )
 
   -- a section is a block at most once in all lines, and is then in no path and no inner section
@@ -83,15 +96,15 @@ module _ (L : Layout) (R : Ranges L) where
       also all-means (λ r h. not-means (share-means (isBlock-means L _) (inPath-means L r) (block-few _ (omega arith))))
       also lastly (not-means (share-means (isBlock-means L _) (isInner-means L _) (block-few _ (omega arith)))))) (
         λ (lines, (paths, inners)). record {
-          once = once-over (block L) (λ l hl. lines l hl .0) (λ l hl. lines l hl .1);
+          once = once-over (InBlock L) (λ l hl. lines l hl .0) (λ l hl. lines l hl .1);
           noPath = λ l i r j hl hi hr hj e. paths r hr (path L r j, (l, hl, (i, hi, e)), (j, hj, refl));
           noInner = λ l i k e hl hi hk he q. inners (innerSection L k e, (l, hl, (i, hi, q)), (k, hk, (e, he, refl)));
         },
         λ s.
-            (λ l hl. (λ i j hi hj e. s .once l i l j hl hi hl hj e .1)
-            & λ k b i j hi hj e. let q = s .once l i k j hl hi (omega arith) hj e .0 in omega arith)
-            & (λ r hr (g, (l, hl, (i, hi, e)), (j, hj, f)). s .noPath l i r j hl hi hr hj (e ∙ sym f))
-            & λ (g, (l, hl, (i, hi, p)), (k, hk, (e, he, q))). s .noInner l i k e hl hi hk he (p ∙ sym q),
+            (λ l hl. (λ i j g hi hj p q. s .once l i l j g hl hi hl hj p q .1)
+            & λ k b i j g hi hj p q. let z = s .once l i k j g hl hi (omega arith) hj p q .0 in omega arith)
+            & (λ r hr (g, (l, hl, (i, hi, e)), (j, hj, f)). s .noPath l i r j hl hi hr hj (rw f e))
+            & λ (g, (l, hl, (i, hi, p)), (k, hk, (e, he, q))). s .noInner l i k e hl hi hk he (rw q p),
       )
 
 -- ---- rule 2
@@ -120,7 +133,9 @@ module _ (L : Layout) where
       Iff·trans (all-means (λ l h. lineEnds-means l)) (
         λ ends. record {
           inners = λ l hl. ends l hl .0;
-          entrances = once-over {Of = λ l e. e ≤ 1} (entranceSignal L) (λ l hl. ends l hl .1 .0) (λ l hl. ends l hl .1 .1);
+          entrances = λ l e k f hl he hk hf q.
+              once-over {Of = λ l e. e ≤ 1} (λ l e x. entranceSignal L l e ≡ x) (λ l hl e f x he hf p q. ends l hl .1 .0 e f he hf (p ∙ sym q))
+              (λ l hl k b e f x he hf p q. ends l hl .1 .1 k b e f he hf (p ∙ sym q)) l e k f _ hl he hk hf q refl;
         },
         λ s l hl. s .inners l hl & (λ e f he hf q. s .entrances l e l f hl he hl hf q .1)
             & λ k b e f he hf q. let z = s .entrances l e k f hl he (omega arith) hf q .0 in omega arith,

@@ -9,14 +9,10 @@ use Rattle.laws.proofs.Choice.{if-both}
 use Rattle.track.specs.Objects.{nearest}
 use Rattle.layout.specs.declared.Layout.{Layout}
 use Rattle.layout.specs.Layout.{lineIn, routeIn, conflict}
-use Rattle.layout_facts.specs.Plain.{block, innerSection, entranceSignal, path, nearestBlock, Sound, commonPath}
+use Rattle.layout_facts.specs.Plain.{innerSection, entranceSignal, path, nearestBlock, Sound, commonPath}
 use Rattle.layout_facts.proofs.Order.{one-of}
 
 module _ (L : Layout) (S : Sound L) where
-  -- a block's section is one of 64
-  pub block-below : (l i : ℕ) → l < L .lines → i < lineIn L l .blocks → block L l i < 64
-  block-below l i hl hi = omega (arith, S .ranges .lines l hl .blocks i hi)
-
   -- the block nearest an end is there
   nearest-there : (l e : ℕ) → l < L .lines → nearestBlock L l e < lineIn L l .blocks
   unfolding nearestBlock nearest

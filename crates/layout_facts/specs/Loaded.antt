@@ -3,6 +3,7 @@ use Prim.Native.Nat.{ℕ, _<_, _≤_}
 use mathlib.Core.Path.{_≡_}
 use mathlib.Core.Logic.{_⊎_}
 use lib.ListN.{getD}
+use Rattle.track.specs.Sizes.{mostRoutes}
 use Rattle.track.specs.Objects.{noLine, noRoute}
 use Rattle.layout.specs.declared.Layout.{Layout}
 use Rattle.layout.specs.declared.Loaded.{Loaded}
@@ -24,4 +25,4 @@ pub record ZeroPast (L : Layout) : Type 0 where
   pub path : (r k : ℕ) → routeIn L r .paths ≤ k → getD (routeIn L r .path) k 0 ≡ 0
   pub overlap : (r k : ℕ) → routeIn L r .overlaps ≤ k → getD (routeIn L r .overlap) k 0 ≡ 0
   pub route-points : (r k : ℕ) → routeIn L r .points ≤ k → (getD (routeIn L r .point) k 0 ≡ 0) × (getD (routeIn L r .position) k 0 ≡ 0)
-  pub conflicts : (r q : ℕ) → r < 48 → q < 48 → L .routes ≤ r → (entryOf (L .conflict) r q ≡ 0) × (entryOf (L .conflict) q r ≡ 0)
+  pub conflicts : (r q : ℕ) → r < mostRoutes → q < mostRoutes → L .routes ≤ r → (entryOf (L .conflict) r q ≡ 0) × (entryOf (L .conflict) q r ≡ 0)

@@ -5,7 +5,9 @@ use mathlib.Core.Bool.{true}
 use mathlib.Core.Logic.{_≢_, _⊎_}
 use lib.ListN.{getD}
 use Rattle.track.specs.Codes.{endA, endB, innerRoute, entranceRoute, exitRoute, left, right}
+use Rattle.track.specs.Sizes.{mostSections, mostPoints, mostSignals, mostLines, mostBlocks, mostTrainRoutes, mostListed, mostOverlap}
 use Rattle.track.specs.Objects.{inner, entrance, nearest}
+use Rattle.track.specs.Blocks.{inBlock}
 use Rattle.layout.specs.declared.Layout.{Layout}
 use Rattle.layout.specs.Layout.{lineIn, routeIn, entryOf, conflict}
 
@@ -15,9 +17,9 @@ use Rattle.layout.specs.Layout.{lineIn, routeIn, entryOf, conflict}
 unfoldable pub ownSection : Layout → ℕ → ℕ
 ownSection L p = getD (L .pointsection) p 0
 
--- the section of block i of line l, counted from end A
-unfoldable pub block : Layout → ℕ → ℕ → ℕ
-block L l i = getD (lineIn L l .block) i 0
+-- section g is in block i of line l, counted from end A
+unfoldable pub InBlock : Layout → ℕ → ℕ → ℕ → Type 0
+InBlock L l i g = inBlock (lineIn L l) i g ≡ true
 
 -- the inner section of line l at end e
 unfoldable pub innerSection : Layout → ℕ → ℕ → ℕ
@@ -59,11 +61,11 @@ routePosition L r i = getD (routeIn L r .position) i 0
 
 -- a line: blocks 1..8 and their sections, inner section and entrance signal at each end, points 0..8 with their positions
 pub record LineRanges (L : Layout) (l : ℕ) : Type 0 where
-  pub blockCount : (1 ≤ lineIn L l .blocks) × (lineIn L l .blocks ≤ 8)
-  pub blocks : (i : ℕ) → i < lineIn L l .blocks → block L l i < L .sections
+  pub blockCount : (1 ≤ lineIn L l .blocks) × (lineIn L l .blocks ≤ mostBlocks)
+  pub blocks : (i g : ℕ) → i < lineIn L l .blocks → InBlock L l i g → g < L .sections
   pub inners : (e : ℕ) → e ≤ endB → innerSection L l e < L .sections
   pub entrances : (e : ℕ) → e ≤ endB → entranceSignal L l e < L .signals
-  pub pointCount : lineIn L l .points ≤ 8
+  pub pointCount : lineIn L l .points ≤ mostListed
   pub points : (i : ℕ) → i < lineIn L l .points → linePoint L l i < L .points
   pub positions : (i : ℕ) → i < lineIn L l .points → linePosition L l i ≡ left ⊎ linePosition L l i ≡ right
 
@@ -73,23 +75,23 @@ pub record RouteRanges (L : Layout) (r : ℕ) : Type 0 where
   pub kind : routeIn L r .kind ≤ exitRoute
   pub line : routeIn L r .kind ≡ entranceRoute ⊎ routeIn L r .kind ≡ exitRoute → (routeIn L r .line < L .lines) × (routeIn L r .end ≤ endB)
   pub diverging : routeIn L r .diverging ≤ 1
-  pub pathCount : (1 ≤ routeIn L r .paths) × (routeIn L r .paths ≤ 8)
+  pub pathCount : (1 ≤ routeIn L r .paths) × (routeIn L r .paths ≤ mostListed)
   pub paths : (j : ℕ) → j < routeIn L r .paths → path L r j < L .sections
-  pub overlapCount : routeIn L r .overlaps ≤ 4
+  pub overlapCount : routeIn L r .overlaps ≤ mostOverlap
   pub overlaps : (j : ℕ) → j < routeIn L r .overlaps → overlap L r j < L .sections
-  pub pointCount : routeIn L r .points ≤ 8
+  pub pointCount : routeIn L r .points ≤ mostListed
   pub points : (i : ℕ) → i < routeIn L r .points → routePoint L r i < L .points
   pub positions : (i : ℕ) → i < routeIn L r .points → routePosition L r i ≡ left ⊎ routePosition L r i ≡ right
 
 -- sections 1..64, points 0..32 each with its own section, signals 0..32, lines 0..8, routes 0..48
 pub record Ranges (L : Layout) : Type 0 where
-  pub sectionCount : (1 ≤ L .sections) × (L .sections ≤ 64)
-  pub pointCount : L .points ≤ 32
+  pub sectionCount : (1 ≤ L .sections) × (L .sections ≤ mostSections)
+  pub pointCount : L .points ≤ mostPoints
   pub points : (p : ℕ) → p < L .points → ownSection L p < L .sections
-  pub signalCount : L .signals ≤ 32
-  pub lineCount : L .lines ≤ 8
+  pub signalCount : L .signals ≤ mostSignals
+  pub lineCount : L .lines ≤ mostLines
   pub lines : (l : ℕ) → l < L .lines → LineRanges L l
-  pub routeCount : L .routes ≤ 48
+  pub routeCount : L .routes ≤ mostTrainRoutes
   pub routes : (r : ℕ) → r < L .routes → RouteRanges L r
 
 -- ---- conflicts
@@ -104,10 +106,10 @@ pub record Conflicts (L : Layout) : Type 0 where
 
 -- rule 1: a section is a block at most once in all lines, and is then in no path and no inner section
 pub record Rule1 (L : Layout) : Type 0 where
-  pub once : (l i k j : ℕ) → l < L .lines → i < lineIn L l .blocks → k < L .lines → j < lineIn L k .blocks → block L l i ≡ block L k j
+  pub once : (l i k j g : ℕ) → l < L .lines → i < lineIn L l .blocks → k < L .lines → j < lineIn L k .blocks → InBlock L l i g → InBlock L k j g
       → (l ≡ k) × (i ≡ j)
-  pub noPath : (l i r j : ℕ) → l < L .lines → i < lineIn L l .blocks → r < L .routes → j < routeIn L r .paths → block L l i ≢ path L r j
-  pub noInner : (l i k e : ℕ) → l < L .lines → i < lineIn L l .blocks → k < L .lines → e ≤ endB → block L l i ≢ innerSection L k e
+  pub noPath : (l i r j : ℕ) → l < L .lines → i < lineIn L l .blocks → r < L .routes → j < routeIn L r .paths → InBlock L l i (path L r j) → ⊥
+  pub noInner : (l i k e : ℕ) → l < L .lines → i < lineIn L l .blocks → k < L .lines → e ≤ endB → InBlock L l i (innerSection L k e) → ⊥
 
 -- rule 2: a line's two inner sections differ; all entrance signals differ
 pub record Rule2 (L : Layout) : Type 0 where

@@ -12,7 +12,7 @@ use Rattle.laws.proofs.Choice.{if-true, if-false, if-eq, if-ne, if-ge, if-both}
 use Rattle.laws.proofs.Tests.{and-both}
 use Rattle.numbers.specs.Number.{largest}
 use Rattle.numbers.specs.Form.{encode}
-use Rattle.numerals.specs.Digits.{digits}
+use Rattle.numerals.specs.Digits.{decimalDigits}
 use Rattle.number_text.specs.declared.pack.Reader.{Reader}
 use Rattle.number_text.specs.Text.{endsWord, isDigit, nextValue, inWord, afterEnd, afterWord, next, given, readerAfter, packed}
 use Rattle.number_text.proofs.Packing.{reader-append, packed-append, reader-one, packed-one}
@@ -129,13 +129,13 @@ leaves-one r d l h =
     }
 
 -- the digits of a number that has room in so many places are read as the number
-pub leaves-digits : (k n : ℕ) (r : Reader) → n < 10 ^ suc k → n ≤ largest → Clean r → Leaves r n (digits (suc k) n)
-unfolding digits
+pub leaves-digits : (k n : ℕ) (r : Reader) → n < 10 ^ suc k → n ≤ largest → Clean r → Leaves r n (decimalDigits (suc k) n)
+unfolding decimalDigits
 leaves-digits zero n r h m c =
     if-both (Leaves r n) (ltb n 10) (λ e. leaves-one r n (ltb-true n 10 e) c) (λ e. absurd (omega (arith, ltb-false n 10 e)))
 leaves-digits (suc k) n r h m c =
     if-both (Leaves r n) (ltb n 10) (λ e. leaves-one r n (ltb-true n 10 e) c)
     (λ e. let whole : n / 10 * 10 + n % 10 ≡ n = omega arith in
-    subst (λ v. Leaves r v (digits (suc k) (n / 10) ++ ((48 + n % 10) ∷ []))) whole
-    (leaves-more r (n / 10) (n % 10) (digits (suc k) (n / 10)) (omega arith) (omega arith)
+    subst (λ v. Leaves r v (decimalDigits (suc k) (n / 10) ++ ((48 + n % 10) ∷ []))) whole
+    (leaves-more r (n / 10) (n % 10) (decimalDigits (suc k) (n / 10)) (omega arith) (omega arith)
     (leaves-digits k (n / 10) r (omega (arith, pow-suc 10 (suc k))) (omega arith) c)))

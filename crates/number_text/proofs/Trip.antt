@@ -18,7 +18,7 @@ use Rattle.numbers.specs.Number.{largest, numberAt}
 use Rattle.numbers.specs.Form.{encode, Bytes}
 use Rattle.numbers.proofs.Readings.{fault-place}
 use Rattle.numbers.proofs.Forms.{exact}
-use Rattle.numerals.specs.Digits.{digits}
+use Rattle.numerals.specs.Digits.{decimalDigits}
 use Rattle.number_text.specs.declared.pack.Reader.{Reader}
 use Rattle.number_text.specs.Text.{lineEnd, endsWord, standing, first, afterEnd, next, readerAfter, packed, stopsAt, packedText}
 use Rattle.number_text.specs.Lines.{Run, nextColumn, before, behind, numberText, begun, onward, turnOf, unpacked, ended}
@@ -111,15 +111,15 @@ number-gives per column n r rest v s =
     let a = before-ends column r rest s in
     let q : Reader = readerAfter r (before column) in
     let b = leaves-digits 4 n q (omega arith) v (a .clean) in
-    let t : Reader = readerAfter q (digits 5 n) in
+    let t : Reader = readerAfter q (decimalDigits 5 n) in
     let c = behind-gives (nextColumn per column) n t (b .doing) (b .value) v (ℕ-discrete _ 0) in
     let end : List ℕ = behind (nextColumn per column) in
-    let two : readerAfter r (before column ++ digits 5 n) ≡ t = reader-append r (before column) (digits 5 n) in
-    let front : packed r (before column ++ digits 5 n) ≡ rest =
-    packed-append r (before column) (digits 5 n) ∙ rw (a .gives, b .none) (append-nil rest) in
-    let all : packed r (before column ++ digits 5 n ++ end) ≡ rest ++ packed t end =
-    packed-append r (before column ++ digits 5 n) end ∙ rw (two, front) in
-    let whole = reader-append r (before column ++ digits 5 n) end ∙ ap (λ (x : Reader). readerAfter x end) two in
+    let two : readerAfter r (before column ++ decimalDigits 5 n) ≡ t = reader-append r (before column) (decimalDigits 5 n) in
+    let front : packed r (before column ++ decimalDigits 5 n) ≡ rest =
+    packed-append r (before column) (decimalDigits 5 n) ∙ rw (a .gives, b .none) (append-nil rest) in
+    let all : packed r (before column ++ decimalDigits 5 n ++ end) ≡ rest ++ packed t end =
+    packed-append r (before column ++ decimalDigits 5 n) end ∙ rw (two, front) in
+    let whole = reader-append r (before column ++ decimalDigits 5 n) end ∙ ap (λ (x : Reader). readerAfter x end) two in
     record {
       rest = c .rest;
       gives = ap (λ xs. xs ++ c .rest) all ∙ append-assoc rest (packed t end) (c .rest) ∙ ap (λ xs. rest ++ xs) (c .gives);

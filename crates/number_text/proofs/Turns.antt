@@ -14,6 +14,7 @@ use Rattle.laws.proofs.Choice.{if-eq, if-ne}
 use Rattle.numbers.specs.declared.Number.{Number}
 use Rattle.numbers.specs.declared.Number.the-variants.{Value, Fault}
 use Rattle.numbers.specs.Number.{numberAt}
+use Rattle.numbers.proofs.Cases.{number-same}
 use Rattle.numerals.specs.Writes.{Put}
 use Rattle.numerals.proofs.Writes.{put-none, put-then, put-within}
 use Rattle.number_text.specs.declared.unpack.Unpacked.{Unpacked}
@@ -49,7 +50,7 @@ turn-stopped per p a bytes h =
     subst (Went a (p .written) 7 a p) (if-ne _ _ _ _ _ h refl) (record { column = refl; at = refl; stop = refl; text = put-none 7 })
 
 -- for one turn
-pub ruleset onwards = (needs, value-went, fault-went, turn-stopped, turn-goes)
+pub ruleset onwards = (needs, number-same, value-went, fault-went, turn-stopped, turn-goes)
 
 -- ---- the turns of a call
 

@@ -12,7 +12,7 @@ use Rattle.laws.proofs.Choice.{if-true, if-false, if-eq, if-ne, if-lt, if-ge}
 use Rattle.numbers.specs.Number.{largest}
 use Rattle.numbers.specs.Form.{encodeIn, encode}
 use Rattle.numbers.proofs.Readings.{encode-last, encode-more}
-use Rattle.numerals.specs.Digits.{digits, fitting}
+use Rattle.numerals.specs.Digits.{decimalDigits, fitting}
 use Rattle.numerals.specs.Writes.{Put}
 use Rattle.numerals.proofs.Writes.{put-none, put-one, put-then, put-within}
 use Rattle.numerals.proofs.Numerals.{put-fitting}
@@ -125,9 +125,9 @@ pub ruleset seams = (needs, before-none, before-space, behind-none, behind-end)
 
 -- the space, the digits, the line's end
 pub number-made : (per column n column′ : ℕ) (a b c d : List ℕ) (at from end m : ℕ) → at + 7 ≤ length a → Put a at (before column) 1 b from
-    → Put b from (fitting (length b) from 5 (digits 5 n)) 5 c end → column′ ≡ nextColumn per column → Put c end (behind column′) 1 d m
+    → Put b from (fitting (length b) from 5 (decimalDigits 5 n)) 5 c end → column′ ≡ nextColumn per column → Put c end (behind column′) 1 d m
     → Put a at (numberText per column n) 7 d m
 unfolding numberText
 number-made per column n column′ a b c d at from end m room p q e r =
     let here : from + 5 ≤ length b = omega (arith, p .near, p .long) in
-    put-then (put-then p (put-fitting b from 5 (digits 5 n) c end here q)) (subst (λ k. Put c end (behind k) 1 d m) e r)
+    put-then (put-then p (put-fitting b from 5 (decimalDigits 5 n) c end here q)) (subst (λ k. Put c end (behind k) 1 d m) e r)

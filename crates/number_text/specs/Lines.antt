@@ -7,7 +7,7 @@ use Rattle.laws.specs.Tables.{iter}
 use Rattle.numbers.specs.declared.Number.{Number}
 use Rattle.numbers.specs.declared.Number.the-variants.{Value, Fault}
 use Rattle.numbers.specs.Number.{numberAt}
-use Rattle.numerals.specs.Digits.{digits}
+use Rattle.numerals.specs.Digits.{decimalDigits}
 use Rattle.number_text.specs.Text.{lineEnd}
 
 -- how many numbers stand in the line after one more: none where it is full
@@ -23,7 +23,7 @@ behind column = if eqb column 0 then lineEnd ∷ [] else []
 
 -- a number, of five digits at most as every number of the form is
 unfoldable pub numberText : ℕ → ℕ → ℕ → List ℕ
-numberText per column n = before column ++ digits 5 n ++ behind (nextColumn per column)
+numberText per column n = before column ++ decimalDigits 5 n ++ behind (nextColumn per column)
 
 -- how far the file was read: numbers in the line so far, the next number's place, the fault there (0 none, 21 the file ends, 22 a bad number), and the text
 pub record Run : Type 0 where

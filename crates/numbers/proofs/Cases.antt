@@ -9,7 +9,7 @@ use borrow.Author.Needs.{needs}
 use Rattle.laws.proofs.Choice.{choices}
 use Rattle.numbers.specs.declared.Number.{Number}
 use Rattle.numbers.specs.declared.Number.the-variants.{Value, Fault}
-use Rattle.numbers.specs.Number.{withGroup, groupsAt, atMost, numberAt, largest, maxGroups}
+use Rattle.numbers.specs.Number.{withGroup, groupsAt, atMost, numberAt, largest, maxGroups, numberTold}
 
 module _ (first low : ℕ) (n : Number) where
   -- the groups after a group are 0
@@ -73,6 +73,14 @@ module _ (s : List ℕ) (first at : ℕ) where
 pub number-short : (s : List ℕ) (at byte : ℕ) → at < length s → byte ≡ getD s at 0 → getD s at 0 < 128 → Value byte (at + 1) ≡ numberAt s at
 unfolding numberAt
 number-short s at byte l e b = most-within at largest _ (sym (groups-last s at at maxGroups byte (omega arith) l e b)) (omega arith)
+
+-- no two results are told alike: a number is told in three numbers and a fault in two, each with all that it holds
+pub number-same : (r q : Number) → numberTold r ≡ numberTold q → r ≡ q
+unfolding numberTold
+number-same (Value v next) (Value w place) e = cc
+number-same (Value v next) (Fault m at) e = cc
+number-same (Fault m at) (Value v next) e = cc
+number-same (Fault m at) (Fault k place) e = cc
 
 -- for the functions, a case at each return
 pub ruleset cases =

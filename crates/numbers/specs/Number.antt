@@ -1,6 +1,6 @@
 -- The number form of the layout file (section 2), as it is read.
 use Prim.Native.Nat.{ℕ, zero, suc, _+_, _-_, _*_}
-use mathlib.Core.List.{List}
+use mathlib.Core.List.{List, [], _∷_}
 use lib.ListN.{length, getD}
 use lib.Dec.{ltb, eqb}
 use Rattle.laws.specs.Choice.{if_then_else_}
@@ -36,3 +36,8 @@ atMost first limit (Fault number at) = Fault number at
 -- section 2, what stands at a place: a number with the place after it, or a fault with the number's first place
 unfoldable pub numberAt : List ℕ → ℕ → Number
 numberAt s at = atMost at largest (groupsAt maxGroups s at at)
+
+-- section 2, the paper's number and values of each case: 0, the number and the place after it; or 21 or 22 and the number's first place
+unfoldable pub numberTold : Number → List ℕ
+numberTold (Value value next) = 0 ∷ value ∷ next ∷ []
+numberTold (Fault number at) = number ∷ at ∷ []

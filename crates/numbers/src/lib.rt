@@ -2,7 +2,7 @@
 use laws::wide;
 ghost use mathlib.Core.Path.{_≡_};
 ghost use Prim.Native.Nat.{ℕ, _<_, _≤_, _^_};
-ghost use Rattle.numbers.specs.Number.{withGroup, groupsAt, atMost, largest, numberAt};
+ghost use Rattle.numbers.specs.Number.{withGroup, groupsAt, atMost, largest, numberAt, numberTold};
 
 // The most bytes that a number may take.
 const BYTES: usize = 3;
@@ -95,7 +95,7 @@ fn read_groups(s: &[u8], at: usize) -> Number
 
 // What stands at a place. Nearly every number is one byte, which is answered at once.
 pub fn read(s: &[u8], at: usize) -> Number
-    ensures { λ r. ⌜ r ≡ numberAt (now (s .entry)) at ⌝ }
+    ensures { λ r. ⌜ numberTold r ≡ numberTold (numberAt (now (s .entry)) at) ⌝ }
 {
     if at < s.len() {
         let byte = s[at];

@@ -7,36 +7,36 @@ use native.Mathlib.Omega.{arith}
 use borrow.Author.Needs.{needs}
 use lib.ListN.{length, set}
 use Rattle.laws.proofs.Choice.{if-lt, if-ge}
-use Rattle.numerals.specs.Digits.{digits, fitting}
+use Rattle.numerals.specs.Digits.{decimalDigits, fitting}
 use Rattle.numerals.specs.Writes.{Put}
 use Rattle.numerals.proofs.Writes.{put-none, put-one, put-then, put-within}
 
 -- one digit
-pub digits-one : (places n : ℕ) → (places ≡ 0 → ⊥) → n < 10 → (48 + n) ∷ [] ≡ digits places n
-unfolding digits
+pub digits-one : (places n : ℕ) → (places ≡ 0 → ⊥) → n < 10 → (48 + n) ∷ [] ≡ decimalDigits places n
+unfolding decimalDigits
 digits-one zero n h l = absurd (h refl)
 digits-one (suc places) n h l = if-lt _ _ _ _ _ l refl
 
 -- the digits of a tenth, and the last
-pub digits-more : (places n : ℕ) → (places ≡ 0 → ⊥) → 10 ≤ n → digits (places - 1) (n / 10) ++ ((48 + n % 10) ∷ []) ≡ digits places n
-unfolding digits
+pub digits-more : (places n : ℕ) → (places ≡ 0 → ⊥) → 10 ≤ n → decimalDigits (places - 1) (n / 10) ++ ((48 + n % 10) ∷ []) ≡ decimalDigits places n
+unfolding decimalDigits
 digits-more zero n h l = absurd (h refl)
 digits-more (suc places) n h l = if-ge _ _ _ _ _ l (rw sub-one)
 
 module _ (a : List ℕ) (at places n : ℕ) where
   -- no places
-  pub put-no-digits : places ≡ 0 → Put a at (digits places n) places a at
-  unfolding digits
+  pub put-no-digits : places ≡ 0 → Put a at (decimalDigits places n) places a at
+  unfolding decimalDigits
   put-no-digits e = rw e (put-none 0)
 
   -- one digit
-  pub put-digit : (places ≡ 0 → ⊥) → n < 10 → Put a at (digits places n) places (set a at (48 + n)) (at + 1)
+  pub put-digit : (places ≡ 0 → ⊥) → n < 10 → Put a at (decimalDigits places n) places (set a at (48 + n)) (at + 1)
   put-digit h l =
       subst (λ xs. Put a at xs places (set a at (48 + n)) (at + 1)) (digits-one places n h l) (put-within places (omega arith) (put-one (48 + n)))
 
   -- the digits before the last, and the last
-  pub put-more-digits : (b : List ℕ) (m : ℕ) → (places ≡ 0 → ⊥) → 10 ≤ n → Put a at (digits (places - 1) (n / 10)) (places - 1) b m
-      → Put a at (digits places n) places (set b m (48 + n % 10)) (m + 1)
+  pub put-more-digits : (b : List ℕ) (m : ℕ) → (places ≡ 0 → ⊥) → 10 ≤ n → Put a at (decimalDigits (places - 1) (n / 10)) (places - 1) b m
+      → Put a at (decimalDigits places n) places (set b m (48 + n % 10)) (m + 1)
   put-more-digits b m h l p =
       subst (λ xs. Put a at xs places (set b m (48 + n % 10)) (m + 1)) (digits-more places n h l)
       (put-within places (omega arith) (put-then p (put-one (48 + n % 10))))

@@ -1,13 +1,13 @@
 // Numbers in decimal, written into a lent buffer.
 ghost use Prim.Native.Nat.{_+_, _≤_};
 ghost use lib.ListN.{length};
-ghost use Rattle.numerals.specs.Digits.{digits, fitting};
+ghost use Rattle.numerals.specs.Digits.{decimalDigits, fitting};
 ghost use Rattle.numerals.specs.Writes.{Put};
 
 // A number in decimal, in so many places at most, from a place on; the place after it.
 fn write_digits(places: u8, n: u64, out: &mut [u8], at: usize) -> usize
     requires { ⌜ at + places ≤ length (now out) ⌝ }
-    ensures { λ r. ⌜ Put (now (out .entry)) at (digits places n) places (now (out .exit)) r ⌝ }
+    ensures { λ r. ⌜ Put (now (out .entry)) at (decimalDigits places n) places (now (out .exit)) r ⌝ }
 {
     if places == 0 {
         return at;
@@ -23,7 +23,7 @@ fn write_digits(places: u8, n: u64, out: &mut [u8], at: usize) -> usize
 
 // The same where the buffer has room for so many places, and nothing where it has not.
 pub fn put_digits(places: u8, n: u64, out: &mut [u8], at: usize) -> usize
-    ensures { λ r. ⌜ Put (now (out .entry)) at (fitting (length (now (out .entry))) at places (digits places n)) places (now (out .exit)) r ⌝ }
+    ensures { λ r. ⌜ Put (now (out .entry)) at (fitting (length (now (out .entry))) at places (decimalDigits places n)) places (now (out .exit)) r ⌝ }
 {
     if out.len() < at {
         return at;

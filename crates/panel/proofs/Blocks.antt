@@ -1,24 +1,25 @@
 -- The bytes of blocks and lines: how many they are, and how the code makes them.
 use Prim.Native.Nat.{ℕ, zero, suc, _+_, _-_, _*_, _<_, _≤_}
 use mathlib.Core.Path.{_≡_, refl, sym, ap, ap₂, _∙_}
-use mathlib.Core.Bool.{Bool, _&&_}
+use mathlib.Core.Bool.{Bool}
 use mathlib.Core.List.{List}
 use native.Mathlib.Nat.{le-refl, add-zero, add-suc}
 use native.Mathlib.Numerals.{add-one}
 use native.Mathlib.Omega.{arith}
 use borrow.Author.Tests.{lt-ltb}
-use lib.Dec.{eqb, ltb}
 use lib.ListN.{length, getD, set, length-append}
 use Rattle.laws.specs.Choice.{if_then_else_}
-use Rattle.laws.specs.Tests.{_and_, every}
 use Rattle.laws.specs.Tables.{read}
 use Rattle.laws.proofs.Arrays.{read-in}
 use Rattle.track.specs.declared.Line.{Line}
+use Rattle.track.specs.Codes.{aToB, bToA, stage0}
+use Rattle.track.specs.Sizes.{mostLines, mostPlaces}
 use Rattle.track.specs.Objects.{line, noLine}
 use Rattle.tables.specs.Readings.{linePlaced}
-use Rattle.tables.specs.Blocks.{place, isOpen, unbarred}
+use Rattle.tables.specs.Blocks.{place}
 use Rattle.signals.specs.Signals.{enterableBy, enterable}
-use Rattle.panel.specs.Panel.{join, blocks, hasSignal, lamp, blockSignal, blockBytes, lineBytes}
+use Rattle.signals.specs.BlockSignals.{blockShows, blockShownWhere}
+use Rattle.panel.specs.Panel.{join, blocks, blockBytes, lineBytes}
 use Rattle.panel.specs.Writes.{Wrote, blockBy, lineBy}
 use Rattle.panel.proofs.Writes.{wrote-one, wrote-then}
 
@@ -37,14 +38,14 @@ module _ (stages bars : List ℕ) (n way : ℕ) (placed : Bool) (l : ℕ) where
   blocks-length (suc k) = length-append (join k _) _ ∙ ap₂ _+_ (blocks-length k) (block-length k) ∙ omega arith
 
   -- stage, signal A to B and signal B to A, stored one after the other, are the bytes of block i
-  pub block-made : (i at stage ab ba : ℕ) (free : Bool) (b : List ℕ) → stage ≡ read 64 1 stages (place l i) → free ≡ unbarred bars l i
-      → ab ≡ lamp (eqb way 1 && ltb 0 i) (eqb stage 0 && (free && placed)) → ba ≡ lamp (eqb way 2 && ltb (i + 1) n) (eqb stage 0 && (free && placed))
+  pub block-made : (i at stage ab ba : ℕ) (b : List ℕ) → stage ≡ read mostPlaces stage0 stages (place l i)
+      → ab ≡ blockShownWhere stages bars n way placed l i aToB → ba ≡ blockShownWhere stages bars n way placed l i bToA
       → Wrote b at (blockBy stages bars n way placed l i) (set (set (set b at stage) (at + 1) ab) (at + 2) ba) (at + 3)
-  unfolding blockBy hasSignal isOpen every _and_ if_then_else_
-  block-made i at stage ab ba free b e f p q =
+  unfolding blockBy
+  block-made i at stage ab ba b e p q =
       let two : at + 1 + 1 ≡ at + 2 = omega arith in
       let three : at + 2 + 1 ≡ at + 3 = omega arith in
-      rw (← e, ← f, ← p, ← q, ← three, ← two) (wrote-then (wrote-then (wrote-one stage) (wrote-one ab)) (wrote-one ba))
+      rw (← e, ← p, ← q, ← three, ← two) (wrote-then (wrote-then (wrote-one stage) (wrote-one ab)) (wrote-one ba))
 
   -- the place after it
   pub block-next : (i : ℕ) {a b : List ℕ} {k m : ℕ} → Wrote a k (blockBy stages bars n way placed l i) b m → m ≡ k + 3
@@ -59,10 +60,10 @@ module _ (ls : List Line) where
   blocks-none = refl
 
   -- one line more
-  blocks-more : (l n : ℕ) (d : Line) → length ls ≡ 8 → l < n → n ≤ 8 → blocks (l + 1) ls ≡ blocks l ls + getD ls l d .blocks
+  blocks-more : (l n : ℕ) (d : Line) → length ls ≡ mostLines → l < n → n ≤ mostLines → blocks (l + 1) ls ≡ blocks l ls + getD ls l d .blocks
   unfolding blocks line
   blocks-more l n d q b few =
-      rw (add-one, blocks) (ap (λ (a : Line). blocks l ls + a .blocks) (read-in ls l 8 noLine d q (omega arith)))
+      rw (add-one, blocks) (ap (λ (a : Line). blocks l ls + a .blocks) (read-in ls l mostLines noLine d q (omega arith)))
 
   -- more lines have no fewer blocks
   blocks-add : (l k : ℕ) → blocks l ls ≤ blocks (l + k) ls
@@ -75,7 +76,7 @@ module _ (ls : List Line) where
   blocks-up l n b = let rest : l + (n - l) ≡ n = omega arith in rw rest at (blocks-add l (n - l))
 
   -- the loop that counts them: line l adds its own
-  pub count-on : (l n count : ℕ) (d : Line) → count ≡ blocks l ls → length ls ≡ 8 → l < n → n ≤ 8 → count + getD ls l d .blocks ≡ blocks (l + 1) ls
+  pub count-on : (l n count : ℕ) (d : Line) → count ≡ blocks l ls → length ls ≡ mostLines → l < n → n ≤ mostLines → count + getD ls l d .blocks ≡ blocks (l + 1) ls
   count-on l n count d e q b few = ap (λ k. k + getD ls l d .blocks) e ∙ sym (blocks-more l n d q b few)
 
   -- after the last line all are counted
@@ -83,15 +84,15 @@ module _ (ls : List Line) where
   count-end l n count e b f = let d : l ≡ n = omega arith in e ∙ ap (λ k. blocks k ls) d
 
   -- there is room for line l where there is room for n lines
-  pub line-room : (l n next at size : ℕ) (d : Line) (b : List ℕ) → length ls ≡ 8 → l < n → n ≤ 8 → next ≡ at + 3 * blocks l ls → length b ≡ size
+  pub line-room : (l n next at size : ℕ) (d : Line) (b : List ℕ) → length ls ≡ mostLines → l < n → n ≤ mostLines → next ≡ at + 3 * blocks l ls → length b ≡ size
       → at + 3 * blocks n ls ≤ size → next + 3 * getD ls l d .blocks ≤ length b
   line-room l n next at size d b q c few e f h = omega (arith, blocks-more l n d q c few, blocks-up (l + 1) n (omega arith))
 
 -- the bytes of a line, from what is known of it
-pub line-made : (b : Line) (directions points stages bars : List ℕ) (l : ℕ) (placed : Bool) (a c : List ℕ) (k m : ℕ) → l < 8 → placed ≡ linePlaced points b
+pub line-made : (b : Line) (directions points stages bars : List ℕ) (l : ℕ) (placed : Bool) (a c : List ℕ) (k m : ℕ) → l < mostLines → placed ≡ linePlaced points b
     → Wrote a k (join (b .blocks) (blockBy stages bars (b .blocks) (getD directions l 0) placed l)) c m → Wrote a k (lineBy b directions points stages bars l) c m
 unfolding lineBy read if_then_else_
-line-made b directions points stages bars l placed a c k m h e p = rw (lt-ltb l 8 h, ← e) p
+line-made b directions points stages bars l placed a c k m h e p = rw (lt-ltb l mostLines h, ← e) p
 
 module _ (directions points stages bars : List ℕ) (l : ℕ) where
   -- the place after a line
@@ -100,21 +101,21 @@ module _ (directions points stages bars : List ℕ) (l : ℕ) where
   line-next b {k = k} p = p .place ∙ ap (λ w. k + w) (blocks-length stages bars (b .blocks) _ _ l (b .blocks))
 
   -- and after the lines up to it
-  pub lines-next : (ls : List Line) (n at k m : ℕ) (d : Line) (a c : List ℕ) → length ls ≡ 8 → l < n → n ≤ 8 → k ≡ at + 3 * blocks l ls
+  pub lines-next : (ls : List Line) (n at k m : ℕ) (d : Line) (a c : List ℕ) → length ls ≡ mostLines → l < n → n ≤ mostLines → k ≡ at + 3 * blocks l ls
       → Wrote a k (lineBy (getD ls l d) directions points stages bars l) c m → m ≡ at + 3 * blocks (l + 1) ls
   lines-next ls n at k m d a c q b few e p = omega (arith, line-next (getD ls l d) p, blocks-more ls l n d q b few)
 
   -- the bytes of a line by its record are those by its number
   same-line : (ls : List Line) → lineBy (line ls l) directions points stages bars l ≡ lineBytes ls directions points stages bars l
-  unfolding lineBy lineBytes blockBy blockBytes blockSignal enterable enterableBy
+  unfolding lineBy lineBytes blockBy blockBytes blockShows blockShownWhere enterable enterableBy
   same-line ls = refl
 
   -- line l, as the code takes it out of the table
-  pub line-at : (ls : List Line) (n : ℕ) (d : Line) (a c : List ℕ) (k m : ℕ) → length ls ≡ 8 → l < n → n ≤ 8
+  pub line-at : (ls : List Line) (n : ℕ) (d : Line) (a c : List ℕ) (k m : ℕ) → length ls ≡ mostLines → l < n → n ≤ mostLines
       → Wrote a k (lineBy (getD ls l d) directions points stages bars l) c m → Wrote a k (lineBytes ls directions points stages bars l) c m
   unfolding line
   line-at ls n d a c k m q b few p =
-      let same : getD ls l d ≡ getD ls l noLine = read-in ls l 8 d noLine q (omega arith) in
+      let same : getD ls l d ≡ getD ls l noLine = read-in ls l mostLines d noLine q (omega arith) in
       rw (← same-line ls, ← same) p
 
   -- three bytes for each of its blocks

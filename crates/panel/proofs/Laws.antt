@@ -9,10 +9,13 @@ use lib.Seq.{sets, ext-getD}
 use Rattle.laws.specs.Choice.{if_then_else_}
 use Rattle.laws.specs.Tables.{table, read}
 use Rattle.laws.proofs.Tables.{length-table, table-at}
+use Rattle.track.specs.Codes.{readsNone, neutral, idle}
+use Rattle.track.specs.Sizes.{mostSections, mostPoints, mostSignals, mostLines, mostRoutes}
 use Rattle.tables.specs.Readings.{reading, pointReading}
+use Rattle.signals.specs.MainSignals.{mainShows}
 use Rattle.layout.specs.declared.Layout.{Layout}
 use Rattle.interlocking.specs.declared.State.{State}
-use Rattle.panel.specs.Panel.{join, signalByte, routeByte, lineBytes, image, panelLength}
+use Rattle.panel.specs.Panel.{join, routeByte, lineBytes, image, panelLength}
 use Rattle.panel.specs.Writes.{Wrote, FitsTables, readingBytes, objectBytes}
 use Rattle.panel.proofs.Blocks.{length-lines}
 use Rattle.panel.proofs.Writes.{wrote-then}
@@ -47,18 +50,18 @@ module _ (L : Layout) (s : State) (w : FitsTables L) where
       → Wrote b k (table (L .points) (λ i. getD (s .point) i 0)) c m → Wrote a 0 (readingBytes L s) c m
   unfolding readingBytes reading pointReading
   readings-made a b c k m p q =
-      rw (← table-read (λ x. x) (L .sections) 64 3 (s .section) (w .sections), ← table-read (λ x. x) (L .points) 32 3 (s .point) (w .points)) (wrote-then p q)
+      rw (← table-read (λ x. x) (L .sections) mostSections readsNone (s .section) (w .sections), ← table-read (λ x. x) (L .points) mostPoints readsNone (s .point) (w .points)) (wrote-then p q)
 
   -- signals, routes and lines, written one after the other, are the second part
-  pub objects-made : (a b c e shown : List ℕ) (k m i j : ℕ) → shown ≡ table 32 (signalByte (L .routes) (L .route) (s .phase))
+  pub objects-made : (a b c e shown : List ℕ) (k m i j : ℕ) → shown ≡ table mostSignals (mainShows (L .routes) (L .route) (s .phase))
       → Wrote a k (table (L .signals) (λ x. getD shown x 0)) b m → Wrote b m (table (L .routes) (λ r. routeByte (getD (s .phase) r 0))) c i
       → Wrote c i (table (L .lines) (λ l. getD (s .direction) l 0)) e j → Wrote a k (objectBytes L s) e j
   unfolding objectBytes
   objects-made a b c e shown k m i j q f g h =
       rw (
-        ← table-made (L .signals) 32 _ shown q (w .signals),
-        ← table-read routeByte (L .routes) 48 0 (s .phase) (w .routes),
-        ← table-read (λ x. x) (L .lines) 8 0 (s .direction) (w .lines),
+        ← table-made (L .signals) mostSignals _ shown q (w .signals),
+        ← table-read routeByte (L .routes) mostRoutes idle (s .phase) (w .routes),
+        ← table-read (λ x. x) (L .lines) mostLines neutral (s .direction) (w .lines),
       ) (wrote-then (wrote-then f g) h)
 
 -- ---- the places after them

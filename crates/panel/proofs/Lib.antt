@@ -1,5 +1,4 @@
 pub mod Writes
-pub mod MainSignals
 pub mod Blocks
 pub mod Laws
 pub mod Answers

@@ -3,19 +3,20 @@ use Prim.Native.Nat.{ℕ, _+_, _≤_}
 use mathlib.Core.Bool.{Bool}
 use mathlib.Core.Path.{_≡_}
 use mathlib.Core.List.{List, [], _∷_, _++_}
-use lib.Dec.{eqb}
 use lib.ListN.{length}
 use lib.Seq.{sets}
-use Rattle.laws.specs.Tests.{_and_, every}
 use Rattle.laws.specs.Tables.{table, read}
 use Rattle.track.specs.declared.Line.{Line}
 use Rattle.track.specs.Codes.{aToB, bToA, stage0}
+use Rattle.track.specs.Sizes.{mostSections, mostPoints, mostSignals, mostLines, mostPlaces, mostTrainRoutes}
 use Rattle.tables.specs.Readings.{reading, pointReading, linePlaced}
-use Rattle.tables.specs.Blocks.{place, isOpen, unbarred}
+use Rattle.tables.specs.Blocks.{place}
 use Rattle.tables.specs.Locks.{direction, phase}
+use Rattle.signals.specs.MainSignals.{mainShows}
+use Rattle.signals.specs.BlockSignals.{blockShownWhere}
 use Rattle.layout.specs.declared.Layout.{Layout}
 use Rattle.interlocking.specs.declared.State.{State}
-use Rattle.panel.specs.Panel.{join, signalByte, routeByte, hasSignal, lamp}
+use Rattle.panel.specs.Panel.{join, routeByte}
 
 -- the bytes xs were written into a buffer from a place on: what the buffer is then, and the next place
 pub record Wrote (before : List ℕ) (at : ℕ) (xs after : List ℕ) (next : ℕ) : Type 0 where
@@ -25,9 +26,9 @@ pub record Wrote (before : List ℕ) (at : ℕ) (xs after : List ℕ) (next : �
 -- a block's three bytes from what is known of its line: n blocks, direction way, points in position or not
 unfoldable pub blockBy : List ℕ → List ℕ → ℕ → ℕ → Bool → ℕ → ℕ → List ℕ
 blockBy stages bars n way placed l i =
-    read 64 stage0 stages (place l i)
-    ∷ lamp (eqb way aToB and hasSignal n i aToB) (every (isOpen stages l i ∷ unbarred bars l i ∷ placed ∷ []))
-    ∷ lamp (eqb way bToA and hasSignal n i bToA) (every (isOpen stages l i ∷ unbarred bars l i ∷ placed ∷ []))
+    read mostPlaces stage0 stages (place l i)
+    ∷ blockShownWhere stages bars n way placed l i aToB
+    ∷ blockShownWhere stages bars n way placed l i bToA
     ∷ []
 
 -- the bytes of line l, which is b
@@ -41,14 +42,14 @@ readingBytes L s = table (L .sections) (reading (s .section)) ++ table (L .point
 -- signals, routes, lines
 unfoldable pub objectBytes : Layout → State → List ℕ
 objectBytes L s =
-    table (L .signals) (signalByte (L .routes) (L .route) (s .phase))
+    table (L .signals) (mainShows (L .routes) (L .route) (s .phase))
     ++ table (L .routes) (λ r. routeByte (phase (s .phase) r))
     ++ table (L .lines) (direction (s .direction))
 
 -- a layout's objects are no more than the tables of a state hold
 pub record FitsTables (L : Layout) : Type 0 where
-  pub sections : L .sections ≤ 64
-  pub points : L .points ≤ 32
-  pub signals : L .signals ≤ 32
-  pub routes : L .routes ≤ 48
-  pub lines : L .lines ≤ 8
+  pub sections : L .sections ≤ mostSections
+  pub points : L .points ≤ mostPoints
+  pub signals : L .signals ≤ mostSignals
+  pub routes : L .routes ≤ mostTrainRoutes
+  pub lines : L .lines ≤ mostLines

@@ -4,11 +4,18 @@ mod objects;
 
 use interlocking::State;
 use layout::Layout;
+use track::sizes::MOST_LINES;
+use track::sizes::MOST_POINTS;
+use track::sizes::MOST_SECTIONS;
+use track::sizes::MOST_SIGNALS;
+use track::sizes::MOST_TRAIN_ROUTES;
 ghost use mathlib.Core.Path.{_≡_};
+ghost use mathlib.Core.Bool.{true};
 ghost use Prim.Native.Nat.{_≤_};
 ghost use lib.ListN.{length};
 ghost use lib.Seq.{sets};
-ghost use Rattle.panel.specs.Panel.{image, panelLength, answer, drawn};
+ghost use Rattle.track.specs.Sizes.{mostLines};
+ghost use Rattle.panel.specs.Panel.{image, panelLength, answerWhere, drawnWhere, answer, drawn, panelAskedInRun, answerInRun, drawnInRun};
 ghost use Rattle.panel.specs.Writes.{FitsTables};
 
 // The answer to a request for the image: 0 and how many bytes it has; 18 or 27 and 0.
@@ -20,7 +27,7 @@ pub struct Drawn {
 
 // How many bytes the image has.
 fn panel_length(l: Layout) -> usize
-    requires { ⌜ l .lines ≤ 8 ⌝ }
+    requires { ⌜ l .lines ≤ mostLines ⌝ }
     ensures { λ r. ⌜ r ≡ panelLength l ⌝ }
 {
     let ls = l.line;
@@ -49,8 +56,27 @@ fn draw(l: Layout, s: State, buffer: &mut [u8])
     );
 }
 
-// The panel image into a lent buffer: 0 and its length, with later bytes untouched; 18 for an unsound record, then 27 for a buffer that is
-// too short, both with length 0 and the whole buffer untouched.
+// The image of a layout within the tables into a lent buffer: 0 and its length, with later bytes untouched; 27 for a buffer that is too short, with
+// length 0 and the whole buffer untouched.
+fn draw_in(l: Layout, s: State, buffer: &mut [u8]) -> Drawn
+    requires { ⌜ FitsTables l ⌝ }
+    ensures { λ r. ⌜ (r ≡ answerWhere true l s (length (now (buffer .entry)))) × (now (buffer .exit) ≡ drawnWhere true l s (now (buffer .entry))) ⌝ }
+{
+    let n = panel_length(l);
+    if buffer.len() < n {
+        return Drawn {
+            number: 27,
+            length: 0,
+        };
+    }
+    draw(l, s, buffer);
+    Drawn {
+        number: 0,
+        length: n,
+    }
+}
+
+// The panel image into a lent buffer. 18 for an unsound record comes before 27, with length 0 and the whole buffer untouched.
 pub fn panel(state: State, layout: Layout, buffer: &mut [u8]) -> Drawn
     ensures { λ r. ⌜ (r ≡ answer layout state (length (now (buffer .entry)))) × (now (buffer .exit) ≡ drawn layout state (now (buffer .entry))) ⌝ }
 {
@@ -66,16 +92,27 @@ pub fn panel(state: State, layout: Layout, buffer: &mut [u8]) -> Drawn
             length: 0,
         };
     }
-    let n = panel_length(layout);
-    if buffer.len() < n {
+    draw_in(layout, state, buffer)
+}
+
+// There is a section, and there are no more objects than the tables hold.
+fn is_drawable(l: Layout) -> bool
+    ensures { λ r. ⌜ r ≡ panelAskedInRun l ⌝ }
+{
+    let ways = (l.routes <= MOST_TRAIN_ROUTES) & (l.lines <= MOST_LINES);
+    let objects = (l.points <= MOST_POINTS) & ((l.signals <= MOST_SIGNALS) & ways);
+    (1 <= l.sections) & (l.sections <= MOST_SECTIONS) & objects
+}
+
+// The same in a run that asked soundness before its first event: 18 asks no more of the layout than is needed to draw it, and nothing of the state.
+pub fn panel_in_run(state: State, layout: Layout, buffer: &mut [u8]) -> Drawn
+    ensures { λ r. ⌜ (r ≡ answerInRun layout state (length (now (buffer .entry)))) × (now (buffer .exit) ≡ drawnInRun layout state (now (buffer .entry))) ⌝ }
+{
+    if !is_drawable(layout) {
         return Drawn {
-            number: 27,
+            number: 18,
             length: 0,
         };
     }
-    draw(layout, state, buffer);
-    Drawn {
-        number: 0,
-        length: n,
-    }
+    draw_in(layout, state, buffer)
 }

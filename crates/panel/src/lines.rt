@@ -1,30 +1,23 @@
 // The bytes of blocks, line by line.
+use signals::block_shown;
 use tables::held_at;
-use tables::is_unbarred;
 use track::Line;
+use track::codes::A_TO_B;
+use track::codes::B_TO_A;
+use track::sizes::LINES;
+use track::sizes::PLACES;
+use track::sizes::POINTS;
 ghost use mathlib.Core.Path.{_≡_};
 ghost use Prim.Native.Nat.{_+_, _*_, _≤_, _<_};
 ghost use lib.ListN.{length};
-ghost use Rattle.panel.specs.Panel.{join, blocks, lamp, lineBytes};
+ghost use Rattle.track.specs.Sizes.{mostLines};
+ghost use Rattle.panel.specs.Panel.{join, blocks, lineBytes};
 ghost use Rattle.panel.specs.Writes.{Wrote, blockBy, lineBy};
-
-// A block signal's byte.
-fn lamp_byte(lit: bool, free: bool) -> u8
-    ensures { λ r. ⌜ r ≡ lamp lit free ⌝ }
-{
-    if !lit {
-        return 0;
-    }
-    if free {
-        return 22;
-    }
-    20
-}
 
 // The three bytes of block i of line l, which has n blocks and is secured in direction way, its points in position or not.
 fn put_block<'a>(
-    stages: &'a [u8; 64],
-    bars: &'a [u8; 64],
+    stages: &'a [u8; PLACES],
+    bars: &'a [u8; PLACES],
     n: u8,
     way: u8,
     placed: bool,
@@ -33,14 +26,12 @@ fn put_block<'a>(
     buffer: &mut [u8],
     at: usize,
 ) -> usize
-    requires { ⌜ (i < n) × (at + 3 ≤ length (now buffer)) ⌝ }
+    requires { ⌜ at + 3 ≤ length (now buffer) ⌝ }
     ensures { λ r. ⌜ Wrote (now (buffer .entry)) at (blockBy (now (stages .entry)) (now (bars .entry)) n way placed l i) (now (buffer .exit)) r ⌝ }
 {
     let stage = held_at(stages, l, i);
-    let unbarred = is_unbarred(bars, l, i);
-    let free = (stage == 0) & (unbarred & placed);
-    let ab = lamp_byte((way == 1) & (0 < i), free);
-    let ba = lamp_byte((way == 2) & (i + 1 < n), free);
+    let ab = block_shown(stages, bars, n, way, placed, l, i, A_TO_B);
+    let ba = block_shown(stages, bars, n, way, placed, l, i, B_TO_A);
     buffer[at] = stage;
     buffer[at + 1] = ab;
     buffer[at + 2] = ba;
@@ -49,8 +40,8 @@ fn put_block<'a>(
 
 // The bytes of the n blocks of line l.
 fn put_blocks<'a>(
-    stages: &'a [u8; 64],
-    bars: &'a [u8; 64],
+    stages: &'a [u8; PLACES],
+    bars: &'a [u8; PLACES],
     n: u8,
     way: u8,
     placed: bool,
@@ -73,15 +64,15 @@ fn put_blocks<'a>(
 // The bytes of line l, which is b.
 fn put_line<'a>(
     b: Line,
-    directions: &'a [u8; 8],
-    points: &'a [u8; 32],
-    stages: &'a [u8; 64],
-    bars: &'a [u8; 64],
+    directions: &'a [u8; LINES],
+    points: &'a [u8; POINTS],
+    stages: &'a [u8; PLACES],
+    bars: &'a [u8; PLACES],
     l: u8,
     buffer: &mut [u8],
     at: usize,
 ) -> usize
-    requires { ⌜ (l < 8) × (at + 3 * b .blocks ≤ length (now buffer)) ⌝ }
+    requires { ⌜ (l < mostLines) × (at + 3 * b .blocks ≤ length (now buffer)) ⌝ }
     ensures { λ r. ⌜ Wrote (now (buffer .entry)) at (lineBy b (now (directions .entry)) (now (points .entry)) (now (stages .entry)) (now (bars .entry)) l) (now (buffer .exit)) r ⌝ }
 {
     let way = directions[l as usize];
@@ -92,15 +83,15 @@ fn put_line<'a>(
 // The bytes of the blocks of n lines, line by line.
 pub fn put_lines<'a>(
     n: u8,
-    ls: [Line; 8],
-    directions: &'a [u8; 8],
-    points: &'a [u8; 32],
-    stages: &'a [u8; 64],
-    bars: &'a [u8; 64],
+    ls: [Line; LINES],
+    directions: &'a [u8; LINES],
+    points: &'a [u8; POINTS],
+    stages: &'a [u8; PLACES],
+    bars: &'a [u8; PLACES],
     buffer: &mut [u8],
     at: usize,
 ) -> usize
-    requires { ⌜ (n ≤ 8) × (at + 3 * blocks n ls ≤ length (now buffer)) ⌝ }
+    requires { ⌜ (n ≤ mostLines) × (at + 3 * blocks n ls ≤ length (now buffer)) ⌝ }
     ensures { λ r. ⌜ Wrote (now (buffer .entry)) at (join n (lineBytes ls (now (directions .entry)) (now (points .entry)) (now (stages .entry)) (now (bars .entry)))) (now (buffer .exit)) r ⌝ }
 {
     let mut l: u8 = 0;
@@ -114,8 +105,8 @@ pub fn put_lines<'a>(
 }
 
 // How many blocks n lines have.
-pub fn count_blocks(n: u8, ls: [Line; 8]) -> usize
-    requires { ⌜ n ≤ 8 ⌝ }
+pub fn count_blocks(n: u8, ls: [Line; LINES]) -> usize
+    requires { ⌜ n ≤ mostLines ⌝ }
     ensures { λ r. ⌜ (r ≡ blocks n ls) × (r ≤ 255 * n) ⌝ }
 {
     let mut count: usize = 0;

@@ -1,25 +1,54 @@
--- The cases of the next block and of the far section.
-use Prim.Native.Nat.{ℕ, _+_, _≤_}
-use mathlib.Core.Path.{_≡_, sym, ap, _∙_}
+-- What lies beyond a block, and the section there, a case at each return of the code.
+use Prim.Native.Nat.{ℕ, _+_, _-_, _<_, _≤_}
+use mathlib.Core.Path.{_≡_, refl, ap, _∙_}
 use native.Mathlib.Omega.{arith}
-use lib.ListN.{getD}
-use Rattle.laws.proofs.Choice.{if-eq, if-ne, if-ge}
+use borrow.Author.Needs.{needs}
+use Rattle.laws.specs.Choice.{if_then_else_}
+use Rattle.laws.proofs.Choice.{if-eq, if-ne, if-lt, if-ge}
 use Rattle.track.specs.declared.Line.{Line}
-use Rattle.track.specs.Objects.{inner}
-use Rattle.passage.specs.Passage.{arrival, nextBlock, farSection}
+use Rattle.track.specs.Codes.{endA, endB, aToB}
+use Rattle.track.specs.Objects.{inner, nearest}
+use Rattle.track.specs.Blocks.{facing}
+use Rattle.passage.specs.declared.Beyond.{Beyond}
+use Rattle.passage.specs.declared.Beyond.the-variants.{Block, Station}
+use Rattle.passage.specs.Passage.{departure, beyond, sectionAt}
 
--- from A to B, the station comes after a number past the line's blocks
-pub next-past : (b : Line) (w i : ℕ) → w ≡ 1 → b .blocks ≤ i → 8 ≡ nextBlock b w i
-unfolding nextBlock
-next-past b w i h l = if-eq w 1 _ _ 8 h (if-ge (i + 1) (b .blocks) _ _ 8 (omega arith) (omega arith))
+-- the block nearest B is the last
+last : (b : Line) → nearest b endB ≡ b .blocks - 1
+unfolding nearest if_then_else_
+last b = refl
 
-module _ (b : Line) (w i j r : ℕ) (e : j ≡ nextBlock b w i) where
-  -- beyond the last block, the inner section of the arrival end
-  pub far-station : (end : ℕ) → j ≡ 8 → end ≡ arrival w → r ≡ inner b end → r ≡ farSection b w i
-  unfolding farSection
-  far-station end h d q = if-eq (nextBlock b w i) 8 _ _ r (sym e ∙ h) (q ∙ ap (inner b) d)
+module _ (b : Line) (i w m : ℕ) (r : Beyond) where
+  -- from A to B, before the last block: the next one
+  pub beyond-up : w ≡ aToB → m ≡ nearest b endB → i < m → r ≡ Block (i + 1) → r ≡ beyond b i w
+  unfolding beyond
+  beyond-up h e l q = if-eq w aToB _ _ r h (if-lt (i + 1) (b .blocks) _ _ r (omega (arith, last b)) q)
 
-  -- else the next block
-  pub far-block : (j ≡ 8 → ⊥) → r ≡ getD (b .block) j 0 → r ≡ farSection b w i
-  unfolding farSection
-  far-block h q = if-ne (nextBlock b w i) 8 _ _ r (λ z. h (e ∙ z)) (q ∙ ap (λ k. getD (b .block) k 0) e)
+  -- from A to B, at the last block: the station at B
+  pub beyond-last : w ≡ aToB → m ≡ nearest b endB → m ≤ i → r ≡ Station endB → r ≡ beyond b i w
+  unfolding beyond
+  beyond-last h e l q = if-eq w aToB _ _ r h (if-ge (i + 1) (b .blocks) _ _ r (omega (arith, last b)) q)
+
+  -- from B to A, at the first block: the station at A
+  pub beyond-first : (w ≡ aToB → ⊥) → i ≡ 0 → r ≡ Station endA → r ≡ beyond b i w
+  unfolding beyond
+  beyond-first h z q = if-ne w aToB _ _ r h (if-eq i 0 _ _ r z q)
+
+  -- from B to A, after the first block: the one before it
+  pub beyond-down : (w ≡ aToB → ⊥) → (i ≡ 0 → ⊥) → r ≡ Block (i - 1) → r ≡ beyond b i w
+  unfolding beyond
+  beyond-down h z q = if-ne w aToB _ _ r h (if-ne i 0 _ _ r z q)
+
+module _ (b : Line) (w e r : ℕ) (x : Beyond) where
+  -- a block is there: its section that faces where the train comes from
+  pub there-block : (j : ℕ) → x ≡ Block j → e ≡ departure w → r ≡ facing b j e → r ≡ sectionAt b w x
+  unfolding sectionAt
+  there-block j h d q = rw h (q ∙ ap (facing b j) d)
+
+  -- the station is there: its inner section
+  pub there-station : x ≡ Station e → r ≡ inner b e → r ≡ sectionAt b w x
+  unfolding sectionAt
+  there-station h q = rw h q
+
+-- for what lies beyond a block
+pub ruleset beyonds = (needs, beyond-up, beyond-last, beyond-first, beyond-down)

@@ -1,8 +1,9 @@
 -- No second result meets the contract of a public function. Each `Post` is the contract itself, as the function is proved to meet it.
 use Rattle.laws.proofs.Only.{Determines, only}
 use Rattle.passage.proofs.own_stage.Reads as own-stage
+use Rattle.passage.proofs.departure_end.Reads as departure-end
 use Rattle.passage.proofs.arrival_end.Reads as arrival-end
-use Rattle.passage.proofs.next_block.Reads as next-block
+use Rattle.passage.proofs.beyond_block.Reads as beyond-block
 use Rattle.passage.proofs.far_section.Reads as far-section
 use Rattle.passage.proofs.far_stage.Reads as far-stage
 
@@ -10,13 +11,17 @@ use Rattle.passage.proofs.far_stage.Reads as far-stage
 pub own-stage-determined : Determines own-stage.Post
 own-stage-determined κs a r q s = only
 
--- The arrival end of a direction: 0 is A, 1 is B
+-- The end that a direction leaves
+pub departure-end-determined : Determines departure-end.Post
+departure-end-determined κs a r q s = only
+
+-- The end at which a direction arrives
 pub arrival-end-determined : Determines arrival-end.Post
 arrival-end-determined κs a r q s = only
 
--- The block after block i in a direction, or 8 for the station
-pub next-block-determined : Determines next-block.Post
-next-block-determined κs a r q s = only
+-- What lies beyond block i in a direction
+pub beyond-block-determined : Determines beyond-block.Post
+beyond-block-determined κs a r q s = only
 
 -- The far section of block i in a direction
 pub far-section-determined : Determines far-section.Post

@@ -1,42 +1,60 @@
--- The stages of a block (section 5).
+-- The stages of a block, its far section and its far signal (section 5).
 use Prim.Native.Nat.{ℕ, _+_, _-_}
 use mathlib.Core.Bool.{Bool}
 use lib.Dec.{eqb, ltb}
-use lib.ListN.{getD}
 use Rattle.laws.specs.Choice.{if_then_else_}
 use Rattle.laws.specs.Tests.{_and_, _or_}
 use Rattle.track.specs.declared.Line.{Line}
-use Rattle.track.specs.Codes.{free, occupied, none, endA, endB, aToB, openBlock, stage0, stage1, stage2}
-use Rattle.track.specs.Objects.{inner}
+use Rattle.track.specs.Codes.{free, occupied, readsNone, endA, endB, aToB, openBlock, stage0, stage1, stage2}
+use Rattle.track.specs.Objects.{inner, entrance}
+use Rattle.track.specs.Blocks.{facing}
+use Rattle.track.specs.Signal.{Signal, main, into}
+use Rattle.passage.specs.declared.Beyond.{Beyond}
+use Rattle.passage.specs.declared.Beyond.the-variants.{Block, Station}
 
 -- its own reading, given by an event: occupied takes open and 0 to 1, and leaves 1 and 2; none gives 0; free takes 2 to open and 1 to 0
 unfoldable pub ownStage : ℕ → ℕ → ℕ
 ownStage given stage =
     if eqb given occupied then (if eqb stage openBlock or eqb stage stage0 then stage1 else stage)
-    else if eqb given none then stage0
+    else if eqb given readsNone then stage0
     else if eqb given free then (if eqb stage openBlock or eqb stage stage2 then openBlock else stage0)
     else stage
 
--- the arrival end of a direction: B from A to B, A from B to A
+-- ---- far section and far signal
+
+-- the end that a direction leaves: A from A to B, B from B to A; and the end at which it arrives
+unfoldable pub departure : ℕ → ℕ
+departure w = if eqb w aToB then endA else endB
+
 unfoldable pub arrival : ℕ → ℕ
 arrival w = if eqb w aToB then endB else endA
 
--- no block, but the station
-abbrev pub station : ℕ
-station = 8
+-- what lies beyond block i in direction w: the next block, or the station at the arrival end
+unfoldable pub beyond : Line → ℕ → ℕ → Beyond
+beyond b i w = if eqb w aToB then (if ltb (i + 1) (b .blocks) then Block (i + 1) else Station endB) else if eqb i 0 then Station endA else Block (i - 1)
 
--- what comes after block i in direction w: a block or the station
-unfoldable pub nextBlock : Line → ℕ → ℕ → ℕ
-nextBlock b w i = if eqb w aToB then (if ltb (i + 1) (b .blocks) then i + 1 else station) else if eqb i 0 then station else i - 1
+-- the section there: the one of the next block that faces this one, or the inner section of the station
+unfoldable pub sectionAt : Line → ℕ → Beyond → ℕ
+sectionAt b w (Block j) = facing b j (departure w)
+sectionAt b w (Station e) = inner b e
 
--- the far section: the next block or the inner section of the arrival end
+-- the signal between, where the line has number l: the one into the next block, or the entrance signal of the station
+unfoldable pub signalAt : Line → ℕ → ℕ → Beyond → Signal
+signalAt b l w (Block j) = into l j w
+signalAt b l w (Station e) = main (entrance b e)
+
+-- the far section of block i in direction w
 unfoldable pub farSection : Line → ℕ → ℕ → ℕ
-farSection b w i = if eqb (nextBlock b w i) station then inner b (arrival w) else getD (b .block) (nextBlock b w i) 0
+farSection b i w = sectionAt b w (beyond b i w)
+
+-- its far signal
+unfoldable pub farSignal : Line → ℕ → ℕ → ℕ → Signal
+farSignal b l i w = signalAt b l w (beyond b i w)
 
 -- stage 1 becomes 2 when the far section reads occupied in an event in which the far signal goes from proceed to stop;
 -- stage 2 becomes 1 when the far section reads none
 unfoldable pub farStage : ℕ → Bool → ℕ → ℕ
 farStage far dropped stage =
     if eqb stage stage1 then (if eqb far occupied and dropped then stage2 else stage1)
-    else if eqb stage stage2 then (if eqb far none then stage1 else stage2)
+    else if eqb stage stage2 then (if eqb far readsNone then stage1 else stage2)
     else stage

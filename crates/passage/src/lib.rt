@@ -1,6 +1,6 @@
-// The stages of a block: its own reading, and its far section with the signal between (section 5).
-use laws::at8;
+// The stages of a block: its own reading, and its far section (section 5).
 use track::Line;
+use track::blocks::facing_section;
 use track::codes::A_TO_B;
 use track::codes::END_A;
 use track::codes::END_B;
@@ -11,8 +11,16 @@ use track::codes::OPEN;
 use track::codes::STAGE_0;
 use track::codes::STAGE_1;
 use track::codes::STAGE_2;
+use track::inner_at;
+use track::nearest_block;
 ghost use mathlib.Core.Path.{_≡_};
-ghost use Rattle.passage.specs.Passage.{ownStage, arrival, nextBlock, farSection, farStage};
+ghost use Rattle.passage.specs.Passage.{ownStage, departure, arrival, beyond, sectionAt, farSection, farStage};
+
+// What lies beyond a block in a direction: the next block, or the station at the arrival end.
+pub enum Beyond {
+    Block(u8),
+    Station(u8),
+}
 
 // The stage after the block's own reading; a number that is no reading says nothing.
 pub fn own_stage(given: u8, stage: u8) -> u8
@@ -36,7 +44,17 @@ pub fn own_stage(given: u8, stage: u8) -> u8
     stage
 }
 
-// The arrival end of a direction.
+// The end that a direction leaves.
+pub fn departure_end(w: u8) -> u8
+    ensures { λ r. ⌜ r ≡ departure w ⌝ }
+{
+    if w == A_TO_B {
+        return END_A;
+    }
+    END_B
+}
+
+// The end at which a direction arrives.
 pub fn arrival_end(w: u8) -> u8
     ensures { λ r. ⌜ r ≡ arrival w ⌝ }
 {
@@ -46,38 +64,37 @@ pub fn arrival_end(w: u8) -> u8
     END_A
 }
 
-// No block, but the station.
-pub const STATION: u8 = 8;
-
-// What comes after block i in a direction: a block or the station.
-pub fn next_block(b: Line, w: u8, i: u8) -> u8
-    ensures { λ r. ⌜ r ≡ nextBlock b w i ⌝ }
+// What lies beyond block i in a direction.
+pub fn beyond_block(b: Line, i: u8, w: u8) -> Beyond
+    ensures { λ r. ⌜ r ≡ beyond b i w ⌝ }
 {
     if w == A_TO_B {
-        if b.blocks <= i {
-            return STATION;
+        if i < nearest_block(b, END_B) {
+            return Beyond::Block(i + 1);
         }
-        if i + 1 < b.blocks {
-            return i + 1;
-        }
-        return STATION;
+        return Beyond::Station(END_B);
     }
     if i == 0 {
-        return STATION;
+        return Beyond::Station(END_A);
     }
-    i - 1
+    Beyond::Block(i - 1)
+}
+
+// The section there, where a block is left in direction w.
+fn section_there(b: Line, w: u8, there: Beyond) -> u8
+    ensures { λ r. ⌜ r ≡ sectionAt b w there ⌝ }
+{
+    match there {
+        Beyond::Block(j) => facing_section(b, j, departure_end(w)),
+        Beyond::Station(e) => inner_at(b, e),
+    }
 }
 
 // The far section of block i in a direction.
-pub fn far_section(b: Line, w: u8, i: u8) -> u8
-    ensures { λ r. ⌜ r ≡ farSection b w i ⌝ }
+pub fn far_section(b: Line, i: u8, w: u8) -> u8
+    ensures { λ r. ⌜ r ≡ farSection b i w ⌝ }
 {
-    let block = b.block;
-    let j = next_block(b, w, i);
-    if j == STATION {
-        return track::inner_at(b, arrival_end(w));
-    }
-    at8(block, j)
+    section_there(b, w, beyond_block(b, i, w))
 }
 
 // The stage after the far section's reading, in an event that did or did not drop the far signal.

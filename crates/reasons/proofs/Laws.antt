@@ -12,6 +12,8 @@ use Rattle.laws.specs.Tests.{_and_, lowest}
 use Rattle.laws.proofs.Arrays.{read-past, lent-at}
 use Rattle.laws.proofs.Choice.{if-eq, if-ne, if-lt, if-ge}
 use Rattle.track.specs.declared.Line.{Line}
+use Rattle.track.specs.Codes.{occupied}
+use Rattle.track.specs.Sizes.{mostSections, mostLines, mostPairs}
 use Rattle.track.specs.Objects.{noLine, line}
 use Rattle.pairs.specs.Pairs.{placeOf}
 use Rattle.tables.specs.Readings.{reading}
@@ -19,8 +21,8 @@ use Rattle.tables.specs.Blocks.{untaken, isOpen, unbarred}
 use Rattle.layout.specs.declared.Layout.{Layout}
 use Rattle.layout.specs.Layout.{lineIn, entryOf, conflict}
 use Rattle.reasons.specs.declared.Refusal.{Refusal}
-use Rattle.reasons.specs.Refusal.{refused, noRefusal, when, found, firstOf}
-use Rattle.searches.specs.Searches.{lacking, conflictsWith, failing}
+use Rattle.reasons.specs.Refusal.{refused, noRefusal, refusedIf, found, firstOf}
+use Rattle.reasons.specs.Searches.{lacking, conflictsWith, failing}
 use Rattle.tables.specs.Locks.{locked}
 use Rattle.reasons.specs.Reasons.{notFree, conflicting, blockBarred, blockHeld}
 
@@ -47,63 +49,63 @@ pub ruleset firsts = (needs, first-here, first-next, first-last)
 
 -- ---- 7 and 8, by the lowest section that does not read free
 
-module _ (sections : List ℕ) (set g : ℕ) (r : Refusal) (e : g ≡ lowest 64 (lacking sections set)) where
+module _ (sections : List ℕ) (set g : ℕ) (r : Refusal) (e : g ≡ lowest mostSections (lacking sections set)) where
   -- there is no such section: nothing is refused
-  pub free-all : 64 ≤ g → r ≡ noRefusal → r ≡ notFree sections set
+  pub free-all : mostSections ≤ g → r ≡ noRefusal → r ≡ notFree sections set
   unfolding notFree
-  free-all h q = if-ge (lowest 64 (lacking sections set)) 64 _ _ r (rw (← e) h) q
+  free-all h q = if-ge (lowest mostSections (lacking sections set)) mostSections _ _ r (rw (← e) h) q
 
   -- it is occupied
-  pub free-occupied : (v : ℕ) → g < 64 → v ≡ reading sections g → v ≡ 2 → r ≡ refused 7 g → r ≡ notFree sections set
+  pub free-occupied : (v : ℕ) → g < mostSections → v ≡ reading sections g → v ≡ occupied → r ≡ refused 7 g → r ≡ notFree sections set
   unfolding notFree
   free-occupied v l d h q =
-      if-lt (lowest 64 (lacking sections set)) 64 _ _ r (rw (← e) l)
-      (rw (← e) (q ∙ ap (λ n. refused n g) (if-eq (reading sections g) 2 7 8 7 (sym d ∙ h) refl)))
+      if-lt (lowest mostSections (lacking sections set)) mostSections _ _ r (rw (← e) l)
+      (rw (← e) (q ∙ ap (λ n. refused n g) (if-eq (reading sections g) occupied 7 8 7 (sym d ∙ h) refl)))
 
   -- it is not occupied
-  pub free-none : (v : ℕ) → g < 64 → v ≡ reading sections g → (v ≡ 2 → ⊥) → r ≡ refused 8 g → r ≡ notFree sections set
+  pub free-none : (v : ℕ) → g < mostSections → v ≡ reading sections g → (v ≡ occupied → ⊥) → r ≡ refused 8 g → r ≡ notFree sections set
   unfolding notFree
   free-none v l d h q =
-      if-lt (lowest 64 (lacking sections set)) 64 _ _ r (rw (← e) l)
-      (rw (← e) (q ∙ ap (λ n. refused n g) (if-ne (reading sections g) 2 7 8 8 (λ z. h (d ∙ z)) refl)))
+      if-lt (lowest mostSections (lacking sections set)) mostSections _ _ r (rw (← e) l)
+      (rw (← e) (q ∙ ap (λ n. refused n g) (if-ne (reading sections g) occupied 7 8 8 (λ z. h (d ∙ z)) refl)))
 
 -- ---- 5, by the table of conflicts
 
 -- the refusal 5, from the lowest route that the search by the table finds
-pub conflict-found : (L : Layout) (phases : List ℕ) (r q : ℕ) (x : Refusal) → length (L .conflict) ≡ 2304
+pub conflict-found : (L : Layout) (phases : List ℕ) (r q : ℕ) (x : Refusal) → length (L .conflict) ≡ mostPairs
     → q ≡ lowest (L .routes) (conflictsWith (L .conflict) phases r)
-    → x ≡ when (ltb q (L .routes)) 5 q → x ≡ conflicting L phases r
+    → x ≡ refusedIf (ltb q (L .routes)) 5 q → x ≡ conflicting L phases r
 unfolding conflicting found conflict entryOf conflictsWith
 conflict-found L phases r q x e d z =
-    z ∙ ap (λ m. when (ltb m (L .routes)) 5 m)
-    (d ∙ ap (lowest (L .routes)) (fun-ext (λ k. ap (λ n. locked phases k and eqb n 1) (lent-at (L .conflict) (placeOf r k) 2304 _ refl e))))
+    z ∙ ap (λ m. refusedIf (ltb m (L .routes)) 5 m)
+    (d ∙ ap (lowest (L .routes)) (fun-ext (λ k. ap (λ n. locked phases k and eqb n 1) (lent-at (L .conflict) (placeOf r k) mostPairs _ refl e))))
 
 -- ---- 10 and 11, by a table of blocks
 
--- a refusal, from the lowest section that is a block of the line and that the table has held or barred
+-- a refusal, from the lowest section that stands for a block of the line which the table has held or barred
 taken-found : (table : List ℕ) (l number g : ℕ) (r : Refusal) (b c : Line) → b ≡ c
-    → g ≡ lowest 64 (failing (untaken table l) (b .blocks) (b .block))
-    → r ≡ when (ltb g 64) number g
-    → r ≡ found number 64 (failing (untaken table l) (c .blocks) (c .block))
+    → g ≡ lowest mostSections (failing (untaken table l) b)
+    → r ≡ refusedIf (ltb g mostSections) number g
+    → r ≡ found number mostSections (failing (untaken table l) c)
 unfolding found
 taken-found table l number g r b c e d q =
-    q ∙ ap (λ m. when (ltb m 64) number m) (d ∙ ap (λ (a : Line). lowest 64 (failing (untaken table l) (a .blocks) (a .block))) e)
+    q ∙ ap (λ m. refusedIf (ltb m mostSections) number m) (d ∙ ap (λ (a : Line). lowest mostSections (failing (untaken table l) a)) e)
 
 module _ (ls : List Line) (table : List ℕ) (l g : ℕ) (r : Refusal) (b : Line) (e : b ≡ line ls l)
-    (d : g ≡ lowest 64 (failing (untaken table l) (b .blocks) (b .block))) where
+    (d : g ≡ lowest mostSections (failing (untaken table l) b)) where
   -- by the table of bars
-  pub barred-found : r ≡ when (ltb g 64) 11 g → r ≡ blockBarred ls table l
+  pub barred-found : r ≡ refusedIf (ltb g mostSections) 11 g → r ≡ blockBarred ls table l
   unfolding blockBarred unbarred
   barred-found q = taken-found table l 11 g r b (line ls l) e d q
 
   -- by the table of stages
-  pub held-found : r ≡ when (ltb g 64) 10 g → r ≡ blockHeld ls table l
+  pub held-found : r ≡ refusedIf (ltb g mostSections) 10 g → r ≡ blockHeld ls table l
   unfolding blockHeld isOpen
   held-found q = taken-found table l 10 g r b (line ls l) e d q
 
 -- ---- past the last line there is no block
 
 -- there the line is one of nothing, with no blocks
-pub no-block : (L : Layout) (l i : ℕ) → length (L .line) ≡ 8 → 8 ≤ l → true ≡ leb (lineIn L l .blocks) i
+pub no-block : (L : Layout) (l i : ℕ) → length (L .line) ≡ mostLines → mostLines ≤ l → true ≡ leb (lineIn L l .blocks) i
 unfolding lineIn line noLine
-no-block L l i e h = sym (le-leb 0 i (omega arith)) ∙ ap (λ (b : Line). leb (b .blocks) i) (read-past (L .line) l 8 noLine noLine e h refl)
+no-block L l i e h = sym (le-leb 0 i (omega arith)) ∙ ap (λ (b : Line). leb (b .blocks) i) (read-past (L .line) l mostLines noLine noLine e h refl)

@@ -2,7 +2,7 @@
 use Rattle.laws.proofs.Only.{Determines, only}
 use Rattle.reasons.proofs.no_refusal.Reads as no-refusal
 use Rattle.reasons.proofs.refuse.Reads as refuse
-use Rattle.reasons.proofs.when_refused.Reads as when-refused
+use Rattle.reasons.proofs.refused_if.Reads as refused-if
 use Rattle.reasons.proofs.conflicting.Reads as conflicting
 use Rattle.reasons.proofs.by_route.Reads as by-route
 use Rattle.reasons.proofs.by_line.Reads as by-line
@@ -21,9 +21,16 @@ use Rattle.reasons.proofs.not_secured.Reads as not-secured
 use Rattle.reasons.proofs.already_secured.Reads as already-secured
 use Rattle.reasons.proofs.entered_barred.Reads as entered-barred
 use Rattle.reasons.proofs.entered_held.Reads as entered-held
-use Rattle.reasons.proofs.events.unknown_kind.Reads as unknown-kind
-use Rattle.reasons.proofs.events.no_such_object.Reads as no-such-object
-use Rattle.reasons.proofs.events.wrong_second.Reads as wrong-second
+use Rattle.reasons.proofs.events.is_outside.Reads as is-outside
+use Rattle.reasons.proofs.events.no_such_block.Reads as no-such-block
+use Rattle.reasons.proofs.searches.section_of.Reads as section-of
+use Rattle.reasons.proofs.searches.lowest_lacking.Reads as lowest-lacking
+use Rattle.reasons.proofs.searches.lowest_misplaced.Reads as lowest-misplaced
+use Rattle.reasons.proofs.searches.lowest_conflicting.Reads as lowest-conflicting
+use Rattle.reasons.proofs.searches.lowest_route_locking.Reads as lowest-route-locking
+use Rattle.reasons.proofs.searches.lowest_line_locking.Reads as lowest-line-locking
+use Rattle.reasons.proofs.searches.lowest_locked_exit.Reads as lowest-locked-exit
+use Rattle.reasons.proofs.searches.lowest_taken.Reads as lowest-taken
 
 -- no refusal
 pub no-refusal-determined : Determines no-refusal.Post
@@ -34,8 +41,8 @@ pub refuse-determined : Determines refuse.Post
 refuse-determined κs a r q s = only
 
 -- a refusal where a test holds
-pub when-refused-determined : Determines when-refused.Post
-when-refused-determined κs a r q s = only
+pub refused-if-determined : Determines refused-if.Post
+refused-if-determined κs a r q s = only
 
 -- 5: a conflicting route is locked
 pub conflicting-determined : Determines conflicting.Post
@@ -109,14 +116,42 @@ entered-barred-determined κs a r q s = only
 pub entered-held-determined : Determines entered-held.Post
 entered-held-determined κs a r q s = only
 
--- 1: the kind is unknown
-pub unknown-kind-determined : Determines unknown-kind.Post
-unknown-kind-determined κs a r q s = only
+-- a number outside its bounds
+pub is-outside-determined : Determines is-outside.Post
+is-outside-determined κs a r q s = only
 
--- 2: there is no such object
-pub no-such-object-determined : Determines no-such-object.Post
-no-such-object-determined κs a r q s = only
+-- a block that a line has not
+pub no-such-block-determined : Determines no-such-block.Post
+no-such-block-determined κs a r q s = only
 
--- 3: the second number is wrong
-pub wrong-second-determined : Determines wrong-second.Post
-wrong-second-determined κs a r q s = only
+-- The section that a point stands in
+pub section-of-determined : Determines section-of.Post
+section-of-determined κs a r q s = only
+
+-- The lowest section of a set that does not read free
+pub lowest-lacking-determined : Determines lowest-lacking.Post
+lowest-lacking-determined κs a r q s = only
+
+-- The lowest point that is not read in its position
+pub lowest-misplaced-determined : Determines lowest-misplaced.Post
+lowest-misplaced-determined κs a r q s = only
+
+-- The lowest locked route that conflicts
+pub lowest-conflicting-determined : Determines lowest-conflicting.Post
+lowest-conflicting-determined κs a r q s = only
+
+-- The lowest locked route that lists a point
+pub lowest-route-locking-determined : Determines lowest-route-locking.Post
+lowest-route-locking-determined κs a r q s = only
+
+-- The lowest secured line that lists a point
+pub lowest-line-locking-determined : Determines lowest-line-locking.Post
+lowest-line-locking-determined κs a r q s = only
+
+-- The lowest locked exit route of a line
+pub lowest-locked-exit-determined : Determines lowest-locked-exit.Post
+lowest-locked-exit-determined κs a r q s = only
+
+-- The lowest block of a line that is held, or barred
+pub lowest-taken-determined : Determines lowest-taken.Post
+lowest-taken-determined κs a r q s = only

@@ -1,3 +1,3 @@
 pub mod Refusal
+pub mod Searches
 pub mod Reasons
-pub mod Kinds

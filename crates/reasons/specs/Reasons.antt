@@ -6,11 +6,12 @@ use Rattle.laws.specs.Choice.{if_then_else_}
 use Rattle.laws.specs.Tests.{_and_, lowest}
 use Rattle.track.specs.declared.Line.{Line}
 use Rattle.track.specs.Codes.{occupied}
+use Rattle.track.specs.Sizes.{mostSections, mostPoints}
 use Rattle.track.specs.Objects.{line}
 use Rattle.tables.specs.Readings.{reading}
 use Rattle.tables.specs.Blocks.{isOpen, unbarred}
 use Rattle.tables.specs.Locks.{locked, lockedExit}
-use Rattle.searches.specs.Searches.{lacking, misplaced, routeLocks, lineLocks, failing}
+use Rattle.reasons.specs.Searches.{lacking, misplaced, routeLocks, lineLocks, failing}
 use Rattle.layout.specs.declared.Layout.{Layout}
 use Rattle.layout.specs.Layout.{conflict}
 use Rattle.reasons.specs.declared.Refusal.{Refusal}
@@ -19,13 +20,13 @@ use Rattle.reasons.specs.Refusal.{refused, noRefusal, found}
 -- 7, 8: a section asked for is occupied, reads none; the lowest-numbered of those asked for that doesn't read free decides which
 unfoldable pub notFree : List ℕ → ℕ → Refusal
 notFree sections set =
-    if ltb (lowest 64 (lacking sections set)) 64 then
-    refused (if eqb (reading sections (lowest 64 (lacking sections set))) occupied then 7 else 8) (lowest 64 (lacking sections set))
+    if ltb (lowest mostSections (lacking sections set)) mostSections then
+    refused (if eqb (reading sections (lowest mostSections (lacking sections set))) occupied then 7 else 8) (lowest mostSections (lacking sections set))
     else noRefusal
 
 -- 6: a point is not read in position
 unfoldable pub notPlaced : List ℕ → ℕ → List ℕ → List ℕ → Refusal
-notPlaced points n ps ws = found 6 32 (misplaced points n ps ws)
+notPlaced points n ps ws = found 6 mostPoints (misplaced points n ps ws)
 
 -- 5: a route that conflicts with r is locked
 unfoldable pub conflicting : Layout → List ℕ → ℕ → Refusal
@@ -42,9 +43,9 @@ byLine L directions p = found 16 (L .lines) (lineLocks (L .line) directions p)
 unfoldable pub exitLocked : Layout → List ℕ → ℕ → Refusal
 exitLocked L phases l = found 17 (L .routes) (lockedExit (L .route) phases l)
 
--- 11: a block of line l is barred; 10: is held: the lowest section of those
+-- 11: a block of line l is barred; 10: is held: the lowest of the sections that stand for such blocks
 unfoldable pub blockBarred : List Line → List ℕ → ℕ → Refusal
-blockBarred ls bars l = found 11 64 (failing (unbarred bars l) (line ls l .blocks) (line ls l .block))
+blockBarred ls bars l = found 11 mostSections (failing (unbarred bars l) (line ls l))
 
 unfoldable pub blockHeld : List Line → List ℕ → ℕ → Refusal
-blockHeld ls stages l = found 10 64 (failing (isOpen stages l) (line ls l .blocks) (line ls l .block))
+blockHeld ls stages l = found 10 mostSections (failing (isOpen stages l) (line ls l))

@@ -15,12 +15,12 @@ unfoldable pub noRefusal : Refusal
 noRefusal = refused 0 0
 
 -- refused where the test holds
-unfoldable pub when : Bool → ℕ → ℕ → Refusal
-when t number detail = if t then refused number detail else noRefusal
+unfoldable pub refusedIf : Bool → ℕ → ℕ → Refusal
+refusedIf t number detail = if t then refused number detail else noRefusal
 
 -- refused where the test holds for one of 0 .. n - 1: the detail is the lowest that applies
 unfoldable pub found : ℕ → ℕ → (ℕ → Bool) → Refusal
-found number n p = when (ltb (lowest n p) n) number (lowest n p)
+found number n p = refusedIf (ltb (lowest n p) n) number (lowest n p)
 
 -- the first refusal of a list, in the paper's order; the last is taken as it stands
 unfoldable pub firstOf : List Refusal → Refusal

@@ -1,6 +1,7 @@
 // What is refused, one reason at a time, over a layout and the tables of a state that are lent (section 3). The lowest number to which a
 // reason applies is the detail.
 pub mod events;
+pub mod searches;
 
 use layout::Layout;
 use searches::section_of;
@@ -12,22 +13,33 @@ use tables::phase_of;
 use tables::section_reads;
 use track::Line;
 use track::Route;
+use track::blocks::detail_section;
+use track::blocks::sections_of;
 use track::codes::CANCELLING;
 use track::codes::NEUTRAL;
 use track::codes::OCCUPIED;
 use track::line_at;
 use track::nearest_block;
-use track::nearest_section;
+use track::sizes::LINES;
+use track::sizes::LISTED;
+use track::sizes::MOST_POINTS;
+use track::sizes::MOST_SECTIONS;
+use track::sizes::PLACES;
+use track::sizes::POINTS;
+use track::sizes::ROUTES;
+use track::sizes::SECTIONS;
 ghost use mathlib.Core.Path.{_≡_};
 ghost use mathlib.Core.Bool.{not};
 ghost use lib.Dec.{eqb, ltb};
 ghost use Rattle.laws.specs.Tables.{read};
+ghost use Rattle.track.specs.Sizes.{mostPoints};
 ghost use Rattle.track.specs.Codes.{cancelling, leaving, neutral};
-ghost use Rattle.track.specs.Objects.{line, nearest, nearestSection};
-ghost use Rattle.sets.specs.Sets.{joined, union, setOf};
+ghost use Rattle.track.specs.Objects.{line, nearest};
+ghost use Rattle.track.specs.Blocks.{blockDetail, lineSections};
+ghost use Rattle.sets.specs.Sets.{joined, mergedSet, setOf};
 ghost use Rattle.tables.specs.Blocks.{isOpen, unbarred};
 ghost use Rattle.tables.specs.Locks.{direction, phase, locked};
-ghost use Rattle.reasons.specs.Refusal.{refused, noRefusal, when};
+ghost use Rattle.reasons.specs.Refusal.{refused, noRefusal, refusedIf};
 ghost use Rattle.reasons.specs.Reasons.{notFree, notPlaced, conflicting, byRoute, byLine, exitLocked, blockBarred, blockHeld};
 
 // A refusal: its number and its detail; number 0 where there is none.
@@ -54,8 +66,8 @@ pub fn refuse(number: u8, detail: u32) -> Refusal
 }
 
 // Refused where the test holds.
-pub fn when_refused(test: bool, number: u8, detail: u32) -> Refusal
-    ensures { λ r. ⌜ r ≡ when test number detail ⌝ }
+pub fn refused_if(test: bool, number: u8, detail: u32) -> Refusal
+    ensures { λ r. ⌜ r ≡ refusedIf test number detail ⌝ }
 {
     if test {
         return refuse(number, detail);
@@ -65,17 +77,17 @@ pub fn when_refused(test: bool, number: u8, detail: u32) -> Refusal
 
 // Refused where a search of n found one.
 fn found_at(number: u8, n: u8, at: u8) -> Refusal
-    ensures { λ r. ⌜ r ≡ when (ltb at n) number at ⌝ }
+    ensures { λ r. ⌜ r ≡ refusedIf (ltb at n) number at ⌝ }
 {
-    when_refused(at < n, number, at as u32)
+    refused_if(at < n, number, at as u32)
 }
 
 // 7, 8: a section of the set is occupied, reads none.
-fn not_free(sections: &[u8; 64], set: u64) -> Refusal
+fn not_free(sections: &[u8; SECTIONS], set: u64) -> Refusal
     ensures { λ r. ⌜ r ≡ notFree (now (sections .entry)) set ⌝ }
 {
     let g = searches::lowest_lacking(sections, set);
-    if 64 <= g {
+    if MOST_SECTIONS <= g {
         return no_refusal();
     }
     if section_reads(sections, g) == OCCUPIED {
@@ -85,15 +97,15 @@ fn not_free(sections: &[u8; 64], set: u64) -> Refusal
 }
 
 // 6: one of the first n points is not read in position.
-fn not_placed(points: &[u8; 32], n: u8, ps: [u8; 8], ws: [u8; 8]) -> Refusal
+fn not_placed(points: &[u8; POINTS], n: u8, ps: [u8; LISTED], ws: [u8; LISTED]) -> Refusal
     ensures { λ r. ⌜ r ≡ notPlaced (now (points .entry)) n ps ws ⌝ }
 {
     let p = searches::lowest_misplaced(points, n, ps, ws);
-    found_at(6, 32, p)
+    found_at(6, MOST_POINTS, p)
 }
 
 // 5: a route that conflicts with r is locked.
-pub fn conflicting(plan: Layout, phases: &[u8; 48], r: u8) -> Refusal
+pub fn conflicting(plan: Layout, phases: &[u8; ROUTES], r: u8) -> Refusal
     ensures { λ x. ⌜ x ≡ conflicting plan (now (phases .entry)) r ⌝ }
 {
     let n = plan.routes;
@@ -102,7 +114,7 @@ pub fn conflicting(plan: Layout, phases: &[u8; 48], r: u8) -> Refusal
 }
 
 // 15: a locked route lists the point.
-pub fn by_route(plan: Layout, phases: &[u8; 48], p: u8) -> Refusal
+pub fn by_route(plan: Layout, phases: &[u8; ROUTES], p: u8) -> Refusal
     ensures { λ r. ⌜ r ≡ byRoute plan (now (phases .entry)) p ⌝ }
 {
     let rs = plan.route;
@@ -112,7 +124,7 @@ pub fn by_route(plan: Layout, phases: &[u8; 48], p: u8) -> Refusal
 }
 
 // 16: a secured line lists the point.
-pub fn by_line(plan: Layout, directions: &[u8; 8], p: u8) -> Refusal
+pub fn by_line(plan: Layout, directions: &[u8; LINES], p: u8) -> Refusal
     ensures { λ r. ⌜ r ≡ byLine plan (now (directions .entry)) p ⌝ }
 {
     let ls = plan.line;
@@ -122,7 +134,7 @@ pub fn by_line(plan: Layout, directions: &[u8; 8], p: u8) -> Refusal
 }
 
 // 17: an exit route of line l is locked.
-pub fn exit_locked(plan: Layout, phases: &[u8; 48], l: u8) -> Refusal
+pub fn exit_locked(plan: Layout, phases: &[u8; ROUTES], l: u8) -> Refusal
     ensures { λ r. ⌜ r ≡ exitLocked plan (now (phases .entry)) l ⌝ }
 {
     let rs = plan.route;
@@ -132,27 +144,25 @@ pub fn exit_locked(plan: Layout, phases: &[u8; 48], l: u8) -> Refusal
 }
 
 // 11: a block of line l is barred.
-pub fn block_barred(ls: [Line; 8], bars: &[u8; 64], l: u8) -> Refusal
+pub fn block_barred(ls: [Line; LINES], bars: &[u8; PLACES], l: u8) -> Refusal
     ensures { λ r. ⌜ r ≡ blockBarred ls (now (bars .entry)) l ⌝ }
 {
     let b = line_at(ls, l);
-    let block = b.block;
-    let g = searches::lowest_taken(bars, b.blocks, block, l);
-    found_at(11, 64, g)
+    let g = searches::lowest_taken(bars, b, l);
+    found_at(11, MOST_SECTIONS, g)
 }
 
 // 10: a block of line l is held.
-pub fn block_held(ls: [Line; 8], stages: &[u8; 64], l: u8) -> Refusal
+pub fn block_held(ls: [Line; LINES], stages: &[u8; PLACES], l: u8) -> Refusal
     ensures { λ r. ⌜ r ≡ blockHeld ls (now (stages .entry)) l ⌝ }
 {
     let b = line_at(ls, l);
-    let block = b.block;
-    let g = searches::lowest_taken(stages, b.blocks, block, l);
-    found_at(10, 64, g)
+    let g = searches::lowest_taken(stages, b, l);
+    found_at(10, MOST_SECTIONS, g)
 }
 
 // 6: a point of line l is not read in position.
-pub fn line_not_placed(ls: [Line; 8], points: &[u8; 32], l: u8) -> Refusal
+pub fn line_not_placed(ls: [Line; LINES], points: &[u8; POINTS], l: u8) -> Refusal
     ensures { λ r. ⌜ r ≡ notPlaced (now (points .entry)) (line ls l .points) (line ls l .point) (line ls l .position) ⌝ }
 {
     let b = line_at(ls, l);
@@ -162,7 +172,7 @@ pub fn line_not_placed(ls: [Line; 8], points: &[u8; 32], l: u8) -> Refusal
 }
 
 // 6: a point of a route is not read in position.
-pub fn route_not_placed(points: &[u8; 32], a: Route) -> Refusal
+pub fn route_not_placed(points: &[u8; POINTS], a: Route) -> Refusal
     ensures { λ r. ⌜ r ≡ notPlaced (now (points .entry)) (a .points) (a .point) (a .position) ⌝ }
 {
     let ps = a.point;
@@ -171,8 +181,8 @@ pub fn route_not_placed(points: &[u8; 32], a: Route) -> Refusal
 }
 
 // 7, 8: a section of a route's path or overlap does not read free.
-pub fn route_not_free(sections: &[u8; 64], a: Route) -> Refusal
-    ensures { λ r. ⌜ r ≡ notFree (now (sections .entry)) (union (setOf (a .paths) (a .path)) (setOf (a .overlaps) (a .overlap))) ⌝ }
+pub fn route_not_free(sections: &[u8; SECTIONS], a: Route) -> Refusal
+    ensures { λ r. ⌜ r ≡ notFree (now (sections .entry)) (mergedSet (setOf (a .paths) (a .path)) (setOf (a .overlaps) (a .overlap))) ⌝ }
 {
     let path = a.path;
     let overlap = a.overlap;
@@ -183,83 +193,82 @@ pub fn route_not_free(sections: &[u8; 64], a: Route) -> Refusal
 }
 
 // 7, 8: the section of point p does not read free.
-pub fn point_not_free(own: [u8; 32], sections: &[u8; 64], p: u8) -> Refusal
-    ensures { λ r. ⌜ r ≡ notFree (now (sections .entry)) (joined 0 (read 32 0 own p)) ⌝ }
+pub fn point_not_free(own: [u8; POINTS], sections: &[u8; SECTIONS], p: u8) -> Refusal
+    ensures { λ r. ⌜ r ≡ notFree (now (sections .entry)) (joined 0 (read mostPoints 0 own p)) ⌝ }
 {
     let section = section_of(own, p);
     let asked = sets::with(0, section);
     not_free(sections, asked)
 }
 
-// 7, 8: a block of line l does not read free.
-pub fn line_not_free(ls: [Line; 8], sections: &[u8; 64], l: u8) -> Refusal
-    ensures { λ r. ⌜ r ≡ notFree (now (sections .entry)) (setOf (line ls l .blocks) (line ls l .block)) ⌝ }
+// 7, 8: a section of a block of line l does not read free.
+pub fn line_not_free(ls: [Line; LINES], sections: &[u8; SECTIONS], l: u8) -> Refusal
+    ensures { λ r. ⌜ r ≡ notFree (now (sections .entry)) (lineSections (line ls l)) ⌝ }
 {
     let b = line_at(ls, l);
-    let block = b.block;
-    let asked = sets::of_list(block, b.blocks);
+    let asked = sections_of(b);
     not_free(sections, asked)
 }
 
 // 4: the route is already locked.
-pub fn already_locked(phases: &[u8; 48], r: u8) -> Refusal
-    ensures { λ x. ⌜ x ≡ when (locked (now (phases .entry)) r) 4 r ⌝ }
+pub fn already_locked(phases: &[u8; ROUTES], r: u8) -> Refusal
+    ensures { λ x. ⌜ x ≡ refusedIf (locked (now (phases .entry)) r) 4 r ⌝ }
 {
     let taken = is_locked(phases, r);
-    when_refused(taken, 4, r as u32)
+    refused_if(taken, 4, r as u32)
 }
 
 // 13: the route is not locked.
-pub fn not_locked(phases: &[u8; 48], r: u8) -> Refusal
-    ensures { λ x. ⌜ x ≡ when (not (locked (now (phases .entry)) r)) 13 r ⌝ }
+pub fn not_locked(phases: &[u8; ROUTES], r: u8) -> Refusal
+    ensures { λ x. ⌜ x ≡ refusedIf (not (locked (now (phases .entry)) r)) 13 r ⌝ }
 {
     let taken = is_locked(phases, r);
-    when_refused(!taken, 13, r as u32)
+    refused_if(!taken, 13, r as u32)
 }
 
 // 14: the route is cancelling already.
-pub fn already_cancelling(phases: &[u8; 48], r: u8) -> Refusal
-    ensures { λ x. ⌜ x ≡ when (eqb (phase (now (phases .entry)) r) cancelling) 14 r ⌝ }
+pub fn already_cancelling(phases: &[u8; ROUTES], r: u8) -> Refusal
+    ensures { λ x. ⌜ x ≡ refusedIf (eqb (phase (now (phases .entry)) r) cancelling) 14 r ⌝ }
 {
     let phase = phase_of(phases, r);
-    when_refused(phase == CANCELLING, 14, r as u32)
+    refused_if(phase == CANCELLING, 14, r as u32)
 }
 
 // 9: the line is not secured that way.
-pub fn not_secured(directions: &[u8; 8], l: u8, end: u8) -> Refusal
-    ensures { λ r. ⌜ r ≡ when (not (eqb (direction (now (directions .entry)) l) (leaving end))) 9 l ⌝ }
+pub fn not_secured(directions: &[u8; LINES], l: u8, end: u8) -> Refusal
+    ensures { λ r. ⌜ r ≡ refusedIf (not (eqb (direction (now (directions .entry)) l) (leaving end))) 9 l ⌝ }
 {
     let direction = direction_of(directions, l) as u32;
     let asked = (end as u32) + 1;
-    when_refused(direction != asked, 9, l as u32)
+    refused_if(direction != asked, 9, l as u32)
 }
 
 // 12: the line is already secured; the detail is its direction.
-pub fn already_secured(directions: &[u8; 8], l: u8) -> Refusal
-    ensures { λ r. ⌜ r ≡ when (not (eqb (direction (now (directions .entry)) l) neutral)) 12 (direction (now (directions .entry)) l) ⌝ }
+pub fn already_secured(directions: &[u8; LINES], l: u8) -> Refusal
+    ensures { λ r. ⌜ r ≡ refusedIf (not (eqb (direction (now (directions .entry)) l) neutral)) 12 (direction (now (directions .entry)) l) ⌝ }
 {
     let direction = direction_of(directions, l);
-    when_refused(direction != NEUTRAL, 12, direction as u32)
+    refused_if(direction != NEUTRAL, 12, direction as u32)
 }
 
 // 11: the block that an exit route enters is barred.
-pub fn entered_barred(ls: [Line; 8], bars: &[u8; 64], a: Route) -> Refusal
-    ensures { λ r. ⌜ r ≡ when (not (unbarred (now (bars .entry)) (a .line) (nearest (line ls (a .line)) (a .end)))) 11 (nearestSection (line ls (a .line)) (a .end)) ⌝ }
+pub fn entered_barred(ls: [Line; LINES], bars: &[u8; PLACES], a: Route) -> Refusal
+    ensures { λ r. ⌜ r ≡ refusedIf (not (unbarred (now (bars .entry)) (a .line) (nearest (line ls (a .line)) (a .end)))) 11 (blockDetail (line ls (a .line)) (nearest (line ls (a .line)) (a .end))) ⌝ }
 {
     let b = line_at(ls, a.line);
     let i = nearest_block(b, a.end);
-    let section = nearest_section(b, a.end);
+    let section = detail_section(b, i);
     let free = is_unbarred(bars, a.line, i);
-    when_refused(!free, 11, section as u32)
+    refused_if(!free, 11, section as u32)
 }
 
 // 10: the block that an exit route enters is held.
-pub fn entered_held(ls: [Line; 8], stages: &[u8; 64], a: Route) -> Refusal
-    ensures { λ r. ⌜ r ≡ when (not (isOpen (now (stages .entry)) (a .line) (nearest (line ls (a .line)) (a .end)))) 10 (nearestSection (line ls (a .line)) (a .end)) ⌝ }
+pub fn entered_held(ls: [Line; LINES], stages: &[u8; PLACES], a: Route) -> Refusal
+    ensures { λ r. ⌜ r ≡ refusedIf (not (isOpen (now (stages .entry)) (a .line) (nearest (line ls (a .line)) (a .end)))) 10 (blockDetail (line ls (a .line)) (nearest (line ls (a .line)) (a .end))) ⌝ }
 {
     let b = line_at(ls, a.line);
     let i = nearest_block(b, a.end);
-    let section = nearest_section(b, a.end);
+    let section = detail_section(b, i);
     let open = is_open(stages, a.line, i);
-    when_refused(!open, 10, section as u32)
+    refused_if(!open, 10, section as u32)
 }

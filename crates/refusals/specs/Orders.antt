@@ -5,65 +5,67 @@ use mathlib.Core.List.{List, [], _∷_}
 use lib.Dec.{eqb}
 use Rattle.laws.specs.Choice.{if_then_else_}
 use Rattle.laws.specs.Tables.{read}
-use Rattle.sets.specs.Sets.{union, setOf, joined}
+use Rattle.sets.specs.Sets.{mergedSet, setOf, joined}
 use Rattle.track.specs.declared.Line.{Line}
 use Rattle.track.specs.declared.Route.{Route}
 use Rattle.track.specs.Codes.{exitRoute, neutral, leaving, cancelling}
-use Rattle.track.specs.Objects.{line, route, nearest, nearestSection}
+use Rattle.track.specs.Sizes.{mostPoints}
+use Rattle.track.specs.Objects.{line, route, nearest}
+use Rattle.track.specs.Blocks.{blockDetail, lineSections}
+use Rattle.tables.specs.Tables.{Tables}
 use Rattle.tables.specs.Blocks.{isOpen, unbarred}
 use Rattle.tables.specs.Locks.{direction, phase, locked}
 use Rattle.layout.specs.declared.Layout.{Layout}
 use Rattle.reasons.specs.declared.Refusal.{Refusal}
-use Rattle.reasons.specs.Refusal.{noRefusal, when, firstOf}
+use Rattle.reasons.specs.Refusal.{noRefusal, refusedIf, firstOf}
 use Rattle.reasons.specs.Reasons.{notFree, notPlaced, conflicting, byRoute, byLine, exitLocked, blockBarred, blockHeld}
 
 -- throw: 15, 16, then 7/8 for the point's own section
-unfoldable pub throwRefusal : Layout → List ℕ → List ℕ → List ℕ → ℕ → Refusal
-throwRefusal L sections phases directions p =
-    firstOf (byRoute L phases p ∷ byLine L directions p ∷ notFree sections (joined 0 (read 32 0 (L .pointsection) p)) ∷ [])
+unfoldable pub throwRefusal : Layout → Tables → ℕ → Refusal
+throwRefusal L t p =
+    firstOf (byRoute L (t .phase) p ∷ byLine L (t .direction) p ∷ notFree (t .section) (joined 0 (read mostPoints 0 (L .pointsection) p)) ∷ [])
 
 -- an exit route besides: 9, 6 for the line's points, 11, 10 for the block it enters
-unfoldable pub exitRefusal : List Line → List ℕ → List ℕ → List ℕ → List ℕ → Route → Refusal
-exitRefusal ls points directions stages bars a =
+unfoldable pub exitRefusal : List Line → Tables → Route → Refusal
+exitRefusal ls t a =
+    let b : Line = line ls (a .line) in
+    let i : ℕ = nearest b (a .end) in
     firstOf (
-    when (not (eqb (direction directions (a .line)) (leaving (a .end)))) 9 (a .line)
-    ∷ notPlaced points (line ls (a .line) .points) (line ls (a .line) .point) (line ls (a .line) .position)
-    ∷ when (not (unbarred bars (a .line) (nearest (line ls (a .line)) (a .end)))) 11 (nearestSection (line ls (a .line)) (a .end))
-    ∷ when (not (isOpen stages (a .line) (nearest (line ls (a .line)) (a .end)))) 10 (nearestSection (line ls (a .line)) (a .end))
+    refusedIf (not (eqb (direction (t .direction) (a .line)) (leaving (a .end)))) 9 (a .line)
+    ∷ notPlaced (t .point) (b .points) (b .point) (b .position)
+    ∷ refusedIf (not (unbarred (t .bar) (a .line) i)) 11 (blockDetail b i)
+    ∷ refusedIf (not (isOpen (t .stage) (a .line) i)) 10 (blockDetail b i)
     ∷ [])
 
 -- set route after 4 and 5: 6, 7/8 over path and overlap; an exit route then 9, 6, 11, 10
-unfoldable pub routeRefusal : List Line → List ℕ → List ℕ → List ℕ → List ℕ → List ℕ → Route → Refusal
-routeRefusal ls sections points directions stages bars a =
+unfoldable pub routeRefusal : List Line → Tables → Route → Refusal
+routeRefusal ls t a =
     firstOf (
-    notPlaced points (a .points) (a .point) (a .position)
-    ∷ notFree sections (union (setOf (a .paths) (a .path)) (setOf (a .overlaps) (a .overlap)))
-    ∷ (if eqb (a .kind) exitRoute then exitRefusal ls points directions stages bars a else noRefusal)
+    notPlaced (t .point) (a .points) (a .point) (a .position)
+    ∷ notFree (t .section) (mergedSet (setOf (a .paths) (a .path)) (setOf (a .overlaps) (a .overlap)))
+    ∷ (if eqb (a .kind) exitRoute then exitRefusal ls t a else noRefusal)
     ∷ [])
 
 -- set route: 4, 5, then 6, 7/8, and of an exit route 9, 6, 11, 10
-unfoldable pub setRefusal : Layout → List ℕ → List ℕ → List ℕ → List ℕ → List ℕ → List ℕ → ℕ → Refusal
-setRefusal L sections points phases directions stages bars r =
-    firstOf (
-    when (locked phases r) 4 r
-    ∷ conflicting L phases r
-    ∷ routeRefusal (L .line) sections points directions stages bars (route (L .route) r)
-    ∷ [])
+unfoldable pub setRefusal : Layout → Tables → ℕ → Refusal
+setRefusal L t r =
+    firstOf (refusedIf (locked (t .phase) r) 4 r ∷ conflicting L (t .phase) r ∷ routeRefusal (L .line) t (route (L .route) r) ∷ [])
 
 -- cancel: 13, 14
-unfoldable pub cancelRefusal : List ℕ → ℕ → Refusal
-cancelRefusal phases r = firstOf (when (not (locked phases r)) 13 r ∷ when (eqb (phase phases r) cancelling) 14 r ∷ [])
+unfoldable pub cancelRefusal : Tables → ℕ → Refusal
+cancelRefusal t r = firstOf (refusedIf (not (locked (t .phase) r)) 13 r ∷ refusedIf (eqb (phase (t .phase) r) cancelling) 14 r ∷ [])
 
 -- secure: 12, 11, 6 for the line's points, 10
-unfoldable pub secureRefusal : List Line → List ℕ → List ℕ → List ℕ → List ℕ → ℕ → Refusal
-secureRefusal ls points directions stages bars l =
+unfoldable pub secureRefusal : Layout → Tables → ℕ → Refusal
+secureRefusal L t l =
+    let b : Line = line (L .line) l in
     firstOf (
-    when (not (eqb (direction directions l) neutral)) 12 (direction directions l)
-    ∷ blockBarred ls bars l
-    ∷ notPlaced points (line ls l .points) (line ls l .point) (line ls l .position)
-    ∷ blockHeld ls stages l
+    refusedIf (not (eqb (direction (t .direction) l) neutral)) 12 (direction (t .direction) l)
+    ∷ blockBarred (L .line) (t .bar) l
+    ∷ notPlaced (t .point) (b .points) (b .point) (b .position)
+    ∷ blockHeld (L .line) (t .stage) l
     ∷ [])
 
 -- manual release: 17, then 7/8 over the line's blocks
-unfoldable pub manualRefusal : Layout → List ℕ → List ℕ → ℕ → Refusal
-manualRefusal L sections phases l = firstOf (exitLocked L phases l ∷ notFree sections (setOf (line (L .line) l .blocks) (line (L .line) l .block)) ∷ [])
+unfoldable pub manualRefusal : Layout → Tables → ℕ → Refusal
+manualRefusal L t l = firstOf (exitLocked L (t .phase) l ∷ notFree (t .section) (lineSections (line (L .line) l)) ∷ [])

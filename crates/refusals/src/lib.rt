@@ -1,49 +1,50 @@
 // What is refused of any event and of each order, in the paper's order, over a layout and the tables of a state that are lent (section 3).
 use layout::Layout;
 use reasons::Refusal;
-use reasons::events;
 use reasons::no_refusal;
-use reasons::when_refused;
+use reasons::refused_if;
 use track::Line;
 use track::Route;
 use track::codes::EXIT_ROUTE;
 use track::route_at;
+use track::sizes::LINES;
+use track::sizes::PLACES;
+use track::sizes::POINTS;
+use track::sizes::ROUTES;
+use track::sizes::SECTIONS;
 ghost use mathlib.Core.Path.{_≡_};
 ghost use lib.Dec.{eqb};
 ghost use Rattle.laws.specs.Choice.{if_then_else_};
 ghost use Rattle.track.specs.Codes.{exitRoute};
+ghost use Rattle.tables.specs.Tables.{unasked};
 ghost use Rattle.reasons.specs.Refusal.{noRefusal};
-ghost use Rattle.refusals.specs.Events.{eventRefusal};
+ghost use Rattle.refusals.specs.Events.{numbersRefusal};
 ghost use Rattle.refusals.specs.Orders.{throwRefusal, exitRefusal, routeRefusal, setRefusal, cancelRefusal, secureRefusal, manualRefusal};
 
-// What is refused of any event, before its kind is looked at.
-pub fn event_refusal(plan: Layout, is_sound: bool, kind: u32, first: u32, second: u32) -> Refusal
-    ensures { λ r. ⌜ r ≡ eventRefusal «is_sound» plan kind first second ⌝ }
+// What is refused of any event by its numbers.
+pub fn numbers_refusal(sound: bool, missing: bool, first: u32, wrong: bool) -> Refusal
+    ensures { λ r. ⌜ r ≡ numbersRefusal sound missing first wrong ⌝ }
 {
-    let unsound = when_refused(!is_sound, 18, 0);
+    let unsound = refused_if(!sound, 18, 0);
     if unsound.number != 0 {
         return unsound;
     }
-    let unknown = events::unknown_kind(kind);
-    if unknown.number != 0 {
-        return unknown;
+    let no_object = refused_if(missing, 2, first);
+    if no_object.number != 0 {
+        return no_object;
     }
-    let missing = events::no_such_object(plan, kind, first);
-    if missing.number != 0 {
-        return missing;
-    }
-    events::wrong_second(plan, kind, first, second)
+    refused_if(wrong, 3, 0)
 }
 
 // What is refused of a throw.
 pub fn throw_refusal<'a>(
     plan: Layout,
-    sections: &'a [u8; 64],
-    phases: &'a [u8; 48],
-    directions: &'a [u8; 8],
+    sections: &'a [u8; SECTIONS],
+    phases: &'a [u8; ROUTES],
+    directions: &'a [u8; LINES],
     p: u8,
 ) -> Refusal
-    ensures { λ r. ⌜ r ≡ throwRefusal plan (now (sections .entry)) (now (phases .entry)) (now (directions .entry)) p ⌝ }
+    ensures { λ r. ⌜ r ≡ throwRefusal plan (record { section = now (sections .entry); point = unasked; phase = now (phases .entry); direction = now (directions .entry); stage = unasked; bar = unasked }) p ⌝ }
 {
     let route = reasons::by_route(plan, phases, p);
     if route.number != 0 {
@@ -59,14 +60,14 @@ pub fn throw_refusal<'a>(
 
 // What is refused of an exit route besides; of the other kinds nothing.
 fn exit_refusal<'a>(
-    ls: [Line; 8],
-    points: &'a [u8; 32],
-    directions: &'a [u8; 8],
-    stages: &'a [u8; 64],
-    bars: &'a [u8; 64],
+    ls: [Line; LINES],
+    points: &'a [u8; POINTS],
+    directions: &'a [u8; LINES],
+    stages: &'a [u8; PLACES],
+    bars: &'a [u8; PLACES],
     a: Route,
 ) -> Refusal
-    ensures { λ r. ⌜ r ≡ if eqb (a .kind) exitRoute then exitRefusal ls (now (points .entry)) (now (directions .entry)) (now (stages .entry)) (now (bars .entry)) a else noRefusal ⌝ }
+    ensures { λ r. ⌜ r ≡ if eqb (a .kind) exitRoute then exitRefusal ls (record { section = unasked; point = now (points .entry); phase = unasked; direction = now (directions .entry); stage = now (stages .entry); bar = now (bars .entry) }) a else noRefusal ⌝ }
 {
     if a.kind != EXIT_ROUTE {
         return no_refusal();
@@ -88,15 +89,15 @@ fn exit_refusal<'a>(
 
 // What is refused of a route by its own lists.
 fn route_refusal<'a>(
-    ls: [Line; 8],
-    sections: &'a [u8; 64],
-    points: &'a [u8; 32],
-    directions: &'a [u8; 8],
-    stages: &'a [u8; 64],
-    bars: &'a [u8; 64],
+    ls: [Line; LINES],
+    sections: &'a [u8; SECTIONS],
+    points: &'a [u8; POINTS],
+    directions: &'a [u8; LINES],
+    stages: &'a [u8; PLACES],
+    bars: &'a [u8; PLACES],
     a: Route,
 ) -> Refusal
-    ensures { λ r. ⌜ r ≡ routeRefusal ls (now (sections .entry)) (now (points .entry)) (now (directions .entry)) (now (stages .entry)) (now (bars .entry)) a ⌝ }
+    ensures { λ r. ⌜ r ≡ routeRefusal ls (record { section = now (sections .entry); point = now (points .entry); phase = unasked; direction = now (directions .entry); stage = now (stages .entry); bar = now (bars .entry) }) a ⌝ }
 {
     let placed = reasons::route_not_placed(points, a);
     if placed.number != 0 {
@@ -112,15 +113,15 @@ fn route_refusal<'a>(
 // What is refused of setting a route.
 pub fn set_refusal<'a>(
     plan: Layout,
-    sections: &'a [u8; 64],
-    points: &'a [u8; 32],
-    phases: &'a [u8; 48],
-    directions: &'a [u8; 8],
-    stages: &'a [u8; 64],
-    bars: &'a [u8; 64],
+    sections: &'a [u8; SECTIONS],
+    points: &'a [u8; POINTS],
+    phases: &'a [u8; ROUTES],
+    directions: &'a [u8; LINES],
+    stages: &'a [u8; PLACES],
+    bars: &'a [u8; PLACES],
     r: u8,
 ) -> Refusal
-    ensures { λ x. ⌜ x ≡ setRefusal plan (now (sections .entry)) (now (points .entry)) (now (phases .entry)) (now (directions .entry)) (now (stages .entry)) (now (bars .entry)) r ⌝ }
+    ensures { λ x. ⌜ x ≡ setRefusal plan (record { section = now (sections .entry); point = now (points .entry); phase = now (phases .entry); direction = now (directions .entry); stage = now (stages .entry); bar = now (bars .entry) }) r ⌝ }
 {
     let own = reasons::already_locked(phases, r);
     if own.number != 0 {
@@ -137,8 +138,8 @@ pub fn set_refusal<'a>(
 }
 
 // What is refused of cancelling a route.
-pub fn cancel_refusal(phases: &[u8; 48], r: u8) -> Refusal
-    ensures { λ x. ⌜ x ≡ cancelRefusal (now (phases .entry)) r ⌝ }
+pub fn cancel_refusal(phases: &[u8; ROUTES], r: u8) -> Refusal
+    ensures { λ x. ⌜ x ≡ cancelRefusal (record { section = unasked; point = unasked; phase = now (phases .entry); direction = unasked; stage = unasked; bar = unasked }) r ⌝ }
 {
     let idle = reasons::not_locked(phases, r);
     if idle.number != 0 {
@@ -149,15 +150,16 @@ pub fn cancel_refusal(phases: &[u8; 48], r: u8) -> Refusal
 
 // What is refused of securing a line.
 pub fn secure_refusal<'a>(
-    ls: [Line; 8],
-    points: &'a [u8; 32],
-    directions: &'a [u8; 8],
-    stages: &'a [u8; 64],
-    bars: &'a [u8; 64],
+    plan: Layout,
+    points: &'a [u8; POINTS],
+    directions: &'a [u8; LINES],
+    stages: &'a [u8; PLACES],
+    bars: &'a [u8; PLACES],
     l: u8,
 ) -> Refusal
-    ensures { λ r. ⌜ r ≡ secureRefusal ls (now (points .entry)) (now (directions .entry)) (now (stages .entry)) (now (bars .entry)) l ⌝ }
+    ensures { λ r. ⌜ r ≡ secureRefusal plan (record { section = unasked; point = now (points .entry); phase = unasked; direction = now (directions .entry); stage = now (stages .entry); bar = now (bars .entry) }) l ⌝ }
 {
+    let ls = plan.line;
     let way = reasons::already_secured(directions, l);
     if way.number != 0 {
         return way;
@@ -176,11 +178,11 @@ pub fn secure_refusal<'a>(
 // What is refused of a manual release.
 pub fn manual_refusal<'a>(
     plan: Layout,
-    sections: &'a [u8; 64],
-    phases: &'a [u8; 48],
+    sections: &'a [u8; SECTIONS],
+    phases: &'a [u8; ROUTES],
     l: u8,
 ) -> Refusal
-    ensures { λ r. ⌜ r ≡ manualRefusal plan (now (sections .entry)) (now (phases .entry)) l ⌝ }
+    ensures { λ r. ⌜ r ≡ manualRefusal plan (record { section = now (sections .entry); point = unasked; phase = now (phases .entry); direction = unasked; stage = unasked; bar = unasked }) l ⌝ }
 {
     let ls = plan.line;
     let route = reasons::exit_locked(plan, phases, l);

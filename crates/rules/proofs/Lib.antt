@@ -1,4 +1,3 @@
 pub mod Sets
 pub mod Laws
-pub mod Differ
 pub mod Unique

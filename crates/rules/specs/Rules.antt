@@ -4,30 +4,32 @@ use mathlib.Core.Bool.{Bool, not}
 use mathlib.Core.List.{List, [], _∷_}
 use lib.Dec.{eqb, leb}
 use lib.ListN.{getD}
-use Rattle.laws.specs.Tests.{_and_, _or_, implies, every, any}
+use Rattle.laws.specs.Tests.{_and_, _or_, implies, every, anyBelow}
 use Rattle.track.specs.declared.Line.{Line}
 use Rattle.track.specs.declared.Route.{Route}
 use Rattle.track.specs.Codes.{left, right, entranceRoute, exitRoute}
+use Rattle.track.specs.Sizes.{mostSections}
 use Rattle.track.specs.Objects.{line, inner, entrance, lastSection}
-use Rattle.track.specs.Lists.{among, differ}
+use Rattle.track.specs.Lists.{among, allDiffer}
+use Rattle.track.specs.Blocks.{inBlock, blocksDiffer}
 
 -- some section, or some point, passes both tests; there are at most 64 of either
 unfoldable pub share : (ℕ → Bool) → (ℕ → Bool) → Bool
-share p q = any 64 (λ g. p g and q g)
+share p q = anyBelow mostSections (λ g. p g and q g)
 
--- section g is a block of line l; of one of the first n lines
+-- section g is in a block of line l; of one of the first n lines
 unfoldable pub hasBlock : List Line → ℕ → ℕ → Bool
-hasBlock ls g l = among (line ls l .blocks) (line ls l .block) g
+hasBlock ls g l = anyBelow (line ls l .blocks) (λ i. inBlock (line ls l) i g)
 
 unfoldable pub isBlock : ℕ → List Line → ℕ → Bool
-isBlock n ls g = any n (hasBlock ls g)
+isBlock n ls g = anyBelow n (hasBlock ls g)
 
 -- section g is an inner section of line l; of one of the first n lines
 unfoldable pub hasInner : List Line → ℕ → ℕ → Bool
 hasInner ls g l = eqb (line ls l .innera) g or eqb (line ls l .innerb) g
 
 unfoldable pub isInner : ℕ → List Line → ℕ → Bool
-isInner n ls g = any n (hasInner ls g)
+isInner n ls g = anyBelow n (hasInner ls g)
 
 -- section g is in the route's path
 unfoldable pub inPath : Route → ℕ → Bool
@@ -38,11 +40,11 @@ unfoldable pub hasEntrance : List Line → ℕ → ℕ → Bool
 hasEntrance ls x l = eqb (line ls l .entrancea) x or eqb (line ls l .entranceb) x
 
 unfoldable pub isEntrance : ℕ → List Line → ℕ → Bool
-isEntrance n ls x = any n (hasEntrance ls x)
+isEntrance n ls x = anyBelow n (hasEntrance ls x)
 
--- rule 1, a section is a block at most once: the blocks of line l differ, and none is a block of a line before it
+-- rule 1, a section is a block at most once: the sections of the blocks of line l differ, and none is in a block of a line before it
 unfoldable pub once : List Line → ℕ → Bool
-once ls l = differ (line ls l .blocks) (line ls l .block) and not (share (λ g. hasBlock ls g l) (isBlock l ls))
+once ls l = blocksDiffer (line ls l) and not (share (λ g. hasBlock ls g l) (isBlock l ls))
 
 -- rule 2, line l: its two inner sections differ; its entrance signals differ from each other and from those of the lines before
 unfoldable pub lineEnds : List Line → ℕ → Bool
@@ -55,11 +57,11 @@ lineEnds ls l = every (
 
 -- rule 3, the points of line l differ
 unfoldable pub linePoints : List Line → ℕ → Bool
-linePoints ls l = differ (line ls l .points) (line ls l .point)
+linePoints ls l = allDiffer (line ls l .points) (line ls l .point)
 
 -- rule 3, the sections of a path differ, the points of a route differ
 unfoldable pub routeLists : Route → Bool
-routeLists a = differ (a .paths) (a .path) and differ (a .points) (a .point)
+routeLists a = allDiffer (a .paths) (a .path) and allDiffer (a .points) (a .point)
 
 -- rule 4, kinds 0 and 1 have at least two path sections
 unfoldable pub routeLength : Route → Bool
@@ -77,7 +79,7 @@ routeEnds n ls a = every (
 
 -- point p is one of the route's, in position w
 unfoldable pub hasPoint : ℕ → Route → ℕ → Bool
-hasPoint w a p = any (a .points) (λ i. eqb (getD (a .position) i 0) w and eqb (getD (a .point) i 0) p)
+hasPoint w a p = anyBelow (a .points) (λ i. eqb (getD (a .position) i 0) w and eqb (getD (a .point) i 0) p)
 
 -- rule 6, two routes with the same entry signal, a common path section, or a common point in different positions
 unfoldable pub clashes : Route → Route → Bool

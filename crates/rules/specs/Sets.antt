@@ -7,16 +7,17 @@ use lib.ListN.{getD}
 use Rattle.laws.specs.Choice.{if_then_else_}
 use Rattle.laws.specs.Tests.{_or_}
 use Rattle.laws.specs.Tables.{iter}
-use Rattle.sets.specs.Sets.{joined, union, setOf, common}
+use Rattle.sets.specs.Sets.{joined, mergedSet, setOf, common}
 use Rattle.track.specs.declared.Line.{Line}
 use Rattle.track.specs.declared.Route.{Route}
 use Rattle.track.specs.Codes.{left, right}
 use Rattle.track.specs.Objects.{line}
+use Rattle.track.specs.Blocks.{lineSections}
 use Rattle.rules.specs.declared.Reach.{Reach}
 
--- the blocks of line l with those before it; the blocks of the first n lines
+-- the sections of the blocks of line l with those before it; those of the first n lines
 unfoldable pub lineBlocks : List Line → ℕ → ℕ → ℕ
-lineBlocks ls l set = union set (setOf (line ls l .blocks) (line ls l .block))
+lineBlocks ls l set = mergedSet set (lineSections (line ls l))
 
 unfoldable pub blockSet : ℕ → List Line → ℕ
 blockSet n ls = iter (lineBlocks ls) n 0

@@ -3,6 +3,9 @@ use laws::at8;
 use laws::lent8;
 use track::Line;
 use track::Route;
+use track::all_differ;
+use track::blocks::blocks_differ;
+use track::blocks::sections_of;
 use track::codes::ENTRANCE_ROUTE;
 use track::codes::EXIT_ROUTE;
 use track::codes::LEFT;
@@ -10,12 +13,15 @@ use track::codes::RIGHT;
 use track::entrance_at;
 use track::inner_at;
 use track::line_at;
+use track::sizes::LINES;
+use track::sizes::LISTED;
+use track::sizes::MOST_LINES;
 ghost use mathlib.Core.Path.{_≡_};
 ghost use lib.Dec.{eqb};
 ghost use lib.ListN.{length};
 ghost use Rattle.laws.specs.Tests.{_or_};
+ghost use Rattle.track.specs.Sizes.{mostListed};
 ghost use Rattle.track.specs.Objects.{lastSection};
-ghost use Rattle.track.specs.Lists.{differ};
 ghost use Rattle.rules.specs.Rules.{isEntrance, once, lineEnds, linePoints, routeLists, routeLength, routeEnds};
 ghost use Rattle.rules.specs.Sets.{lineBlocks, blockSet, innerTurn, innerSet, offBlocks, sideWith, sideSet, reachOf, clashing};
 
@@ -27,38 +33,17 @@ pub struct Reach {
     pub right: u64,
 }
 
-// The first n differ: none is in the set of those before it. A list with a number of 64 or more, which no set can hold, is searched.
-fn all_differ(xs: [u8; 8], n: u8) -> bool
-    ensures { λ r. ⌜ r ≡ differ n xs ⌝ }
-{
-    let mut set: u64 = 0;
-    let mut i: u8 = 0;
-    while i < n {
-        let x = lent8(&xs, i);
-        if 64 <= x {
-            return track::all_differ(xs, n);
-        }
-        if sets::has(set, x) {
-            return false;
-        }
-        set = sets::with(set, x);
-        i += 1;
-    }
-    true
-}
-
-// A set of sections with the blocks of line l in it too.
-fn with_blocks(ls: [Line; 8], l: u8, set: u64) -> u64
+// A set of sections with those of the blocks of line l in it too.
+fn with_blocks(ls: [Line; LINES], l: u8, set: u64) -> u64
     ensures { λ r. ⌜ r ≡ lineBlocks ls l set ⌝ }
 {
     let a = line_at(ls, l);
-    let block = a.block;
-    let own = sets::of_list(block, a.blocks);
+    let own = sections_of(a);
     sets::merged(set, own)
 }
 
-// The blocks of the first n lines.
-pub fn block_set(ls: [Line; 8], n: u8) -> u64
+// The sections of the blocks of the first n lines.
+pub fn block_set(ls: [Line; LINES], n: u8) -> u64
     ensures { λ r. ⌜ r ≡ blockSet n ls ⌝ }
 {
     let mut set: u64 = 0;
@@ -71,7 +56,7 @@ pub fn block_set(ls: [Line; 8], n: u8) -> u64
 }
 
 // A set of sections with the inner sections of line l in it too.
-fn with_inner(ls: [Line; 8], l: u8, set: u64) -> u64
+fn with_inner(ls: [Line; LINES], l: u8, set: u64) -> u64
     ensures { λ r. ⌜ r ≡ innerTurn ls l set ⌝ }
 {
     let a = line_at(ls, l);
@@ -80,7 +65,7 @@ fn with_inner(ls: [Line; 8], l: u8, set: u64) -> u64
 }
 
 // The inner sections of the first n lines.
-pub fn inner_set(ls: [Line; 8], n: u8) -> u64
+pub fn inner_set(ls: [Line; LINES], n: u8) -> u64
     ensures { λ r. ⌜ r ≡ innerSet n ls ⌝ }
 {
     let mut set: u64 = 0;
@@ -92,20 +77,19 @@ pub fn inner_set(ls: [Line; 8], n: u8) -> u64
     set
 }
 
-// Rule 1: the blocks of line l differ, and none is a block of a line before it.
-pub fn blocks_once(ls: [Line; 8], l: u8) -> bool
+// Rule 1: the sections of the blocks of line l differ, and none is in a block of a line before it.
+pub fn blocks_once(ls: [Line; LINES], l: u8) -> bool
     ensures { λ r. ⌜ r ≡ once ls l ⌝ }
 {
     let a = line_at(ls, l);
-    let block = a.block;
-    let differ = all_differ(block, a.blocks);
-    let own = sets::of_list(block, a.blocks);
+    let differ = blocks_differ(a);
+    let own = sections_of(a);
     let before = block_set(ls, l);
     let again = sets::share(own, before);
     differ & !again
 }
 
-// Rule 1: no section of a route's path is in a set of blocks.
+// Rule 1: no section of a route's path is in a set of sections of blocks.
 pub fn path_off_blocks(blocks: u64, a: Route) -> bool
     ensures { λ r. ⌜ r ≡ offBlocks blocks a ⌝ }
 {
@@ -122,12 +106,12 @@ fn is_entrance_of(a: Line, x: u8) -> bool
 }
 
 // The signal x is an entrance signal of one of the first n lines; past the eighth each is a line of nothing.
-fn is_entrance(ls: [Line; 8], n: u8, x: u8) -> bool
+fn is_entrance(ls: [Line; LINES], n: u8, x: u8) -> bool
     ensures { λ r. ⌜ r ≡ isEntrance n ls x ⌝ }
 {
     let mut l: u8 = 0;
     while l < n {
-        if 8 <= l {
+        if MOST_LINES <= l {
             if x == 0 {
                 return true;
             }
@@ -144,7 +128,7 @@ fn is_entrance(ls: [Line; 8], n: u8, x: u8) -> bool
 }
 
 // Rule 2: the two inner sections of line l differ, and so do its entrance signals from each other and from those of the lines before.
-pub fn line_ends(ls: [Line; 8], l: u8) -> bool
+pub fn line_ends(ls: [Line; LINES], l: u8) -> bool
     ensures { λ r. ⌜ r ≡ lineEnds ls l ⌝ }
 {
     let a = line_at(ls, l);
@@ -156,7 +140,7 @@ pub fn line_ends(ls: [Line; 8], l: u8) -> bool
 }
 
 // Rule 3: the points of line l differ.
-pub fn line_points(ls: [Line; 8], l: u8) -> bool
+pub fn line_points(ls: [Line; LINES], l: u8) -> bool
     ensures { λ r. ⌜ r ≡ linePoints ls l ⌝ }
 {
     let a = line_at(ls, l);
@@ -194,7 +178,7 @@ fn last_section(a: Route) -> u8
 }
 
 // Rule 5: where a route starts and ends, by its kind, among the first n lines.
-pub fn route_ends(ls: [Line; 8], n: u8, a: Route) -> bool
+pub fn route_ends(ls: [Line; LINES], n: u8, a: Route) -> bool
     ensures { λ r. ⌜ r ≡ routeEnds n ls a ⌝ }
 {
     let path = a.path;
@@ -210,8 +194,14 @@ pub fn route_ends(ls: [Line; 8], n: u8, a: Route) -> bool
 }
 
 // A set of points with the i-th point of a route in it too, if it lies that way.
-fn with_point<'a>(point: &'a [u8; 8], position: &'a [u8; 8], way: u8, i: u8, set: u64) -> u64
-    requires { ⌜ (length (now point) ≡ 8) × (length (now position) ≡ 8) ⌝ }
+fn with_point<'a>(
+    point: &'a [u8; LISTED],
+    position: &'a [u8; LISTED],
+    way: u8,
+    i: u8,
+    set: u64,
+) -> u64
+    requires { ⌜ (length (now point) ≡ mostListed) × (length (now position) ≡ mostListed) ⌝ }
     ensures { λ r. ⌜ r ≡ sideWith way (now (point .entry)) (now (position .entry)) i set ⌝ }
 {
     if lent8(position, i) == way {

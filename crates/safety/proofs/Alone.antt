@@ -9,16 +9,19 @@ use borrow.Author.Tests.{eqb-true, eq-eqb, ne-eqb, ltb-true, lt-ltb}
 use lib.Dec.{ltb}
 use Rattle.laws.proofs.Tests.{and-left, and-right, implied, every-at, any-some}
 use Rattle.track.specs.Objects.{nearest}
+use Rattle.track.specs.Signal.{Signal, main, into}
 use Rattle.tables.specs.Blocks.{isOpen}
 use Rattle.signals.specs.Signals.{enterableBy, enterable, letsOut, clear, routeProceeds, mainProceeds}
+use Rattle.signals.specs.BlockSignals.{hasSignal}
+use Rattle.signals.specs.Numbers.{shows}
 use Rattle.layout.specs.declared.Layout.{Layout}
 use Rattle.layout.specs.Layout.{lineIn, routeIn, conflict}
-use Rattle.layout_facts.specs.Plain.{block, nearestBlock, Sound, sameEntry}
+use Rattle.layout_facts.specs.Plain.{InBlock, nearestBlock, Sound, sameEntry}
 use Rattle.layout_facts.proofs.Uses.{same-exit}
 use Rattle.interlocking.specs.declared.State.{State}
-use Rattle.panel.specs.Panel.{hasSignal, routeByte}
-use Rattle.panel_facts.proofs.Shows.{main-shows}
-use Rattle.safety.specs.Shown.{Signal, main, into, Panel, signalShows, routeShows, panel}
+use Rattle.panel.specs.Panel.{routeByte}
+use Rattle.signals.proofs.Shows.{main-shows}
+use Rattle.safety.specs.Shown.{Panel, signalShows, routeShows, panel}
 use Rattle.safety.specs.History.{History, shown}
 use Rattle.safety.specs.Demand3.{Proceeds, Enters}
 use Rattle.safety.proofs.Entries.{phase, direction, stage, chosen, passed-over}
@@ -50,7 +53,7 @@ module _ (L : Layout) (S : Sound L) (s : State) (h : History) (I : Inv L s h) wh
 
   -- a main signal shows proceed for a route in phase 1 that starts at it
   pub main-for : (x : ℕ) → Proceeds (shown L h) (main x) → (r : ℕ) × (r < L .routes) × (phase s r ≡ 1) × (routeIn L r .entry ≡ x)
-  unfolding panel signalShows mainProceeds routeProceeds routeIn
+  unfolding panel signalShows shows mainProceeds routeProceeds routeIn
   main-for x p =
       let (r, there, t) = any-some _ _ (sym (main-shows _ _ _ x) ∙ lt-ltb 20 _ (rw (I .seen) at p)) in
       (r, there, eqb-true _ 1 (and-left _ _ t), eqb-true _ x (and-right _ _ t))
@@ -110,8 +113,8 @@ module _ (L : Layout) (S : Sound L) (s : State) (h : History) (I : Inv L s h) wh
       rw (p .0, p .1, p .2, q .0, q .1, q .2)
 
   -- rule 1: so at most one shows proceed into a section, whatever lines and blocks have it
-  pub alone : (x y : Signal) (l i w k j v : ℕ) → Enters L (shown L h) x l i w → Enters L (shown L h) y k j v → block L k j ≡ block L l i → y ≡ x
-  alone x y l i w k j v E F same =
-      let (line, number) = S .rule1 .once k j l i (F .ofLine) (F .ofBlock) (E .ofLine) (E .ofBlock) same in
+  pub alone : (x y : Signal) (l i w k j v g : ℕ) → Enters L (shown L h) x l i w → Enters L (shown L h) y k j v → InBlock L k j g → InBlock L l i g → y ≡ x
+  alone x y l i w k j v g E F p q =
+      let (line, number) = S .rule1 .once k j l i g (F .ofLine) (F .ofBlock) (E .ofLine) (E .ofBlock) p q in
       let way : v ≡ w = sym (enters-open y k j v F .0) ∙ ap (direction s) line ∙ enters-open x l i w E .0 in
       one-signal x y l i w E (rw (line, number, way) at F)

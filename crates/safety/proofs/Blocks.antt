@@ -6,25 +6,31 @@ use mathlib.Core.Bool.{true}
 use native.Mathlib.Omega.{arith}
 use borrow.Author.Tests.{eqb-true, eqb-false, eq-eqb, lt-ltb}
 use lib.Dec.{eqb, ltb}
+use Rattle.laws.specs.Choice.{if_then_else_}
 use Rattle.laws.specs.Tests.{_and_}
 use Rattle.laws.proofs.Choice.{if-both}
 use Rattle.laws.proofs.Tests.{and-left, and-right, and-both, or-left, or-right, or-cases, not-both}
+use Rattle.track.specs.Sizes.{mostLines, mostBlocks}
 use Rattle.track.specs.Objects.{line}
+use Rattle.track.specs.Blocks.{inBlock}
+use Rattle.track.proofs.OnlySection.{only-in, in-only}
+use Rattle.tables.specs.Readings.{recorded, blockGiven}
 use Rattle.tables.specs.Blocks.{place}
 use Rattle.passage.specs.Passage.{ownStage, farStage}
+use Rattle.line_block.specs.FarSections.{farMoved, farStageAt, farStages}
 use Rattle.layout.specs.declared.Layout.{Layout}
 use Rattle.layout.specs.Layout.{lineIn}
-use Rattle.layout_facts.specs.Plain.{block}
 use Rattle.interlocking.specs.declared.State.{State}
 use Rattle.interlocking.specs.State.{withSections, withRoutes, withLines}
-use Rattle.interlocking.specs.Own.{blockAt, ownStageAt, ownSection, ownSet, ownCancel, ownSecure, openAt, ownManual}
-use Rattle.interlocking.specs.Settle.{signals, farDropped, farReading, farMoved, farAfter, farSections, routesBy, routes, lineRelease, settle}
-use Rattle.interlocking.specs.Step.{meant, after}
+use Rattle.interlocking.specs.Own.{ownGiven, ownStageAt, ownSection, ownSet, ownCancel, ownSecure, openAt, ownManual}
+use Rattle.interlocking.specs.Settle.{proceedsIn, signals, farSections, routesBy, routes, lineRelease, settle}
+use Rattle.interlocking.specs.Step.{after}
 use Rattle.step_facts.specs.Run.{Event}
-use Rattle.step_facts.proofs.Refusals.{recorded-in}
+use Rattle.step_facts.proofs.Own.{recorded-in}
+use Rattle.safety.specs.FarInState.{farReading, farDropped}
 use Rattle.safety.specs.History.{says}
-use Rattle.safety.proofs.Entries.{direction, stage, place-line, place-block, read-block}
-use Rattle.safety.proofs.Within.{On, done, lit, end, Done, reads, sets, cancels, secures, opens, leaves, is-done, says-nothing, says-other, says-recorded, meant-reading}
+use Rattle.safety.proofs.Entries.{direction, stage, block, chosen, place-line, place-block, read-block}
+use Rattle.safety.proofs.Within.{On, done, lit, end, Done, reads, sets, cancels, secures, opens, leaves, is-done, says-nothing, says-other, says-recorded}
 
 -- ---- its own reading
 
@@ -55,12 +61,18 @@ of-reading L e l i was v k q d =
     C : ℕ → Type 0
     C = OwnCase L e l i was
 
--- section g is the block at the place of block i of line l just where it is that block
-block-at : (L : Layout) (l i g : ℕ) → i < lineIn L l .blocks → i < 8 → blockAt (L .line) g (place l i) ≡ eqb (block L l i) g
-unfolding blockAt block lineIn _and_
-block-at L l i g h b = rw (place-line l i b, place-block l i b, lt-ltb _ _ h)
+-- a block to which nothing is given stays
+own-nothing : (was : ℕ) → ownStage 0 was ≡ was
+unfolding ownStage if_then_else_
+own-nothing was = refl
 
-module _ (L : Layout) (few : L .lines ≤ 8) (s : State) (e : Event) (l i : ℕ) (b : l < L .lines) (h : i < lineIn L l .blocks) (h8 : i < 8) where
+-- what a reading gives the block at the place of block i of line l: its reading where the section is in the block, else nothing
+given-at : (L : Layout) (l i g v : ℕ) → i < lineIn L l .blocks → i < mostBlocks
+    → ownGiven (record { section = g; reading = v; tick = 0 }) (line (L .line) (place l i / mostBlocks)) (place l i % mostBlocks) ≡ (if inBlock (lineIn L l) i g then v else 0)
+unfolding ownGiven blockGiven lineIn
+given-at L l i g v h b = rw (place-line l i b, place-block l i b) (chosen _ _ _ (lt-ltb i (lineIn L l .blocks) h))
+
+module _ (L : Layout) (few : L .lines ≤ mostLines) (s : State) (e : Event) (l i : ℕ) (b : l < L .lines) (h : i < lineIn L l .blocks) (h8 : i < mostBlocks) where
   -- by what the event does itself: a manual release and a reading are the two that touch blocks
   pub own-case : OwnCase L e l i (stage s l i) (stage (done L s e) l i)
   unfolding ownSection ownSet ownCancel ownSecure ownManual withSections withRoutes withLines ownStageAt openAt lineIn
@@ -69,18 +81,19 @@ module _ (L : Layout) (few : L .lines ≤ 8) (s : State) (e : Event) (l i : ℕ)
       was : ℕ
       was = stage s l i
 
-      here : e .first ≡ l → eqb (place l i / 8) (e .first) and ltb (place l i % 8) (line (L .line) (e .first) .blocks) ≡ true
+      here : e .first ≡ l → eqb (place l i / mostBlocks) (e .first) and ltb (place l i % mostBlocks) (line (L .line) (e .first) .blocks) ≡ true
       here z =
           and-both _ _ (eq-eqb _ _ (place-line l i h8 ∙ sym z))
-          (lt-ltb (place l i % 8) (line (L .line) (e .first) .blocks) (rw (place-block l i h8, z) h))
+          (lt-ltb (place l i % mostBlocks) (line (L .line) (e .first) .blocks) (rw (place-block l i h8, z) h))
 
-      given : e .kind ≡ 1 → OwnCase L e l i was (ownStageAt (L .line) (e .first) (meant (e .kind) (e .second)) (place l i) was)
+      given : e .kind ≡ 1
+          → OwnCase L e l i was (ownStageAt (L .line) (record { section = e .first; reading = recorded (e .second); tick = 0 }) (place l i) was)
       given k =
-          if-both (OwnCase L e l i was) _
-          (λ t. of-reading L e l i was _ k
-          (says-recorded e _ k (sym (eqb-true _ _ (sym (block-at L l i (e .first) h h8) ∙ t))) ∙ sym (meant-reading e k))
-          (rw (meant-reading e k) (recorded-in (e .second))))
-          (λ f. unread (omega arith) (says-other e _ (λ z. eqb-false _ _ (sym (block-at L l i (e .first) h h8) ∙ f) (sym z))) refl)
+          rw (given-at L l i (e .first) (recorded (e .second)) h h8)
+          (if-both (λ v. OwnCase L e l i was (ownStage v was)) _
+          (λ t. of-reading L e l i was _ k (says-recorded e _ k (sym (in-only (lineIn L l) i (e .first) t)))
+          (recorded-in (e .second)))
+          (λ f. unread (omega arith) (says-other e _ (λ z. not-both (rw z (only-in (lineIn L l) i)) f)) (own-nothing was)))
 
       opened : e .kind ≡ 7 → OwnCase L e l i was (openAt (L .line) (e .first) (place l i) was)
       opened k =
@@ -104,9 +117,9 @@ pub data FarCase (L : Layout) (before s : State) (l i w was x : ℕ) : Type 0 wh
   loses : x ≡ 2 → was ≡ 3 → FarCase L before s l i w was x
 
 -- by the tests of a block's far section, one after the other
-far-case : (L : Layout) (before s : State) (l i was : ℕ) → i < 8
-    → FarCase L before s l i (direction s l) was (farAfter (s .direction) (farReading L s) (farDropped L before s) (place l i) was)
-unfolding farAfter farMoved farStage
+far-case : (L : Layout) (before s : State) (l i was : ℕ) → i < mostBlocks
+    → FarCase L before s l i (direction s l) was (farStageAt (L .line) (s .direction) (s .section) (proceedsIn L before) (proceedsIn L s) (place l i) was)
+unfolding farStageAt farMoved farStage lineIn
 far-case L before s l i was b =
     rw (place-line l i b, place-block l i b)
     (if-both C (eqb w 0) (λ t. keeps refl (λ z d. absurd (d (eqb-true _ 0 t))))
@@ -124,7 +137,9 @@ far-case L before s l i was b =
     C = FarCase L before s l i w was
 
 -- what it does within the event
-pub stage-end : (L : Layout) → L .lines ≤ 8 → (s : State) (e : Event) (l i : ℕ) → l < L .lines → i < 8
+pub stage-end : (L : Layout) → L .lines ≤ mostLines → (s : State) (e : Event) (l i : ℕ) → l < L .lines → i < mostBlocks
     → FarCase L s (lit L s e) l i (direction (done L s e) l) (stage (done L s e) l i) (stage (end L s e) l i)
-unfolding after settle lineRelease withLines routes routesBy withRoutes farSections signals
-stage-end L few s e l i b h8 = rw (read-block l i h8 (L .lines) (farAfter (lit L s e .direction) (farReading L (lit L s e)) (farDropped L s (lit L s e))) (done L s e .stage) b few) (far-case L s (lit L s e) l i _ h8)
+unfolding after settle lineRelease withLines routes routesBy withRoutes farSections farStages signals
+stage-end L few s e l i b h8 =
+    rw (read-block l i h8 (L .lines) (farStageAt (L .line) (lit L s e .direction) (lit L s e .section) (proceedsIn L s) (proceedsIn L (lit L s e))) (done L s e .stage) b few)
+    (far-case L s (lit L s e) l i _ h8)

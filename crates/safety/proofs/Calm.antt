@@ -13,20 +13,22 @@ use Rattle.laws.proofs.Choice.{if-both}
 use Rattle.laws.proofs.Tests.{and-both, or-left, not-both}
 use Rattle.track.specs.declared.Line.{Line}
 use Rattle.track.specs.declared.Route.{Route}
+use Rattle.track.specs.Sizes.{mostSections, mostLines, mostTrainRoutes, mostRoutes}
 use Rattle.tables.specs.Readings.{recorded}
 use Rattle.tables.specs.Readings as readings
 use Rattle.tables.specs.Blocks.{isOpen}
-use Rattle.release.specs.declared.Gives.{Gives}
-use Rattle.release.specs.declared.Held.{Held}
-use Rattle.release.specs.Release.{stepAfter, secondsAfter, goes, heldAfter}
+use Rattle.tables.specs.declared.Gives.{Gives}
+use Rattle.release.specs.declared.Locking.{Locking}
+use Rattle.release.specs.Release.{watchedPair, stepsAfter, secondsAfter, goes, lockingAfter}
 use Rattle.layout.specs.declared.Layout.{Layout}
 use Rattle.layout.specs.Layout.{lineIn}
 use Rattle.layout_facts.specs.Plain.{Sound}
 use Rattle.interlocking.specs.declared.State.{State}
 use Rattle.interlocking.specs.State.{withSections, withRoutes, withLines}
 use Rattle.interlocking.specs.Own.{ownSection, ownSet, ownCancel, ownSecure, ownManual}
-use Rattle.interlocking.specs.Settle.{signals, farSections, heldOf, routeAfter, unlessIdle, routesBy, routes, lineRelease, settle}
-use Rattle.interlocking.specs.Step.{gives, ownOf, own, after}
+use Rattle.interlocking.specs.Settle.{signals, farSections, lockingOf, routeAfter, unlessIdle, routesBy, routes, lineRelease, settle}
+use Rattle.interlocking.specs.Rows.{aSecond, cancelRow, manualRow, secondRow, rowOf}
+use Rattle.interlocking.specs.Step.{own, gives, after}
 use Rattle.step_facts.specs.Run.{Event, event}
 use Rattle.safety.specs.History.{says}
 use Rattle.safety.proofs.Entries.{phase, direction, stage, chosen, passed-over, read-each, put-here, put-elsewhere}
@@ -38,7 +40,7 @@ use Rattle.safety.proofs.Routes.{own-of, open-same}
 
 -- the seconds counted of route r
 abbrev pub second : State → ℕ → ℕ
-second s r = read 48 0 (s .second) r
+second s r = read mostTrainRoutes 0 (s .seconds) r
 
 -- idle or cancelling
 abbrev pub Calm : State → ℕ → Type 0
@@ -53,7 +55,7 @@ module _ (L : Layout) (S : Sound L) (s : State) (e : Event) (r : ℕ) (b : r < L
       go : {t : State} → Done L s e t → phase t r ≡ phase s r
       go (reads k) = refl
       go (sets k) = absurd (d k)
-      go (cancels k) = put-elsewhere 48 0 (s .phase) (e .first) 3 r (omega (arith, S .ranges .routeCount)) (λ z. other k (sym z))
+      go (cancels k) = put-elsewhere mostRoutes 0 (s .phase) (e .first) 3 r (omega (arith, S .ranges .routeCount)) (λ z. other k (sym z))
       go (secures k) = refl
       go (opens k) = refl
       go (leaves f u) = rw (u .1)
@@ -75,25 +77,25 @@ module _ (L : Layout) (S : Sound L) (s : State) (e : Event) (r : ℕ) (b : r < L
 
   -- and so is one that it cancelled
   pub cancelled : e .kind ≡ 5 → e .first ≡ r → Calm (end L s e) r
-  unfolding own ownOf ownCancel withRoutes if_then_else_
-  cancelled k q = calm-then (inr (rw (k, q) (put-here 48 0 (s .phase) r 3 r (omega (arith, S .ranges .routeCount)) refl)))
+  unfolding own rowOf cancelRow ownCancel withRoutes if_then_else_
+  cancelled k q = calm-then (inr (rw (k, q) (put-here mostRoutes 0 (s .phase) r 3 r (omega (arith, S .ranges .routeCount)) refl)))
 
 -- in an event that gives a second a cancelling route goes, or counts it
-ticked : (ls : List Line) (sections : List ℕ) (a : Route) (g : Gives) (h : Held) → g .tick ≡ 1 → h .phase ≡ 3
-    → (heldAfter ls sections a g h .phase ≡ 0) ⊎ ((heldAfter ls sections a g h .phase ≡ 3) × (heldAfter ls sections a g h .second ≡ h .second + 1))
-unfolding heldAfter goes secondsAfter
+ticked : (ls : List Line) (sections : List ℕ) (a : Route) (g : Gives) (h : Locking) → g .tick ≡ 1 → h .phase ≡ 3
+    → (lockingAfter ls sections a g h .phase ≡ 0) ⊎ ((lockingAfter ls sections a g h .phase ≡ 3) × (lockingAfter ls sections a g h .seconds ≡ h .seconds + 1))
+unfolding lockingAfter goes secondsAfter
 ticked ls sections a g h tick three = if-both R _ (λ t. inl refl) (λ f. inr (three, counts f))
   where
-    R : Held → Type 0
-    R x = (x .phase ≡ 0) ⊎ ((x .phase ≡ 3) × (x .second ≡ h .second + 1))
+    R : Locking → Type 0
+    R x = (x .phase ≡ 0) ⊎ ((x .phase ≡ 3) × (x .seconds ≡ h .seconds + 1))
 
-    few : goes ls sections a g h (stepAfter ls sections a g (h .step)) ≡ false → Dec (h .second < 89) → h .second < 89
+    few : goes ls sections a g h (stepsAfter (watchedPair ls sections a g) (h .steps)) ≡ false → Dec (h .seconds < 89) → h .seconds < 89
     few f (yes d) = d
-    few f (no d) = not-both (or-left _ _ (and-both _ _ (eq-eqb _ 3 three) (and-both _ _ (eq-eqb _ 1 tick) (le-leb 89 (h .second) (omega arith))))) f
+    few f (no d) = not-both (or-left _ _ (and-both _ _ (eq-eqb _ 3 three) (and-both _ _ (eq-eqb _ 1 tick) (le-leb 89 (h .seconds) (omega arith))))) f
 
-    counts : goes ls sections a g h (stepAfter ls sections a g (h .step)) ≡ false → secondsAfter g (h .phase) (h .second) ≡ h .second + 1
+    counts : goes ls sections a g h (stepsAfter (watchedPair ls sections a g) (h .steps)) ≡ false → secondsAfter g (h .phase) (h .seconds) ≡ h .seconds + 1
     counts f =
-        chosen _ _ _ (and-both _ _ (eq-eqb _ 3 three) (eq-eqb _ 1 tick)) ∙ chosen _ _ _ (lt-ltb _ 89 (few f (decLt (h .second) 89)))
+        chosen _ _ _ (and-both _ _ (eq-eqb _ 3 three) (eq-eqb _ 1 tick)) ∙ chosen _ _ _ (lt-ltb _ 89 (few f (decLt (h .seconds) 89)))
 
 module _ (L : Layout) (S : Sound L) (s : State) (r : ℕ) (b : r < L .routes) (three : phase s r ≡ 3) where
   -- the state in which routes are let go
@@ -102,7 +104,7 @@ module _ (L : Layout) (S : Sound L) (s : State) (r : ℕ) (b : r < L .routes) (t
 
   -- its signal is not at proceed, so it does not fall
   still-three : phase far r ≡ 3
-  unfolding far own ownOf if_then_else_ farSections withLines
+  unfolding far own rowOf secondRow if_then_else_ farSections withLines
   still-three = phase-lit L (S .ranges .routeCount) s (event 10 0 0) r b ∙ fallen-else L s r (phase s r) (omega arith) ∙ three
 
   -- a route that is not idle takes what becomes of it
@@ -112,11 +114,11 @@ module _ (L : Layout) (S : Sound L) (s : State) (r : ℕ) (b : r < L .routes) (t
 
   -- so by the end of a second it goes, or has counted one more
   pub second-on : (phase (end L s (event 10 0 0)) r ≡ 0) ⊎ ((phase (end L s (event 10 0 0)) r ≡ 3) × (second (end L s (event 10 0 0)) r ≡ second s r + 1))
-  unfolding far own ownOf gives if_then_else_ after settle lineRelease withLines routes routesBy withRoutes farSections signals routeAfter heldOf
+  unfolding far own gives rowOf secondRow aSecond if_then_else_ after settle lineRelease withLines routes routesBy withRoutes farSections signals routeAfter lockingOf
   second-on =
       rw (
-        read-each 48 0 (L .routes) _ (lit L s (event 10 0 0) .phase) r (omega (arith, S .ranges .routeCount)) b,
-        read-each 48 0 (L .routes) _ (s .second) r (omega (arith, S .ranges .routeCount)) b,
+        read-each mostRoutes 0 (L .routes) _ (lit L s (event 10 0 0) .phase) r (omega (arith, S .ranges .routeCount)) b,
+        read-each mostTrainRoutes 0 (L .routes) _ (s .seconds) r (omega (arith, S .ranges .routeCount)) b,
         takes-what-becomes (phase far r),
         takes-what-becomes (second s r),
       )
@@ -124,7 +126,7 @@ module _ (L : Layout) (S : Sound L) (s : State) (r : ℕ) (b : r < L .routes) (t
 
 -- ---- sections
 
-module _ (L : Layout) (s : State) (e : Event) (g : ℕ) (b : g < 64) where
+module _ (L : Layout) (s : State) (e : Event) (g : ℕ) (b : g < mostSections) where
   -- a section that is told nothing keeps its reading
   pub section-kept : says e g ≡ 0 → readings.reading (end L s e .section) g ≡ readings.reading (s .section) g
   unfolding after settle lineRelease withLines routes routesBy withRoutes farSections signals
@@ -138,7 +140,7 @@ module _ (L : Layout) (s : State) (e : Event) (g : ℕ) (b : g < 64) where
       section-done L s e g b ∙ passed-over _ _ _ (ne-eqb (says e g) 0 (omega arith)) ∙ told
 
 -- a section that reads free still does after a free reading of any section
-pub free-on : (L : Layout) (s : State) (a g : ℕ) → g < 64 → readings.reading (s .section) g ≡ 1 → readings.reading (end L s (event 1 a 1) .section) g ≡ 1
+pub free-on : (L : Layout) (s : State) (a g : ℕ) → g < mostSections → readings.reading (s .section) g ≡ 1 → readings.reading (end L s (event 1 a 1) .section) g ≡ 1
 free-on L s a g b f = go (ℕ-discrete a g)
   where
     go : Dec (a ≡ g) → readings.reading (end L s (event 1 a 1) .section) g ≡ 1
@@ -150,13 +152,13 @@ free-on L s a g b f = go (ℕ-discrete a g)
 module _ (L : Layout) (S : Sound L) (s : State) (l : ℕ) (k : ℕ) (b : k < L .lines) where
   -- a manual release makes its line neutral, and leaves neutral what is
   pub neutral-on : (k ≡ l) ⊎ (direction s k ≡ 0) → direction (end L s (event 7 l 1)) k ≡ 0
-  unfolding own ownOf ownManual withLines if_then_else_
+  unfolding own rowOf manualRow ownManual withLines if_then_else_
   neutral-on c = ⊎-elim (λ q. q ∙ own-neutral c (ℕ-discrete k l)) (λ t. t .0) (released L (S .ranges .lineCount) s (event 7 l 1) k b)
     where
       own-neutral : (k ≡ l) ⊎ (direction s k ≡ 0) → Dec (k ≡ l) → direction (done L s (event 7 l 1)) k ≡ 0
-      own-neutral c (yes q) = put-here 8 0 (s .direction) l 0 k (omega (arith, S .ranges .lineCount)) q
+      own-neutral c (yes q) = put-here mostLines 0 (s .direction) l 0 k (omega (arith, S .ranges .lineCount)) q
       own-neutral (inl q) (no d) = absurd (d q)
-      own-neutral (inr z) (no d) = put-elsewhere 8 0 (s .direction) l 0 k (omega (arith, S .ranges .lineCount)) d ∙ z
+      own-neutral (inr z) (no d) = put-elsewhere mostLines 0 (s .direction) l 0 k (omega (arith, S .ranges .lineCount)) d ∙ z
 
   -- it opens the line's blocks, and leaves open what is
   pub open-on : (i : ℕ) → i < lineIn L k .blocks → (k ≡ l) ⊎ (stage s k i ≡ 0) → stage (end L s (event 7 l 1)) k i ≡ 0

@@ -8,7 +8,7 @@ use borrow.Author.Tests.{eqb-true}
 use lib.ListN.{length, drop-of-length-le}
 use lib.Seq.{sets, sets-eq}
 use Rattle.laws.specs.Tests.{every}
-use Rattle.laws.proofs.Tests.{and-left, and-right, every-at}
+use Rattle.laws.proofs.Tests.{and-left, and-right, every-at, and-both}
 use Rattle.layout_facts.specs.BranchT.{branchT, layoutT}
 use Rattle.layout_facts.proofs.BranchT.{branchT-sound}
 use Rattle.interlocking.specs.State.{cold}
@@ -44,12 +44,14 @@ cold-length = ap length (sym cold-image) ∙ length-image layoutT cold
 -- 15 bytes: 27 and length 0, and the buffer stays as it was
 pub short-buffer : (buffer : List ℕ) → length buffer ≡ 15
     → (record { number = 27; length = 0 } ≡ answer layoutT cold (length buffer)) × (buffer ≡ drawn layoutT cold buffer)
-short-buffer buffer e = too-short layoutT cold buffer true true 16 (sym cold-in-range) refl (sym branchT-sound) refl cold-length (omega arith)
+unfolding answer drawn
+short-buffer buffer e = rw (and-both _ _ branchT-sound cold-in-range) (too-short layoutT cold buffer 16 cold-length (omega arith))
 
 -- 16 bytes: 0 and length 16, and the buffer holds the image
 pub whole-buffer : (buffer : List ℕ) → length buffer ≡ 16
     → (record { number = 0; length = 16 } ≡ answer layoutT cold (length buffer)) × (coldPanel ≡ drawn layoutT cold buffer)
+unfolding answer drawn
 whole-buffer buffer e =
     let nothing-left = ap (λ xs. coldPanel ++ xs) (drop-of-length-le buffer {i = 16} (omega arith)) in
-    done layoutT cold buffer true true 16 (sym cold-in-range) refl (sym branchT-sound) refl cold-length (omega arith) coldPanel
-    (sym (sets-eq coldPanel buffer 0 (omega arith) ∙ nothing-left) ∙ ap (λ xs. sets buffer 0 xs) (sym cold-image))
+    rw (and-both _ _ branchT-sound cold-in-range) (done layoutT cold buffer 16 cold-length (omega arith) coldPanel
+    (sym (sets-eq coldPanel buffer 0 (omega arith) ∙ nothing-left) ∙ ap (λ xs. sets buffer 0 xs) (sym cold-image)))

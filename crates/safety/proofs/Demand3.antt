@@ -9,6 +9,7 @@ use native.Mathlib.Omega.{arith}
 use borrow.Author.Tests.{eqb-true, eqb-false, ne-eqb}
 use lib.Dec.{eqb}
 use Rattle.laws.specs.Tests.{_and_}
+use Rattle.track.specs.Signal.{Signal, main}
 use Rattle.layout.specs.declared.Layout.{Layout}
 use Rattle.layout.specs.Layout.{routeIn}
 use Rattle.layout.specs.Sound.{sound}
@@ -17,11 +18,11 @@ use Rattle.layout_facts.proofs.Sound.{sound-says}
 use Rattle.layout_facts.proofs.Loaded.{loaded-sound}
 use Rattle.interlocking.specs.declared.State.{State}
 use Rattle.interlocking.specs.State.{cold, inRange}
-use Rattle.interlocking.specs.Step.{refusal, refusedBy, answer, stepWhere, step}
+use Rattle.interlocking.specs.Step.{step, refusal}
 use Rattle.panel.specs.Panel.{routeByte}
 use Rattle.step_facts.specs.Run.{Event, box, stateAfter}
-use Rattle.step_facts.proofs.Step.{step-in-range}
-use Rattle.safety.specs.Shown.{Signal, main, Panel, routeShows, lineShows, panel}
+use Rattle.step_facts.proofs.Step.{step-in-range, step-done, step-refused}
+use Rattle.safety.specs.Shown.{Panel, routeShows, lineShows, panel}
 use Rattle.safety.specs.History.{History, says, shown, moment, goesOn, history}
 use Rattle.safety.specs.Demand3.{Proceeds, Enters, Guarded, Safe, Demand3}
 use Rattle.safety.proofs.Entries.{phase, Is, holds, fails, which, chosen, passed-over}
@@ -56,7 +57,7 @@ module _ (L : Layout) (S : Sound L) (s : State) (h : History) (I : Inv L s h) wh
       let c = I .opened l i (E .ofLine) (E .ofBlock) open-now in
       record {
         secured = ap (λ (p : Panel). p .line l) (I .seen) ∙ way;
-        alone = λ y k j v F same. alone L S s h I x y l i w k j v E F same;
+        alone = λ y k j v g F p q. alone L S s h I x y l i w k j v g E F p q;
         isFree = c .isFree;
         cleared = c .cleared;
       }
@@ -97,13 +98,13 @@ module _ (L : Layout) (ok : sound L ≡ true) (S : Sound L) (s : State) (h : His
 
   -- accepted or refused
   kept : Inv L (box L s e .next) (moment L e (box L s e) ∷ h)
-  unfolding box step stepWhere answer refusedBy moment
-  kept = go (which (eqb (refusal (sound L and inRange s) L s (e .kind) (e .first) (e .second) .number) 0))
+  unfolding box step moment
+  kept = go (ℕ-discrete (refusal (sound L and inRange s) L s (e .kind) (e .first) (e .second) .number) 0)
     where
-      go : Is (eqb (refusal (sound L and inRange s) L s (e .kind) (e .first) (e .second) .number) 0)
+      go : Dec (refusal (sound L and inRange s) L s (e .kind) (e .first) (e .second) .number ≡ 0)
           → Inv L (box L s e .next) (moment L e (box L s e) ∷ h)
-      go (holds t) = rw (chosen _ _ _ t) (accepted (eqb-true _ 0 t))
-      go (fails f) = rw (passed-over _ _ _ f) (refused L S s h _ I (quiet (eqb-false _ 0 f)) refl)
+      go (yes p) = rw (step-done _ L s (e .kind) (e .first) (e .second) p) (accepted p)
+      go (no p) = rw (step-refused _ L s (e .kind) (e .first) (e .second) p) (refused L S s h _ I (quiet p) refl)
 
 -- so every run has it
 ran : (L : Layout) → sound L ≡ true → Sound L → (s : State) (h : History) → Inv L s h → (es : List Event)

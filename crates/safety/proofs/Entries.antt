@@ -13,8 +13,16 @@ use Rattle.laws.specs.Choice.{if_then_else_}
 use Rattle.laws.specs.Tables.{read, each, put}
 use Rattle.laws.proofs.Arrays.{read-at}
 use Rattle.laws.proofs.Each.{each-at}
+use Rattle.track.specs.Codes.{stage0}
+use Rattle.track.specs.Sizes.{mostSections, mostLines, mostBlocks, mostPlaces}
+use Rattle.track.specs.Blocks.{onlySection}
+use Rattle.track.proofs.OnlySection.{only-in}
 use Rattle.tables.specs.Blocks.{place}
 use Rattle.tables.specs.Locks as locks
+use Rattle.line_block.specs.LineRelease.{endsBy}
+use Rattle.layout.specs.declared.Layout.{Layout}
+use Rattle.layout.specs.Layout.{lineIn}
+use Rattle.layout_facts.specs.Plain.{InBlock, Sound}
 use Rattle.interlocking.specs.declared.State.{State}
 
 -- ---- a test, with what it said
@@ -63,24 +71,43 @@ read-same n d v i b = read-at n d (replicate n v) i b ∙ getD-replicate n i v 0
 
 -- ---- the tables of blocks
 
-module _ (l i : ℕ) (b : i < 8) where
+module _ (l i : ℕ) (b : i < mostBlocks) where
   -- the line whose block stands at a place
-  pub place-line : place l i / 8 ≡ l
+  pub place-line : place l i / mostBlocks ≡ l
   unfolding place
-  place-line = ap (λ k. (k + i) / 8) (mul-comm 8 l) ∙ digits-div l b
+  place-line = ap (λ k. (k + i) / mostBlocks) (mul-comm mostBlocks l) ∙ digits-div l b
 
   -- and the block
-  pub place-block : place l i % 8 ≡ i
+  pub place-block : place l i % mostBlocks ≡ i
   unfolding place
-  place-block = ap (λ k. (k + i) % 8) (mul-comm 8 l) ∙ digits-mod l b
+  place-block = ap (λ k. (k + i) % mostBlocks) (mul-comm mostBlocks l) ∙ digits-mod l b
 
   -- the entry of block i of a line that there is, made anew
-  pub read-block : (n : ℕ) (f : ℕ → ℕ → ℕ) (xs : List ℕ) → l < n → n ≤ 8
-      → read 64 1 (each (8 * n) f xs) (place l i) ≡ f (place l i) (read 64 1 xs (place l i))
+  pub read-block : (n : ℕ) (f : ℕ → ℕ → ℕ) (xs : List ℕ) → l < n → n ≤ mostLines
+      → read mostPlaces stage0 (each (mostBlocks * n) f xs) (place l i) ≡ f (place l i) (read mostPlaces stage0 xs (place l i))
   unfolding place
-  read-block n f xs c d = read-each 64 1 (8 * n) f xs (8 * l + i) (omega arith) (omega arith)
+  read-block n f xs c d = read-each mostPlaces stage0 (mostBlocks * n) f xs (mostBlocks * l + i) (omega arith) (omega arith)
 
 -- ---- a state, read by number
+
+-- the one section that block i of line l has today
+abbrev pub block : Layout → ℕ → ℕ → ℕ
+block L l i = onlySection (lineIn L l) i
+
+-- on a sound layout it is one of the layout's sections, so one of those that there may be
+module _ (L : Layout) (S : Sound L) (l i : ℕ) (b : l < L .lines) (h : i < lineIn L l .blocks) where
+  -- a section of the layout
+  pub block-there : block L l i < L .sections
+  unfolding InBlock
+  block-there = S .ranges .lines l b .blocks i _ h (only-in (lineIn L l) i)
+
+  -- one of those that there may be
+  pub block-below : block L l i < mostSections
+  block-below = omega (arith, block-there, S .ranges .sectionCount)
+
+-- line l, secured in direction w, is released
+abbrev pub ends : Layout → State → State → ℕ → ℕ → Bool
+ends L before s l w = endsBy (lineIn L l) (L .routes) (L .route) (before .stage) (s .stage) (s .bar) (s .phase) l w
 
 -- the phase of route r
 abbrev pub phase : State → ℕ → ℕ
@@ -92,4 +119,4 @@ direction s l = locks.direction (s .direction) l
 
 -- the stage of block i of line l
 abbrev pub stage : State → ℕ → ℕ → ℕ
-stage s l i = read 64 1 (s .stage) (place l i)
+stage s l i = read mostPlaces stage0 (s .stage) (place l i)

@@ -13,30 +13,38 @@ use Rattle.laws.specs.Choice.{if_then_else_}
 use Rattle.laws.specs.Tests.{_and_}
 use Rattle.laws.specs.Tables.{read}
 use Rattle.laws.proofs.Tests.{and-left, and-right, and-both, not-both, fails-from, every-at, all-at, any-at, any-some}
+use Rattle.track.specs.Blocks.{facing}
+use Rattle.track.proofs.OnlySection.{only-in}
 use Rattle.tables.specs.Readings.{allFree}
 use Rattle.tables.specs.Readings as readings
 use Rattle.tables.specs.Blocks.{isOpen}
 use Rattle.signals.specs.Signals.{enterableBy, enterable, clear, routeProceeds, mainProceeds, blockProceeds}
+use Rattle.signals.specs.BlockSignals.{hasSignal}
+use Rattle.signals.specs.Numbers.{shows}
+use Rattle.passage.specs.declared.Beyond.{Beyond}
+use Rattle.passage.specs.Passage.{beyond, sectionAt, signalAt, farSignal}
+use Rattle.passage.specs.Passage as passage
+use Rattle.line_block.specs.FarSections.{drops}
 use Rattle.layout.specs.declared.Layout.{Layout}
 use Rattle.layout.specs.Layout.{lineIn, routeIn}
 use Rattle.layout.specs.Sound.{sound}
-use Rattle.layout_facts.specs.Plain.{block, path, Sound}
+use Rattle.layout_facts.specs.Plain.{InBlock, innerSection, entranceSignal, path, Sound}
 use Rattle.layout_facts.proofs.Uses.{entrance-path}
 use Rattle.interlocking.specs.declared.State.{State}
 use Rattle.interlocking.specs.State.{inRange, withRoutes, withLines}
-use Rattle.interlocking.specs.Settle.{signals, farDroppedBy, farReadingBy, farProceeds, farDropped, farReading, farSections, routesBy, routes, lineRelease, settle}
+use Rattle.interlocking.specs.Settle.{signals, proceedsIn, farSections, routesBy, routes, lineRelease, settle}
 use Rattle.interlocking.specs.Step.{refusal, after}
 use Rattle.step_facts.specs.Run.{Event}
-use Rattle.panel.specs.Panel.{hasSignal}
-use Rattle.panel_facts.proofs.Shows.{main-shows, main-stops}
+use Rattle.signals.proofs.Shows.{main-shows, main-stops}
 use Rattle.safety.specs.Shown.{signalShows, lineShows, panel}
-use Rattle.safety.specs.History.{History, says, gave, reading, Since}
-use Rattle.safety.specs.Demand3.{Beyond, beyond, sectionAt, signalAt, farSection, Proceeds, Stops, Passage}
-use Rattle.safety.proofs.Entries.{phase, direction, stage, chosen, passed-over}
+use Rattle.safety.specs.History.{History, says, gaveBlock, reading, Since}
+use Rattle.safety.specs.Demand3.{farSection, Proceeds, Stops, Passage}
+use Rattle.safety.specs.FarInState.{farReading, farProceeds, farDropped}
+use Rattle.safety.proofs.Entries.{phase, direction, stage, block, block-there, chosen, passed-over}
 use Rattle.safety.proofs.Passed.{two-ways, secure-neutral}
 use Rattle.safety.proofs.Within.{On, done, lit, end, says-of-one, says-other, phase-kept, lit-clear, direction-same, direction-held}
 use Rattle.safety.proofs.Blocks.{OwnCase, byHand, unread, frees, shuts, takes, FarCase, keeps, proves, loses}
-use Rattle.safety.proofs.Beyond.{BeyondCase, aBlock, aStation, beyond-case, far-there, far-section, farUp, far-proceeds}
+use Rattle.safety.proofs.Beyond.{BeyondCase, aBlock, aStation, beyond-case, far-there}
 use Rattle.safety.proofs.Signals.{into-lit, into-stops}
 use Rattle.safety.proofs.Told.{reading-kept, reading-given}
 use Rattle.safety.proofs.Invariant.{Inv}
@@ -52,18 +60,19 @@ first-free sections xs n h b = eqb-true _ 1 (all-at _ _ h 0 b)
 
 module _ (L : Layout) (S : Sound L) (l i w : ℕ) (b : l < L .lines) (c : i < lineIn L l .blocks) where
   -- rule 1: it is another section than the block
-  far-other : (x : Beyond) → BeyondCase L l i w x → block L l i ≢ sectionAt L l x
-  far-other x (aBlock j h d n up down) q = d (S .rule1 .once l i l j b c b h q .1)
-  far-other x (aStation e h a n) q = S .rule1 .noInner l i l e b c b h q
+  far-other : (x : Beyond) → BeyondCase L l i w x → block L l i ≢ sectionAt (lineIn L l) w x
+  unfolding sectionAt facing InBlock innerSection
+  far-other x (aBlock j h d up down) q = d (S .rule1 .once l i l j _ b c b h (only-in (lineIn L l) i) (rw q (only-in (lineIn L l) j)) .1)
+  far-other x (aStation e h) q = S .rule1 .noInner l i l e b c b h (rw q at (only-in (lineIn L l) i))
 
   -- while the far signal is at proceed it reads free: the next block is open, and open blocks read free; or, rules 2 and 5, a route in from
   -- the line has the inner section first in its path, and routes at proceed have their path free
   far-free : (s : State) → ((j : ℕ) → j < lineIn L l .blocks → stage s l j ≡ 0 → readings.reading (s .section) (block L l j) ≡ 1)
       → ((r : ℕ) → r < L .routes → phase s r ≡ 1 → clear (L .line) (s .section) (s .point) (s .stage) (s .bar) (routeIn L r) ≡ true)
-      → (x : Beyond) → BeyondCase L l i w x → farUp L s l w x ≡ true → readings.reading (s .section) (sectionAt L l x) ≡ 1
-  unfolding blockProceeds enterable enterableBy isOpen mainProceeds routeProceeds clear path routeIn
-  far-free s opens lights x (aBlock j k d n up down) p = opens j k (eqb-true _ 0 (every-at _ (and-right _ _ p) 0))
-  far-free s opens lights x (aStation e k a n) p =
+      → (x : Beyond) → BeyondCase L l i w x → proceedsIn L s (signalAt (lineIn L l) l w x) ≡ true → readings.reading (s .section) (sectionAt (lineIn L l) w x) ≡ 1
+  unfolding proceedsIn signalAt sectionAt facing innerSection entranceSignal blockProceeds enterable enterableBy isOpen mainProceeds routeProceeds clear path routeIn
+  far-free s opens lights x (aBlock j k d up down) p = opens j k (eqb-true _ 0 (every-at _ (and-right _ _ p) 0))
+  far-free s opens lights x (aStation e k) p =
       let (r, there, lit) = any-some _ _ p in
       let free = lights r there (eqb-true _ 1 (and-left _ _ lit)) in
       let paths = S .ranges .routes r there .pathCount in
@@ -83,22 +92,23 @@ far-signal n w j up down = go (ℕ-discrete w 1)
 
 module _ (L : Layout) (S : Sound L) (s : State) (e : Event) (l i w : ℕ) (b : l < L .lines) where
   -- a far signal at proceed shows proceed
-  far-showed : (x : Beyond) → BeyondCase L l i w x → w ≢ 0 → direction s l ≤ 2 → farUp L s l w x ≡ true → Proceeds (panel L s) (signalAt L l w x)
-  unfolding panel signalShows blockProceeds
-  far-showed x (aBlock j h d n up down) z few p =
+  far-showed : (x : Beyond) → BeyondCase L l i w x → w ≢ 0 → direction s l ≤ 2 → proceedsIn L s (signalAt (lineIn L l) l w x) ≡ true → Proceeds (panel L s) (signalAt (lineIn L l) l w x)
+  unfolding proceedsIn signalAt panel signalShows shows blockProceeds
+  far-showed x (aBlock j h d up down) z few p =
       let way = eqb-true (direction s l) w (and-left _ _ p) in
       into-lit L s l j w z (omega arith) (far-signal _ w j up down) p
-  far-showed x (aStation k h a n) z few p = ltb-true 20 _ (main-shows _ _ _ _ ∙ p)
+  far-showed x (aStation k h) z few p = ltb-true 20 _ (main-shows _ _ _ _ ∙ p)
 
   -- one that fell within the event still shows stop at its end: phases never return to 1, and the far sections open no block
   far-stops : (x : Beyond) → BeyondCase L l i w x → w ≢ 0 → direction s l ≤ 2 → direction (done L s e) l ≡ w → direction (end L s e) l ≡ w
-      → farUp L s l w x ≡ true → farUp L (lit L s e) l w x ≡ false → Stops (panel L (end L s e)) (signalAt L l w x)
-  unfolding panel signalShows blockProceeds mainProceeds routeProceeds signals withRoutes
-  far-stops x (aBlock j h d n up down) z few own now p f =
+      → proceedsIn L s (signalAt (lineIn L l) l w x) ≡ true → proceedsIn L (lit L s e) (signalAt (lineIn L l) l w x) ≡ false
+      → Stops (panel L (end L s e)) (signalAt (lineIn L l) l w x)
+  unfolding proceedsIn signalAt panel signalShows shows blockProceeds mainProceeds routeProceeds signals withRoutes
+  far-stops x (aBlock j h d up down) z few own now p f =
       let way = eqb-true (direction s l) w (and-left _ _ p) in
       into-stops L (end L s e) l j w z (omega arith) (far-signal _ w j up down) now
       (fails-from _ (λ t. not-both (and-both _ _ (eq-eqb _ w own) (sym (enterable-same L S s e l j b h) ∙ t)) f))
-  far-stops x (aStation k h a n) z few own now p f =
+  far-stops x (aStation k h) z few own now p f =
       main-stops (L .routes) (L .route) (end L s e .phase) _
       (fails-from _ (λ t.
       let (r, there, lit) = any-some _ _ t in
@@ -110,34 +120,27 @@ module _ (L : Layout) (S : Sound L) (s : State) (e : Event) (l i w : ℕ) (b : l
 
 module _ (L : Layout) (S : Sound L) (s : State) (h : History) (I : Inv L s h) (e : Event)
     (pass : refusal (sound L and inRange s) L s (e .kind) (e .first) (e .second) .number ≡ 0) (l i : ℕ) (b : l < L .lines) (c : i < lineIn L l .blocks) where
-  -- a line has at most eight blocks
-  few : lineIn L l .blocks ≤ 8
-  few = S .ranges .lines l b .blockCount .1
-
   -- what lies beyond the block
-  there : (w : ℕ) → BeyondCase L l i w (beyond L l i w)
+  there : (w : ℕ) → BeyondCase L l i w (beyond (lineIn L l) i w)
   there w = beyond-case L l i w c
 
   -- what the far section reads within the event is what the history tells of it
   far-reads : (w : ℕ) → farReading L (lit L s e) l i w ≡ reading (farSection L l i w) (granted L s e ∷ h)
-  unfolding farReading farReadingBy lineIn after settle lineRelease withLines routes routesBy withRoutes farSections signals
-  far-reads w =
-      ap (readings.reading (lit L s e .section)) (far-section few (there w))
-      ∙ reads-on L S s h I e pass (farSection L l i w) (far-there L S l i w b c)
+  unfolding after settle lineRelease withLines routes routesBy withRoutes farSections signals
+  far-reads w = reads-on L S s h I e pass (farSection L l i w) (far-there L S l i w b c)
 
   -- "to stop" follows from "from proceed" on a sound layout: within the event a far section that reads occupied holds its signal at stop.
   -- The next block would be open and read free; a route in from the line would have the inner section free in its path
   pub stop-follows : (w : ℕ) → farReading L (lit L s e) l i w ≡ 2 → farProceeds L (lit L s e) l i w ≡ false
-  unfolding farReading farReadingBy lineIn isOpen after settle lineRelease withLines routes routesBy withRoutes farSections signals
+  unfolding passage.farSection farSignal isOpen after settle lineRelease withLines routes routesBy withRoutes farSections signals
   stop-follows w taken =
-      far-proceeds (lit L s e) few (there w)
-      ∙ fails-from _ (λ t.
-      let free = far-free L S l i w b c (lit L s e) opens (lit-clear L (S .ranges .routeCount) s e) (beyond L l i w) (there w) t in
-      omega (arith, ap (readings.reading (lit L s e .section)) (far-section few (there w))))
+      fails-from _ (λ t.
+      let free = far-free L S l i w b c (lit L s e) opens (lit-clear L (S .ranges .routeCount) s e) (beyond (lineIn L l) i w) (there w) t in
+      omega arith)
     where
       opens : (j : ℕ) → j < lineIn L l .blocks → stage (done L s e) l j ≡ 0 → readings.reading (done L s e .section) (block L l j) ≡ 1
       opens j k z =
-          reads-on L S s h I e pass _ (S .ranges .lines l b .blocks j k)
+          reads-on L S s h I e pass _ (block-there L S l j b k)
           ∙ opened-then L S s h I e pass l j b k (eqb-true _ 0 (open-same L S s e l j b k ∙ eq-eqb _ 0 z)) .isFree
 
   -- a block that was in stage 2 and stays there: the passage waits on
@@ -146,7 +149,7 @@ module _ (L : Layout) (S : Sound L) (s : State) (h : History) (I : Inv L s h) (e
   unfolding Since
   waits-on z far = go (own-of L S s e l i b c)
     where
-      on : stage s l i ≡ 3 → ¬ On 7 e l → gave (granted L s e) (block L l i) ≢ 3 → gave (granted L s e) (block L l i) ≢ 1
+      on : stage s l i ≡ 3 → ¬ On 7 e l → gaveBlock L l i (granted L s e) ≢ 3 → gaveBlock L l i (granted L s e) ≢ 1
           → (direction (done L s e) l ≢ 0) × Passage L l i (direction (done L s e) l) (granted L s e ∷ h)
       on was hand none free =
           let P = I .passing l i b c was in
@@ -167,25 +170,27 @@ module _ (L : Layout) (S : Sound L) (s : State) (h : History) (I : Inv L s h) (e
   -- a block that goes from stage 1 to 2: this event dropped the far signal and left the far section occupied. The far section read free before, so
   -- this event gave it occupied, so it gave the block nothing: the block was entered by an event before
   module _ (w : ℕ) (own : direction (done L s e) l ≡ w) (z : stage (done L s e) l i ≡ 2) (d : w ≢ 0) (taken : farReading L (lit L s e) l i w ≡ 2)
-      (up : farUp L s l w (beyond L l i w) ≡ true) where
+      (up : farProceeds L s l i w ≡ true) where
     -- the far section reads occupied then
     now : reading (farSection L l i w) (granted L s e ∷ h) ≡ 2
     now = sym (far-reads w) ∙ taken
 
     -- before the event each open block read free
     opens : (j : ℕ) → j < lineIn L l .blocks → stage s l j ≡ 0 → readings.reading (s .section) (block L l j) ≡ 1
-    opens j k z = I .reads _ (S .ranges .lines l b .blocks j k) ∙ I .opened l j b k z .isFree
+    opens j k z = I .reads _ (block-there L S l j b k) ∙ I .opened l j b k z .isFree
 
     -- so the far section read free, and this event says something of it
     of-far : says e (farSection L l i w) ≢ 0
+    unfolding passage.farSection farSignal
     of-far q =
-        let was = sym (I .reads _ (far-there L S l i w b c)) ∙ far-free L S l i w b c s opens (I .lights) (beyond L l i w) (there w) up in
+        let was = sym (I .reads _ (far-there L S l i w b c)) ∙ far-free L S l i w b c s opens (I .lights) (beyond (lineIn L l) i w) (there w) up in
         let still = reading-kept (granted L s e) h _ q in
         omega (arith, now)
 
     -- so it says nothing of the block, by rule 1 another section
     of-block : says e (block L l i) ≡ 0
-    of-block = says-other e _ (λ q. far-other L S l i w b c (beyond L l i w) (there w) (sym q ∙ says-of-one e _ of-far .1))
+    unfolding passage.farSection
+    of-block = says-other e _ (λ q. far-other L S l i w b c (beyond (lineIn L l) i w) (there w) (sym q ∙ says-of-one e _ of-far .1))
 
     -- so the block was in stage 1 or 2 before
     entered-before : 2 ≤ stage s l i
@@ -202,12 +207,12 @@ module _ (L : Layout) (S : Sound L) (s : State) (h : History) (I : Inv L s h) (e
   dropped : stage (done L s e) l i ≡ 2 → direction (done L s e) l ≢ 0 → direction (end L s e) l ≡ direction (done L s e) l
       → farReading L (lit L s e) l i (direction (done L s e) l) ≡ 2 → farDropped L s (lit L s e) l i (direction (done L s e) l) ≡ true
       → Passage L l i (direction (done L s e) l) (granted L s e ∷ h)
-  unfolding Since farDropped farDroppedBy farProceeds panel lineShows
+  unfolding Since drops farSignal panel lineShows
   dropped z d same taken fell =
       let w : ℕ = direction (done L s e) l in
-      let x : Beyond = beyond L l i w in
-      let up : farUp L s l w x ≡ true = sym (far-proceeds s few (there w)) ∙ and-left _ _ fell in
-      let down : farUp L (lit L s e) l w x ≡ false = sym (far-proceeds (lit L s e) few (there w)) ∙ not-true _ (and-right _ _ fell) in
+      let x : Beyond = beyond (lineIn L l) i w in
+      let up : farProceeds L s l i w ≡ true = and-left _ _ fell in
+      let down : farProceeds L (lit L s e) l i w ≡ false = not-true _ (and-right _ _ fell) in
       let ways : direction s l ≤ 2 = two-ways L s e pass l in
       inl (record {
         entered = I .entered l i b c (entered-before w refl z d taken up);

@@ -13,23 +13,26 @@ use Rattle.laws.proofs.Tests.{and-left, and-right, and-both, not-both, fails-fr
 use Rattle.sets.specs.Sets as sets
 use Rattle.sets.proofs.Sets.{holds-setOf}
 use Rattle.track.specs.Lists.{between}
+use Rattle.track.specs.Sizes.{mostSections}
+use Rattle.track.specs.Blocks.{lineSections}
 use Rattle.tables.specs.Readings.{reading}
 use Rattle.layout.specs.declared.Layout.{Layout}
 use Rattle.layout.specs.Layout.{lineIn}
 use Rattle.layout.specs.Sound.{sound}
-use Rattle.layout_facts.specs.Plain.{block}
 use Rattle.reasons.specs.declared.Refusal.{Refusal}
-use Rattle.reasons.specs.Refusal.{refused, noRefusal, when, found, firstOf}
-use Rattle.searches.specs.Searches.{lacking}
+use Rattle.reasons.specs.Refusal.{refused, noRefusal, refusedIf, found, firstOf}
+use Rattle.reasons.specs.Searches.{lacking}
 use Rattle.tables.specs.Locks.{locked, lockedExitBy, lockedExit}
 use Rattle.reasons.specs.Reasons.{notFree, exitLocked}
 use Rattle.refusals.specs.Orders.{cancelRefusal, manualRefusal}
-use Rattle.refusals.specs.Events.{objects, secondWrong, eventRefusal}
+use Rattle.refusals.specs.Events.{numbersRefusal}
 use Rattle.interlocking.specs.declared.State.{State}
 use Rattle.interlocking.specs.State.{inRange}
-use Rattle.interlocking.specs.Step.{orderRefusal, refusal, answer, stepWhere, step}
+use Rattle.interlocking.specs.Rows.{sectionRow, cancelRow, manualRow, secondRow, rowOf}
+use Rattle.interlocking.specs.Step.{rowRefusal, step, refusal}
+use Rattle.step_facts.proofs.Step.{step-done}
 use Rattle.step_facts.specs.Run.{Event}
-use Rattle.safety.proofs.Entries.{phase, chosen, passed-over}
+use Rattle.safety.proofs.Entries.{phase, block, chosen, passed-over}
 use Rattle.safety.proofs.Within.{end}
 
 -- ---- reasons that there are not
@@ -45,8 +48,8 @@ unfolding firstOf
 last-none x p = p
 
 -- a test that does not hold refuses nothing
-when-none : (t : Bool) (number detail : ℕ) → t ≡ false → when t number detail .number ≡ 0
-unfolding when noRefusal refused
+when-none : (t : Bool) (number detail : ℕ) → t ≡ false → refusedIf t number detail .number ≡ 0
+unfolding refusedIf noRefusal refused
 when-none t number detail f = rw (passed-over _ _ _ f)
 
 -- nor does a search that finds nothing
@@ -55,48 +58,48 @@ unfolding found
 found-none number n p h = when-none _ number _ (lowest-past n p h)
 
 -- nor do sections that read free
-all-free : (sections : List ℕ) (set : ℕ) → ((g : ℕ) → g < 64 → sets.holds set g ≡ true → reading sections g ≡ 1) → notFree sections set .number ≡ 0
+all-free : (sections : List ℕ) (set : ℕ) → ((g : ℕ) → g < mostSections → sets.holds set g ≡ true → reading sections g ≡ 1) → notFree sections set .number ≡ 0
 unfolding notFree lacking noRefusal refused
-all-free sections set h = rw (passed-over _ _ _ (lowest-past 64 (lacking sections set) free))
+all-free sections set h = rw (passed-over _ _ _ (lowest-past mostSections (lacking sections set) free))
   where
-    free : (g : ℕ) → g < 64 → lacking sections set g ≡ false
+    free : (g : ℕ) → g < mostSections → lacking sections set g ≡ false
     free g b = fails-from _ (λ t. not-both (eq-eqb _ 1 (h g b (and-left _ _ t))) (not-true _ (and-right _ _ t)))
 
 -- ---- the events of the way out
 
 module _ (L : Layout) (s : State) (ok : sound L ≡ true) (ranged : inRange s ≡ true) where
-  -- an event of a known kind, for an object that there is, with a second number that is right, that its kind does not refuse
-  granted : (k a b : ℕ) → between 1 10 k ≡ true → not (eqb k 10) and leb (objects L k) a ≡ false → secondWrong L k a b ≡ false
-      → orderRefusal L s k a .number ≡ 0 → refusal (sound L and inRange s) L s k a b .number ≡ 0
-  unfolding refusal eventRefusal
-  granted k a b kind there second order =
-      first-none _ _ _ (first-none _ _ _ (when-none _ 18 0 (ap not (and-both _ _ ok ranged))) (first-none _ _ _ (when-none _ 1 0 (ap not kind))
-      (first-none _ _ _ (when-none _ 2 a there) (last-none _ (when-none _ 3 0 second))))) (last-none _ order)
+  -- an event for an object that there is, with a second number that is right, of whose row nothing is refused besides
+  granted : (k a b : ℕ) → rowOf L s k a b .missing ≡ false → rowOf L s k a b .wrong ≡ false → rowOf L s k a b .besides .number ≡ 0
+      → refusal (sound L and inRange s) L s k a b .number ≡ 0
+  unfolding refusal rowRefusal numbersRefusal
+  granted k a b there second order =
+      first-none _ _ _ (first-none _ _ _ (when-none _ 18 0 (ap not (and-both _ _ ok ranged)))
+      (first-none _ _ _ (when-none _ 2 a there) (last-none _ (when-none _ 3 0 second)))) (last-none _ order)
 
   -- cancel a route that is locked and not cancelling
   pub cancel-granted : (r : ℕ) → r < L .routes → phase s r ≢ 0 → phase s r ≢ 3
       → refusal (sound L and inRange s) L s 5 r 0 .number ≡ 0
-  unfolding between objects secondWrong orderRefusal if_then_else_ _and_ _or_ cancelRefusal locked
+  unfolding rowOf cancelRow if_then_else_ cancelRefusal locked
   cancel-granted r b locked standing =
-      granted 5 r 0 refl (lt-leb _ r b) refl
+      granted 5 r 0 (lt-leb _ r b) refl
       (first-none _ _ _ (when-none _ 13 r (ap (λ t. not (not t)) (ne-eqb _ 0 locked))) (last-none _ (when-none _ 14 r (ne-eqb _ 3 standing))))
 
   -- one second
   pub second-granted : refusal (sound L and inRange s) L s 10 0 0 .number ≡ 0
-  unfolding between objects secondWrong orderRefusal if_then_else_ _and_ _or_ noRefusal refused
-  second-granted = granted 10 0 0 refl refl refl refl
+  unfolding rowOf secondRow if_then_else_ _and_ noRefusal refused
+  second-granted = granted 10 0 0 refl refl refl
 
   -- a section reads, whatever the code
   pub reading-granted : (g code : ℕ) → g < L .sections → refusal (sound L and inRange s) L s 1 g code .number ≡ 0
-  unfolding between objects secondWrong orderRefusal if_then_else_ _and_ _or_ noRefusal refused
-  reading-granted g code b = granted 1 g code refl (lt-leb _ g b) refl refl
+  unfolding rowOf sectionRow if_then_else_ noRefusal refused
+  reading-granted g code b = granted 1 g code (lt-leb _ g b) refl refl
 
   -- a manual release, where no route is locked and the line's blocks read free
   pub release-granted : (l : ℕ) → l < L .lines → ((r : ℕ) → r < L .routes → phase s r ≡ 0)
       → ((i : ℕ) → i < lineIn L l .blocks → reading (s .section) (block L l i) ≡ 1) → refusal (sound L and inRange s) L s 7 l 1 .number ≡ 0
-  unfolding between objects secondWrong orderRefusal if_then_else_ _and_ _or_ manualRefusal exitLocked lockedExit lockedExitBy locked block lineIn
+  unfolding rowOf manualRow between if_then_else_ _and_ manualRefusal exitLocked lockedExit lockedExitBy locked lineSections lineIn
   release-granted l b idle free =
-      granted 7 l 1 refl (lt-leb _ l b) refl
+      granted 7 l 1 (lt-leb _ l b) refl
       (first-none _ _ _ (found-none 17 _ _ (λ r c. fails-from _ (λ t. not-both (eq-eqb _ 0 (idle r c)) (not-true _ (and-left _ _ t)))))
       (last-none _ (all-free (s .section) _ (λ g c t.
       let (i, h, q) = any-some _ _ (sym (holds-setOf _ _ g c) ∙ t) in
@@ -106,5 +109,5 @@ module _ (L : Layout) (s : State) (ok : sound L ≡ true) (ranged : inRange s �
 module _ (L : Layout) (s : State) (e : Event) (pass : refusal (sound L and inRange s) L s (e .kind) (e .first) (e .second) .number ≡ 0) where
   -- it is answered by 0, and leads to the end of what it does
   pub step-granted : step L s (e .kind) (e .first) (e .second) ≡ record { number = 0; detail = 0; next = end L s e }
-  unfolding step stepWhere answer
-  step-granted = chosen _ _ _ (eq-eqb (refusal (sound L and inRange s) L s (e .kind) (e .first) (e .second) .number) 0 pass)
+  unfolding step
+  step-granted = step-done _ L s (e .kind) (e .first) (e .second) pass

@@ -10,15 +10,14 @@ use Rattle.tables.specs.Blocks.{isOpen}
 use Rattle.layout.specs.declared.Layout.{Layout}
 use Rattle.layout.specs.Layout.{lineIn}
 use Rattle.layout.specs.Sound.{sound}
-use Rattle.layout_facts.specs.Plain.{block, Sound}
-use Rattle.layout_facts.proofs.Uses.{block-below}
+use Rattle.layout_facts.specs.Plain.{Sound}
 use Rattle.interlocking.specs.declared.State.{State}
 use Rattle.interlocking.specs.State.{inRange}
 use Rattle.interlocking.specs.Step.{refusal}
 use Rattle.step_facts.specs.Run.{Event}
 use Rattle.safety.specs.History.{History, Since}
 use Rattle.safety.specs.Demand3.{Entered}
-use Rattle.safety.proofs.Entries.{direction, stage}
+use Rattle.safety.proofs.Entries.{direction, stage, block-there, block-below}
 use Rattle.safety.proofs.Passed.{release-free}
 use Rattle.safety.proofs.Within.{done, lit, end, says-nothing}
 use Rattle.safety.proofs.Blocks.{OwnCase, byHand, unread, frees, shuts, takes, FarCase, keeps, proves, loses}
@@ -39,17 +38,17 @@ module _ (L : Layout) (S : Sound L) (s : State) (h : History) (I : Inv L s h) (e
       go : OwnCase L e l i (stage s l i) (stage (done L s e) l i) → Opened L l i (granted L s e ∷ h)
       go (byHand k q x) =
           opened-by-hand L l i (granted L s e) h (refl, k, q) (says-nothing e _ (omega arith))
-          (sym (I .reads _ (S .ranges .lines l b .blocks i c)) ∙ (rw q at (release-free L s e pass k i (rw q c) (rw q (block-below L S l i b c)))))
+          (sym (I .reads _ (block-there L S l i b c)) ∙ (rw q at (release-free L s e pass k i (rw q c) (rw q (block-below L S l i b c)))))
       go (unread n q x) = opened-on L l i (granted L s e) h (omega arith) (omega arith) (I .opened l i b c (sym x ∙ opens))
       go (frees k q (inl was) x) = opened-on L l i (granted L s e) h (omega arith) (omega arith) (I .opened l i b c was)
       go (frees k q (inr was) x) =
-          let r = entered-reads (block L l i) h (I .entered l i b c (omega arith)) in
+          let r = entered-reads L l i h (I .entered l i b c (omega arith)) in
           opened-by-passage L l i (granted L s e) h (direction s l) q (omega arith) (I .passing l i b c was .1)
       go (shuts k x) = absurd (omega (arith, opens))
       go (takes k q x y) = absurd (omega (arith, opens))
 
   -- a block in stage 1 or 2 was given occupied by this event, or by one before, and since then neither none nor free
-  pub entered-then : 2 ≤ stage (end L s e) l i → Entered (block L l i) (granted L s e ∷ h)
+  pub entered-then : 2 ≤ stage (end L s e) l i → Entered L l i (granted L s e ∷ h)
   unfolding Since
   entered-then z = go (own-of L S s e l i b c)
     where
@@ -58,7 +57,7 @@ module _ (L : Layout) (S : Sound L) (s : State) (h : History) (I : Inv L s h) (e
       held (proves x was d o p) = omega arith
       held (loses x was) = omega arith
 
-      go : OwnCase L e l i (stage s l i) (stage (done L s e) l i) → Entered (block L l i) (granted L s e ∷ h)
+      go : OwnCase L e l i (stage s l i) (stage (done L s e) l i) → Entered L l i (granted L s e ∷ h)
       go (byHand k q x) = absurd (omega (arith, held (far-of L S s e l i b c)))
       go (unread n q x) = inr ((omega arith, omega arith), I .entered l i b c (omega (arith, held (far-of L S s e l i b c))))
       go (frees k q was x) = absurd (omega (arith, held (far-of L S s e l i b c)))

@@ -19,6 +19,7 @@ pub mod Tested
 pub mod Sense
 pub mod WrongBoxes
 pub mod WrongRuns
+pub mod WrongBoxes10
 pub mod Granted
 pub mod Calm
 pub mod WayOut

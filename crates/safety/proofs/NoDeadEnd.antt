@@ -9,6 +9,7 @@ use borrow.Author.Tests.{eq-eqb}
 use lib.ListN.{length, length-append}
 use Rattle.laws.proofs.Choice.{if-both}
 use Rattle.track.specs.Codes.{openBlock}
+use Rattle.track.specs.Sizes.{mostBlocks}
 use Rattle.tables.specs.Blocks.{isOpen}
 use Rattle.layout.specs.declared.Layout.{Layout}
 use Rattle.layout.specs.Sound.{sound}
@@ -40,7 +41,7 @@ read-length L l zero = refl
 read-length L l (suc n) = let h = read-length L l n in omega arith
 
 -- at most eight for each line
-read-short : (L : Layout) → Sound L → (n : ℕ) → n ≤ L .lines → length (allReadFree L n) ≤ 8 * n
+read-short : (L : Layout) → Sound L → (n : ℕ) → n ≤ L .lines → length (allReadFree L n) ≤ mostBlocks * n
 unfolding allReadFree
 read-short L S zero b = omega arith
 read-short L S (suc l) b =

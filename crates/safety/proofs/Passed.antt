@@ -12,27 +12,28 @@ use Rattle.laws.specs.Tests.{_and_, lowest}
 use Rattle.laws.proofs.Choice.{if-both}
 use Rattle.laws.proofs.Searches.{lowest-none}
 use Rattle.laws.proofs.Tests.{and-right, and-both, not-both, fails-from, any-at}
+use Rattle.track.specs.Sizes.{mostSections}
+use Rattle.track.specs.Blocks.{lineSections}
 use Rattle.sets.specs.Sets as sets
 use Rattle.sets.proofs.Sets.{holds-setOf}
 use Rattle.tables.specs.Readings.{reading}
 use Rattle.layout.specs.declared.Layout.{Layout}
 use Rattle.layout.specs.Layout.{lineIn, routeIn, conflict}
 use Rattle.layout.specs.Sound.{sound}
-use Rattle.layout_facts.specs.Plain.{block}
 use Rattle.reasons.specs.declared.Refusal.{Refusal}
 use Rattle.reasons.specs.Refusal.{refused, found}
-use Rattle.searches.specs.Searches.{lacking}
+use Rattle.reasons.specs.Searches.{lacking}
 use Rattle.tables.specs.Locks.{locked, lockedExitBy, lockedExit}
 use Rattle.reasons.specs.Reasons.{notFree, conflicting, exitLocked}
 use Rattle.refusals.specs.Orders.{exitRefusal, routeRefusal, setRefusal, cancelRefusal, secureRefusal, manualRefusal}
-use Rattle.refusals.specs.Events.{eventRefusal}
-use Rattle.refusals.proofs.Granted.{granted-at, when-granted}
+use Rattle.refusals.proofs.Granted.{granted-at, when-granted, granted-sound}
 use Rattle.interlocking.specs.declared.State.{State}
 use Rattle.interlocking.specs.State.{inRange}
-use Rattle.interlocking.specs.Step.{orderRefusal, refusal}
+use Rattle.interlocking.specs.Rows.{setRow, cancelRow, secureRow, manualRow, rowOf}
+use Rattle.interlocking.specs.Step.{rowRefusal, refusal}
 use Rattle.step_facts.specs.Run.{Event}
 use Rattle.step_facts.proofs.Range.{inRange-means, read-within}
-use Rattle.safety.proofs.Entries.{phase, direction}
+use Rattle.safety.proofs.Entries.{phase, direction, block}
 
 -- ---- reasons that there were not
 
@@ -47,37 +48,37 @@ unfolding _and_
 not-second a b p e = rw p at e
 
 -- of the sections asked for each reads free
-all-free : (sections : List ℕ) (set : ℕ) → notFree sections set .number ≡ 0 → (g : ℕ) → g < 64 → sets.holds set g ≡ true → reading sections g ≡ 1
+all-free : (sections : List ℕ) (set : ℕ) → notFree sections set .number ≡ 0 → (g : ℕ) → g < mostSections → sets.holds set g ≡ true → reading sections g ≡ 1
 unfolding notFree refused lacking
-all-free sections set e g b h = eqb-true _ _ (not-false _ (not-second _ _ h (lowest-none 64 (lacking sections set) (past e) g b)))
+all-free sections set e g b h = eqb-true _ _ (not-false _ (not-second _ _ h (lowest-none mostSections (lacking sections set) (past e) g b)))
   where
     seven-eight : (t : Bool) → _≢_ {A = ℕ} (if t then 7 else 8) 0
     seven-eight t = if-both (λ n. n ≢ 0) t (λ p. omega arith) (λ p. omega arith)
 
-    past : notFree sections set .number ≡ 0 → ltb (lowest 64 (lacking sections set)) 64 ≡ false
+    past : notFree sections set .number ≡ 0 → ltb (lowest mostSections (lacking sections set)) mostSections ≡ false
     past =
-        if-both (λ (r : Refusal). r .number ≡ 0 → ltb (lowest 64 (lacking sections set)) 64 ≡ false) _ (λ t z. absurd (seven-eight _ z)) (λ f z. f)
+        if-both (λ (r : Refusal). r .number ≡ 0 → ltb (lowest mostSections (lacking sections set)) mostSections ≡ false) _ (λ t z. absurd (seven-eight _ z)) (λ f z. f)
 
 -- ---- what an accepted event has passed
 
 module _ (L : Layout) (s : State) (e : Event) (pass : refusal (sound L and inRange s) L s (e .kind) (e .first) (e .second) .number ≡ 0) where
   -- 18: the state's codes are in range
   in-range : inRange s ≡ true
-  unfolding refusal eventRefusal
-  in-range = and-right _ _ (not-false _ (when-granted _ 18 0 (omega arith) (granted-at _ (granted-at _ pass 0) 0)))
+  unfolding refusal rowRefusal
+  in-range = and-right _ _ (granted-sound _ _ _ _ (granted-at _ pass 0))
 
   -- a line is neutral or secured one of the two ways
   pub two-ways : (l : ℕ) → direction s l ≤ 2
   two-ways l = read-within (inRange-means s .0 in-range .direction) 0 l (omega arith) .1
 
-  -- none of the reasons of its kind
-  order-granted : (k : ℕ) → e .kind ≡ k → orderRefusal L s k (e .first) .number ≡ 0
-  unfolding refusal
+  -- none of the reasons of its row
+  order-granted : (k : ℕ) → e .kind ≡ k → rowOf L s k (e .first) (e .second) .besides .number ≡ 0
+  unfolding refusal rowRefusal
   order-granted k q = rw q at (granted-at _ pass 1)
 
   -- 5: no route that conflicts with the one set is locked
   pub set-alone : e .kind ≡ 4 → (q : ℕ) → q < L .routes → conflict L (e .first) q ≡ true → phase s q ≡ 0
-  unfolding orderRefusal if_then_else_ setRefusal conflicting locked
+  unfolding rowOf setRow if_then_else_ setRefusal conflicting locked
   set-alone k q b c =
       let five = granted-at _ (order-granted 4 k) 1 in
       eqb-true _ _ (not-false _ (fails-from _ (λ t. not-both (and-both _ _ t c) (found-granted 5 _ _ (omega arith) five q b))))
@@ -85,7 +86,7 @@ module _ (L : Layout) (s : State) (e : Event) (pass : refusal (sound L and inRan
   -- 9: an exit route's line is secured its way
   pub set-secured : e .kind ≡ 4 → routeIn L (e .first) .kind ≡ 2
       → direction s (routeIn L (e .first) .line) ≡ routeIn L (e .first) .end + 1
-  unfolding orderRefusal if_then_else_ setRefusal routeRefusal exitRefusal routeIn
+  unfolding rowOf setRow if_then_else_ setRefusal routeRefusal exitRefusal routeIn
   set-secured k x =
       let lists = granted-at _ (order-granted 4 k) 2 in
       let exit = rw (eq-eqb _ _ x) at (granted-at _ lists 2) in
@@ -93,24 +94,24 @@ module _ (L : Layout) (s : State) (e : Event) (pass : refusal (sound L and inRan
 
   -- 13: the route that is cancelled is locked
   pub cancel-locked : e .kind ≡ 5 → phase s (e .first) ≢ 0
-  unfolding orderRefusal if_then_else_ cancelRefusal locked
+  unfolding rowOf cancelRow if_then_else_ cancelRefusal locked
   cancel-locked k = eqb-false _ _ (not-true _ (not-false _ (when-granted _ 13 _ (omega arith) (granted-at _ (order-granted 5 k) 0))))
 
   -- 12: the line that is secured is neutral
   pub secure-neutral : e .kind ≡ 6 → direction s (e .first) ≡ 0
-  unfolding orderRefusal if_then_else_ secureRefusal
+  unfolding rowOf secureRow if_then_else_ secureRefusal
   secure-neutral k = eqb-true _ _ (not-false _ (when-granted _ 12 _ (omega arith) (granted-at _ (order-granted 6 k) 0)))
 
   -- 17: no exit route of the line that is released is locked
   pub release-unlocked : e .kind ≡ 7 → (r : ℕ) → r < L .routes → routeIn L r .kind ≡ 2 → routeIn L r .line ≡ e .first → phase s r ≡ 0
-  unfolding orderRefusal if_then_else_ manualRefusal exitLocked lockedExit lockedExitBy locked routeIn
+  unfolding rowOf manualRow if_then_else_ manualRefusal exitLocked lockedExit lockedExitBy locked routeIn
   release-unlocked k r b x l =
       let t = found-granted 17 _ _ (omega arith) (granted-at _ (order-granted 7 k) 0) r b in
       eqb-true _ _ (not-false _ (fails-from _ (λ p. not-both (and-both _ _ p (and-both _ _ (eq-eqb _ _ x) (eq-eqb _ _ l))) t)))
 
   -- 7, 8: its blocks read free
-  pub release-free : e .kind ≡ 7 → (i : ℕ) → i < lineIn L (e .first) .blocks → block L (e .first) i < 64 → reading (s .section) (block L (e .first) i) ≡ 1
-  unfolding orderRefusal if_then_else_ manualRefusal lineIn block
+  pub release-free : e .kind ≡ 7 → (i : ℕ) → i < lineIn L (e .first) .blocks → block L (e .first) i < mostSections → reading (s .section) (block L (e .first) i) ≡ 1
+  unfolding rowOf manualRow if_then_else_ manualRefusal lineSections lineIn
   release-free k i b c =
       all-free (s .section) _ (granted-at _ (order-granted 7 k) 1) _ c
       (holds-setOf _ _ _ c ∙ any-at _ _ i b (eq-eqb (block L (e .first) i) _ refl))

@@ -4,13 +4,17 @@ use mathlib.Core.List.{[], _∷_, _++_}
 use Rattle.laws.specs.Choice.{if_then_else_}
 use Rattle.laws.specs.Tests.{_or_}
 use Rattle.laws.specs.Tables.{table, read}
+use Rattle.track.specs.Codes.{aToB, bToA, stage0}
+use Rattle.track.specs.Sizes.{mostPlaces}
+use Rattle.track.specs.Signal.{main, into}
 use Rattle.tables.specs.Readings.{reading, pointReading}
 use Rattle.tables.specs.Blocks.{place}
+use Rattle.signals.specs.Numbers.{shows}
 use Rattle.layout.specs.declared.Layout.{Layout}
 use Rattle.layout.specs.Layout.{lineIn}
 use Rattle.interlocking.specs.declared.State.{State}
 use Rattle.panel.specs.Panel.{join, lineBytes, blockBytes, image}
-use Rattle.safety.specs.Shown.{main, into, signalShows, routeShows, lineShows, panel}
+use Rattle.safety.specs.Shown.{signalShows, routeShows, lineShows, panel}
 
 -- section and point readings; then main signals, routes and lines; then of each block its stage, its signal A to B and its signal B to A
 pub image-shows : (L : Layout) (s : State) → image L s
@@ -20,6 +24,6 @@ pub image-shows : (L : Layout) (s : State) → image L s
     ++ table (L .routes) (panel L s .route)
     ++ table (L .lines) (panel L s .line)
     ++ join (L .lines) (λ l. join (lineIn L l .blocks) (λ i.
-    read 64 1 (s .stage) (place l i) ∷ panel L s .signal (into l i 1) ∷ panel L s .signal (into l i 2) ∷ []))
-unfolding image lineBytes blockBytes lineIn panel signalShows routeShows lineShows _or_ if_then_else_
+    read mostPlaces stage0 (s .stage) (place l i) ∷ panel L s .signal (into l i aToB) ∷ panel L s .signal (into l i bToA) ∷ []))
+unfolding image lineBytes blockBytes lineIn panel signalShows shows routeShows lineShows _or_ if_then_else_
 image-shows L s = refl

@@ -6,15 +6,18 @@ use mathlib.Core.Bool.{Bool, true, false, not}
 use mathlib.Core.List.{[], _∷_}
 use borrow.Author.Tests.{eqb-true, eqb-false, eq-eqb, ne-eqb, lt-ltb, ltb-true, not-true}
 use lib.Dec.{eqb, ltb}
-use Rattle.laws.specs.Tests.{_and_, _or_, every, any}
+use Rattle.laws.specs.Tests.{_and_, _or_, every, anyBelow}
 use Rattle.laws.proofs.Tests.{and-left, and-right, and-both, or-left, or-right, not-both, every-at, every-one, every-more, any-some}
-use Rattle.track.specs.Codes.{free, none}
+use Rattle.track.specs.Codes.{free, readsNone}
+use Rattle.track.specs.Signal.{Signal, main, into}
+use Rattle.track.proofs.OnlySection.{only-in}
 use Rattle.layout.specs.declared.Layout.{Layout}
 use Rattle.layout.specs.Layout.{lineIn, routeIn}
-use Rattle.layout_facts.specs.Plain.{block, nearestBlock}
-use Rattle.safety.specs.Shown.{Signal, main, into, Panel}
-use Rattle.safety.specs.History.{Moment, History, gave, reading, shown, Releases, Sometime, Since, sinceSpell, untilSpell}
+use Rattle.layout_facts.specs.Plain.{InBlock, nearestBlock}
+use Rattle.safety.specs.Shown.{Panel}
+use Rattle.safety.specs.History.{Moment, History, gave, reading, gaveBlock, blockReads, shown, Releases, Sometime, Since, sinceSpell, untilSpell}
 use Rattle.safety.specs.Demand3.{farSection, farSignal, Entered, Drops, Passage, Cleared, byPassage, byHand, Enters}
+use Rattle.safety.proofs.Entries.{block}
 use Rattle.safety.specs.WrongRuns.{Asked, secured, alone, isFree, cleared, Met, Broken}
 
 -- ---- earlier and later
@@ -35,19 +38,19 @@ since-tested began kept b k (m ∷ h) (inr x) = or-right _ _ (and-both _ _ (k m 
 
 -- ---- a passage
 
--- neither none nor free was given to section g
-abbrev staysTest : ℕ → Moment → Bool
-staysTest g m = not (eqb (gave m g) none) and not (eqb (gave m g) free)
+-- neither none nor free was given to block i of line l
+abbrev staysTest : Layout → ℕ → ℕ → Moment → Bool
+staysTest L l i m = not (eqb (gaveBlock L l i m) readsNone) and not (eqb (gaveBlock L l i m) free)
 
--- section g was entered
-abbrev enteredTest : ℕ → History → Bool
-enteredTest g h = sinceTest (λ m older. eqb (gave m g) 2) (staysTest g) h
+-- it was entered
+abbrev enteredTest : Layout → ℕ → ℕ → History → Bool
+enteredTest L l i h = sinceTest (λ m older. eqb (gaveBlock L l i m) 2) (staysTest L l i) h
 
 -- an event dropped the far signal of a block that was entered, and left its far section occupied
 abbrev dropsTest : Layout → ℕ → ℕ → ℕ → Moment → History → Bool
 dropsTest L l i w m older = every (
-    enteredTest (block L l i) older
-    ∷ staysTest (block L l i) m
+    enteredTest L l i older
+    ∷ staysTest L l i m
     ∷ eqb (m .shows .line l) w
     ∷ not (eqb w 0)
     ∷ eqb (reading (farSection L l i w) (m ∷ older)) 2
@@ -57,7 +60,7 @@ dropsTest L l i w m older = every (
 
 -- a passage waits for its free reading
 abbrev passageTest : Layout → ℕ → ℕ → ℕ → History → Bool
-passageTest L l i w h = sinceTest (dropsTest L l i w) (λ m. staysTest (block L l i) m and not (eqb (gave m (farSection L l i w)) 3)) h
+passageTest L l i w h = sinceTest (dropsTest L l i w) (λ m. staysTest L l i m and not (eqb (gave m (farSection L l i w)) 3)) h
 
 -- line l showed a direction that passes a test
 abbrev wayTest : ℕ → (ℕ → Bool) → History → Bool
@@ -72,27 +75,27 @@ releasedTest l (m ∷ h) = (eqb (m .number) 0 and (eqb (m .event .kind) 7 and eq
 -- a block was cleared
 abbrev clearedTest : Layout → ℕ → ℕ → History → Bool
 clearedTest L l i h =
-    wayTest l (λ w. passageTest L l i w (untilSpell (block L l i) h)) (untilSpell (block L l i) h) or releasedTest l (sinceSpell (block L l i) h)
+    wayTest l (λ w. passageTest L l i w (untilSpell L l i h)) (untilSpell L l i h) or releasedTest l (sinceSpell L l i h)
 
--- an event that gave a section neither
-stays-tested : (g : ℕ) (m : Moment) → (gave m g ≢ none) × (gave m g ≢ free) → staysTest g m ≡ true
-stays-tested g m k = and-both _ _ (ap not (ne-eqb _ none (k .0))) (ap not (ne-eqb _ free (k .1)))
+-- an event that gave a block neither
+stays-tested : (L : Layout) (l i : ℕ) (m : Moment) → (gaveBlock L l i m ≢ readsNone) × (gaveBlock L l i m ≢ free) → staysTest L l i m ≡ true
+stays-tested L l i m k = and-both _ _ (ap not (ne-eqb _ readsNone (k .0))) (ap not (ne-eqb _ free (k .1)))
 
 module _ (L : Layout) (l i w : ℕ) where
   -- the drop of a passage passes, part by part
   drops-tested : (m : Moment) (h : History) → Drops L l i w m h → dropsTest L l i w m h ≡ true
   drops-tested m h d =
-      every-more _ _ _ (entered h (d .entered)) (every-more _ _ _ (stays-tested _ m (d .stays)) (every-more _ _ _ (eq-eqb _ w (d .secured .0))
+      every-more _ _ _ (entered h (d .entered)) (every-more _ _ _ (stays-tested L l i m (d .stays)) (every-more _ _ _ (eq-eqb _ w (d .secured .0))
       (every-more _ _ _ (ap not (ne-eqb w 0 (d .secured .1))) (every-more _ _ _ (eq-eqb _ 2 (d .taken)) (every-more _ _ _ (lt-ltb 20 _ (d .fromProceed))
       (every-one _ (eq-eqb _ 20 (d .toStop))))))))
     where
-      entered : (h : History) → Entered (block L l i) h → enteredTest (block L l i) h ≡ true
-      entered = since-tested _ _ (λ m h q. eq-eqb _ 2 q) (stays-tested (block L l i))
+      entered : (h : History) → Entered L l i h → enteredTest L l i h ≡ true
+      entered = since-tested _ _ (λ m h q. eq-eqb _ 2 q) (stays-tested L l i)
 
   -- so does a passage
   passage-tested : (h : History) → Passage L l i w h → passageTest L l i w h ≡ true
   passage-tested =
-      since-tested _ _ drops-tested (λ m k. and-both _ _ (stays-tested _ m (k .0, k .1)) (ap not (ne-eqb _ none (k .2))))
+      since-tested _ _ drops-tested (λ m k. and-both _ _ (stays-tested L l i m (k .0, k .1)) (ap not (ne-eqb _ readsNone (k .2))))
 
   -- its direction was shown
   way-tested : (p : ℕ → Bool) → p w ≡ true → (h : History) → Passage L l i w h → wayTest l p h ≡ true
@@ -133,14 +136,14 @@ letsTest L p r = every (
 abbrev unmetTest : Asked → Layout → History → ℕ → Bool
 unmetTest secured L h r = not (eqb (shown L h .line (routeIn L r .line)) (routeIn L r .end + 1))
 unmetTest alone L h r =
-    any (L .routes) (λ q. letsTest L (shown L h) q
+    anyBelow (L .routes) (λ q. letsTest L (shown L h) q
     and (eqb (block L (routeIn L q .line) (entry L q)) (block L (routeIn L r .line) (entry L r)) and not (eqb (routeIn L q .entry) (routeIn L r .entry))))
-unmetTest isFree L h r = not (eqb (reading (block L (routeIn L r .line) (entry L r)) h) 1)
+unmetTest isFree L h r = not (eqb (blockReads L (routeIn L r .line) (entry L r) h) 1)
 unmetTest cleared L h r = not (clearedTest L (routeIn L r .line) (entry L r) h)
 
 -- both, of some exit route
 abbrev pub brokenTest : Asked → Layout → History → Bool
-brokenTest what L h = any (L .routes) (λ r. letsTest L (shown L h) r and unmetTest what L h r)
+brokenTest what L h = anyBelow (L .routes) (λ r. letsTest L (shown L h) r and unmetTest what L h r)
 
 -- a main signal by its number
 signalNumber : Signal → ℕ
@@ -172,13 +175,14 @@ module _ (L : Layout) (h : History) where
   -- and what the test says of it is not so
   is-unmet : (what : Asked) (r : ℕ) → unmetTest what L h r ≡ true
       → Met what L h (main (routeIn L r .entry)) (routeIn L r .line) (entry L r) (routeIn L r .end + 1) → ⊥
-  unfolding signalNumber
+  unfolding signalNumber InBlock
   is-unmet secured r t q = eqb-false _ _ (not-true _ t) q
   is-unmet alone r t only =
       let (q, b, u) = any-some _ _ t in
-      let same = eqb-true _ _ (and-left _ _ (and-right _ _ u)) in
+      let same = eqb-true (block L (routeIn L q .line) (entry L q)) (block L (routeIn L r .line) (entry L r)) (and-left _ _ (and-right _ _ u)) in
       eqb-false _ _ (not-true _ (and-right _ _ (and-right _ _ u)))
-      (ap signalNumber (only (main (routeIn L q .entry)) _ _ _ (lets-in q b (and-left _ _ u)) same))
+      (ap signalNumber (only (main (routeIn L q .entry)) _ _ _ (block L (routeIn L q .line) (entry L q)) (lets-in q b (and-left _ _ u)) (only-in (lineIn L (routeIn L q .line)) (entry L q))
+      (rw same (only-in (lineIn L (routeIn L r .line)) (entry L r)))))
   is-unmet isFree r t q = eqb-false _ 1 (not-true _ t) q
   is-unmet cleared r t q = not-both (cleared-tested L _ _ h q) (not-true _ t)
 

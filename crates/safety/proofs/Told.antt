@@ -8,12 +8,11 @@ use native.Mathlib.Omega.{arith}
 use borrow.Author.Tests.{eq-eqb, ne-eqb}
 use Rattle.laws.proofs.Choice.{if-both}
 use Rattle.layout.specs.declared.Layout.{Layout}
-use Rattle.layout_facts.specs.Plain.{block}
 use Rattle.step_facts.specs.Run.{Event}
-use Rattle.track.specs.Codes.{free, occupied, none}
-use Rattle.safety.specs.History.{Moment, History, nothing, says, gave, reading, Releases, Sometime, Since, sinceSpell, untilSpell}
+use Rattle.track.specs.Codes.{free, occupied, readsNone}
+use Rattle.safety.specs.History.{Moment, History, nothing, says, gave, reading, gaveBlock, blockReads, Releases, Sometime, Since, sinceSpell, untilSpell}
 use Rattle.safety.specs.Demand3.{Entered, Passage, Cleared, byPassage, byHand}
-use Rattle.safety.proofs.Entries.{chosen, passed-over}
+use Rattle.safety.proofs.Entries.{chosen, passed-over, block}
 
 -- ---- readings
 
@@ -45,39 +44,40 @@ module _ (m : Moment) (h : History) (g : ℕ) where
       go (no q) = reading-given v (f q) d
 
 -- a block that was entered reads occupied
-pub entered-reads : (g : ℕ) (h : History) → Entered g h → reading g h ≡ occupied
+pub entered-reads : (L : Layout) (l i : ℕ) (h : History) → Entered L l i h → blockReads L l i h ≡ occupied
 unfolding Since
-entered-reads g [] x = absurd x
-entered-reads g (m ∷ h) (inl p) = reading-given m h g 2 p (omega arith)
-entered-reads g (m ∷ h) (inr k) =
-    reading-stays m h g 2 (λ d. let few = says-few (m .event) g in let n = k .0 .0 in let f = k .0 .1 in omega arith) (omega arith) (entered-reads g h (k .1))
+entered-reads L l i [] x = absurd x
+entered-reads L l i (m ∷ h) (inl p) = reading-given m h (block L l i) 2 p (omega arith)
+entered-reads L l i (m ∷ h) (inr k) =
+    reading-stays m h (block L l i) 2 (λ d. let few = says-few (m .event) (block L l i) in let n = k .0 .0 in let f = k .0 .1 in omega arith) (omega arith)
+    (entered-reads L l i h (k .1))
 
--- while a section does not read free, its last spell of not reading free goes on
-in-spell : (g : ℕ) (h : History) → reading g h ≢ free → untilSpell g h ≡ h
+-- while a block does not read free, its last spell of not reading free goes on
+in-spell : (L : Layout) (l i : ℕ) (h : History) → blockReads L l i h ≢ free → untilSpell L l i h ≡ h
 unfolding untilSpell
-in-spell g [] d = refl
-in-spell g (m ∷ h) d = passed-over _ _ _ (ne-eqb _ 1 d)
+in-spell L l i [] d = refl
+in-spell L l i (m ∷ h) d = passed-over _ _ _ (ne-eqb _ 1 d)
 
 -- and no event came after it
-pub none-since : (g : ℕ) (h : History) → reading g h ≢ free → sinceSpell g h ≡ []
+pub none-since : (L : Layout) (l i : ℕ) (h : History) → blockReads L l i h ≢ free → sinceSpell L l i h ≡ []
 unfolding sinceSpell
-none-since g [] d = refl
-none-since g (m ∷ h) d = passed-over _ _ _ (ne-eqb _ 1 d)
+none-since L l i [] d = refl
+none-since L l i (m ∷ h) d = passed-over _ _ _ (ne-eqb _ 1 d)
 
 -- ---- an open block: it reads free, and was cleared
 
 -- what the invariant says of it
 pub record Opened (L : Layout) (l i : ℕ) (h : History) : Type 0 where
-  pub isFree : reading (block L l i) h ≡ free
+  pub isFree : blockReads L l i h ≡ free
   pub cleared : Cleared L l i h
 
 module _ (L : Layout) (l i : ℕ) (m : Moment) (h : History) where
   -- by one more event that leaves it free
-  pub opened-on : gave m (block L l i) ≢ none → gave m (block L l i) ≢ occupied → Opened L l i h → Opened L l i (m ∷ h)
+  pub opened-on : gaveBlock L l i m ≢ readsNone → gaveBlock L l i m ≢ occupied → Opened L l i h → Opened L l i (m ∷ h)
   unfolding sinceSpell untilSpell Sometime
   opened-on n o c = record { isFree = now; cleared = go (c .cleared) }
     where
-      now : reading (block L l i) (m ∷ h) ≡ 1
+      now : blockReads L l i (m ∷ h) ≡ 1
       now = reading-stays m h (block L l i) 1 (λ d. let few = says-few (m .event) (block L l i) in omega arith) (omega arith) (c .isFree)
 
       go : Cleared L l i h → Cleared L l i (m ∷ h)
@@ -85,15 +85,15 @@ module _ (L : Layout) (l i : ℕ) (m : Moment) (h : History) where
       go (byHand r) = byHand (rw (chosen _ _ _ (eq-eqb _ 1 now)) (inr r))
 
   -- by a manual release of its line, that finds it free
-  pub opened-by-hand : Releases l m → gave m (block L l i) ≡ nothing → reading (block L l i) h ≡ free → Opened L l i (m ∷ h)
+  pub opened-by-hand : Releases l m → gaveBlock L l i m ≡ nothing → blockReads L l i h ≡ free → Opened L l i (m ∷ h)
   unfolding sinceSpell Sometime
   opened-by-hand r q f =
-      let now : reading (block L l i) (m ∷ h) ≡ 1 = reading-kept m h (block L l i) q ∙ f in
+      let now : blockReads L l i (m ∷ h) ≡ 1 = reading-kept m h (block L l i) q ∙ f in
       record { isFree = now; cleared = byHand (rw (chosen _ _ _ (eq-eqb _ 1 now)) (inl r)) }
 
   -- by the free reading that closes a passage
-  pub opened-by-passage : (w : ℕ) → gave m (block L l i) ≡ free → reading (block L l i) h ≢ free → Passage L l i w h → Opened L l i (m ∷ h)
+  pub opened-by-passage : (w : ℕ) → gaveBlock L l i m ≡ free → blockReads L l i h ≢ free → Passage L l i w h → Opened L l i (m ∷ h)
   unfolding untilSpell
   opened-by-passage w q d p =
-      let now : reading (block L l i) (m ∷ h) ≡ 1 = reading-given m h (block L l i) 1 q (omega arith) in
-      record { isFree = now; cleared = byPassage w (rw (chosen _ _ _ (eq-eqb _ 1 now), in-spell _ h d) p) }
+      let now : blockReads L l i (m ∷ h) ≡ 1 = reading-given m h (block L l i) 1 q (omega arith) in
+      record { isFree = now; cleared = byPassage w (rw (chosen _ _ _ (eq-eqb _ 1 now), in-spell L l i h d) p) }

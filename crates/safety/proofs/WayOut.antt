@@ -17,8 +17,7 @@ use Rattle.tables.specs.Locks.{locked}
 use Rattle.layout.specs.declared.Layout.{Layout}
 use Rattle.layout.specs.Layout.{lineIn}
 use Rattle.layout.specs.Sound.{sound}
-use Rattle.layout_facts.specs.Plain.{block, Sound}
-use Rattle.layout_facts.proofs.Uses.{block-below}
+use Rattle.layout_facts.specs.Plain.{Sound}
 use Rattle.interlocking.specs.declared.State.{State}
 use Rattle.interlocking.specs.declared.Answer.{Answer}
 use Rattle.interlocking.specs.State.{inRange}
@@ -27,7 +26,7 @@ use Rattle.step_facts.specs.Run.{Event, event, box, stateAfter}
 use Rattle.step_facts.proofs.Range.{inRange-means, read-within}
 use Rattle.step_facts.proofs.Step.{step-in-range}
 use Rattle.safety.specs.WayOut.{standing, cancels, ninetySeconds, readFree, allReadFree, releases, Granted}
-use Rattle.safety.proofs.Entries.{phase, direction, stage}
+use Rattle.safety.proofs.Entries.{phase, direction, stage, block, block-there, block-below}
 use Rattle.safety.proofs.Within.{end, says-nothing}
 use Rattle.safety.proofs.Granted.{cancel-granted, second-granted, reading-granted, release-granted, step-granted}
 use Rattle.safety.proofs.Calm.{second, Calm, idle-on, calm-on, cancelled, second-on, section-kept, section-free, free-on, neutral-on, open-on}
@@ -65,7 +64,7 @@ after-that {L} {s} {xs} {ys} {P} {Q} G next = joined L Q xs ys s (G .granted) (n
 
 -- a state in range has counted at most 89 seconds of a route
 few-seconds : (s : State) → inRange s ≡ true → (r : ℕ) → second s r ≤ 89
-few-seconds s ok r = read-within (inRange-means s .0 ok .second) 0 r (omega arith) .1
+few-seconds s ok r = read-within (inRange-means s .0 ok .seconds) 0 r (omega arith) .1
 
 -- a route that is not standing (locked and not cancelling) is idle or cancelling
 not-standing : (s : State) (r : ℕ) → standing s r ≡ false → Calm s r
@@ -186,7 +185,7 @@ module _ (L : Layout) (ok : sound L ≡ true) (S : Sound L) where
   unfolding readFree
   read-blocks l zero s there few ranged p = stop L _ s ranged p
   read-blocks l (suc i) s there few ranged p =
-      goes _ s (event 1 (block L l i) 1) _ (reading-granted L s ok ranged (block L l i) 1 (S .ranges .lines l there .blocks i few)) ranged
+      goes _ s (event 1 (block L l i) 1) _ (reading-granted L s ok ranged (block L l i) 1 (block-there L S l i there few)) ranged
       (λ t at in-range. read-blocks l i t there (omega arith) in-range (rw at (idle, free)))
     where
       idle : Idle L (end L s (event 1 (block L l i) 1))

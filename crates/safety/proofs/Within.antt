@@ -8,35 +8,39 @@ use native.Mathlib.Omega.{arith}
 use borrow.Author.Tests.{eqb-true, eqb-false, eq-eqb, ne-eqb, le-leb, not-true}
 use lib.Dec.{eqb}
 use Rattle.laws.specs.Choice.{if_then_else_}
-use Rattle.laws.specs.Tests.{_and_, any}
+use Rattle.laws.specs.Tests.{_and_, anyBelow}
 use Rattle.laws.specs.Tables.{read, put}
 use Rattle.laws.proofs.Choice.{if-both}
 use Rattle.laws.proofs.Tests.{and-left, and-right, and-both, not-both, fails-from, fails-not, every-at, all-at, any-at}
+use Rattle.track.specs.Sizes.{mostSections, mostLines, mostTrainRoutes, mostRoutes}
 use Rattle.tables.specs.Readings.{recorded}
 use Rattle.tables.specs.Readings as readings
 use Rattle.tables.specs.Blocks.{isOpen}
 use Rattle.signals.specs.Signals.{clear, fallen}
-use Rattle.release.specs.declared.Gives.{Gives}
-use Rattle.release.specs.declared.Held.{Held}
-use Rattle.release.specs.Release.{heldAfter}
+use Rattle.tables.specs.declared.Gives.{Gives}
+use Rattle.release.specs.declared.Locking.{Locking}
+use Rattle.release.specs.Release.{lockingAfter}
 use Rattle.layout.specs.declared.Layout.{Layout}
 use Rattle.layout.specs.Layout.{lineIn, routeIn}
+use Rattle.line_block.specs.LineRelease.{passable, endsBy, directionAfter, directionsAfter}
 use Rattle.interlocking.specs.declared.State.{State}
 use Rattle.interlocking.specs.State.{withSections, withPoints, withRoutes, withLines, withBars}
 use Rattle.interlocking.specs.Own.{ownSection, ownPoint, ownThrow, ownSet, ownCancel, ownSecure, ownManual, ownBar}
 use Rattle.tables.specs.Locks.{locked, lockedExitBy, lockedExit}
-use Rattle.interlocking.specs.Settle.{fallenAt, signals, farSections, heldOf, routeAfter, unlessIdle, routesBy, routes, passable, endsBy, ends, directionAfter, lineRelease, settle}
-use Rattle.interlocking.specs.Step.{meant, gives, ownOf, own, after}
+use Rattle.interlocking.specs.Settle.{fallenAt, signals, farSections, lockingOf, routeAfter, unlessIdle, routesBy, routes, lineRelease, settle}
+use Rattle.interlocking.specs.Rows.{Row, sectionRow, pointRow, throwRow, setRow, cancelRow, secureRow, manualRow, barRow, secondRow, noRow}
+use Rattle.interlocking.specs.Step.{own, gives, after}
+use Rattle.interlocking.proofs.Rows.{OfKind, section-row, point-row, throw-row, set-row, cancel-row, secure-row, manual-row, bar-row, unbar-row, second-row, no-row, row-of}
 use Rattle.step_facts.specs.Run.{Event}
-use Rattle.step_facts.proofs.Refusals.{recorded-in}
+use Rattle.step_facts.proofs.Own.{recorded-in}
 use Rattle.safety.specs.History.{says}
-use Rattle.safety.proofs.Entries.{phase, direction, stage, chosen, passed-over, read-each, put-here, put-elsewhere}
+use Rattle.safety.proofs.Entries.{phase, direction, stage, ends, chosen, passed-over, read-each, put-here, put-elsewhere}
 
 -- ---- the states within one event
 
 -- after what it does itself
 abbrev pub done : Layout → State → Event → State
-done L s e = own L s (e .kind) (e .first) (meant (e .kind) (e .second))
+done L s e = own L s (e .kind) (e .first) (e .second)
 
 -- after the signals
 abbrev pub lit : Layout → State → Event → State
@@ -44,11 +48,11 @@ lit L s e = signals L (done L s e)
 
 -- after far sections and routes
 abbrev pub moved : Layout → State → Event → State
-moved L s e = routes L (farSections L s (lit L s e)) (gives (e .kind) (e .first) (meant (e .kind) (e .second)))
+moved L s e = routes L (farSections L s (lit L s e)) (gives L s (e .kind) (e .first) (e .second))
 
 -- at its end
 abbrev pub end : Layout → State → Event → State
-end L s e = after L s (e .kind) (e .first) (meant (e .kind) (e .second))
+end L s e = after L s (e .kind) (e .first) (e .second)
 
 -- ---- what an event does itself, by its kind
 
@@ -58,34 +62,34 @@ On k e a = (e .kind ≡ k) × (e .first ≡ a)
 
 -- the state that it leaves, by its kind; the other kinds leave sections, phases, directions and stages as they are
 pub data Done (L : Layout) (s : State) (e : Event) : State → Type 0 where
-  reads : e .kind ≡ 1 → Done L s e (ownSection (L .line) (L .lines) s (e .first) (meant (e .kind) (e .second)))
+  reads : e .kind ≡ 1 → Done L s e (ownSection (L .line) (L .lines) s (e .first) (recorded (e .second)))
   sets : e .kind ≡ 4 → Done L s e (ownSet s (e .first))
   cancels : e .kind ≡ 5 → Done L s e (ownCancel s (e .first))
-  secures : e .kind ≡ 6 → Done L s e (ownSecure s (e .first) (meant (e .kind) (e .second)))
+  secures : e .kind ≡ 6 → Done L s e (ownSecure s (e .first) (e .second))
   opens : e .kind ≡ 7 → Done L s e (ownManual (L .line) (L .lines) s (e .first))
   leaves : {t : State} → (e .kind ≢ 1) × (e .kind ≢ 4) × (e .kind ≢ 5) × (e .kind ≢ 6) × (e .kind ≢ 7)
       → (t .section ≡ s .section) × (t .phase ≡ s .phase) × (t .direction ≡ s .direction) × (t .stage ≡ s .stage) → Done L s e t
 
--- by the tests of its kind, one after the other
+-- by its row
 pub is-done : (L : Layout) (s : State) (e : Event) → Done L s e (done L s e)
-unfolding own ownOf ownPoint ownThrow ownBar withPoints withBars
-is-done L s e =
-    if-both D (eqb k 1) (λ t. reads (eqb-true k 1 t))
-    (λ f1. if-both D (eqb k 2) (λ t. let q = eqb-true k 2 t in leaves (omega arith) (refl, refl, refl, refl))
-    (λ f2. if-both D (eqb k 3) (λ t. let q = eqb-true k 3 t in leaves (omega arith) (refl, refl, refl, refl))
-    (λ f3. if-both D (eqb k 4) (λ t. sets (eqb-true k 4 t))
-    (λ f4. if-both D (eqb k 5) (λ t. cancels (eqb-true k 5 t))
-    (λ f5. if-both D (eqb k 6) (λ t. secures (eqb-true k 6 t))
-    (λ f6. if-both D (eqb k 7) (λ t. opens (eqb-true k 7 t))
-    (λ f7. if-both D (eqb k 8) (λ t. let q = eqb-true k 8 t in leaves (omega arith) (refl, refl, refl, refl))
-    (λ f8. if-both D (eqb k 9) (λ t. let q = eqb-true k 9 t in leaves (omega arith) (refl, refl, refl, refl))
-    (λ f9. leaves (eqb-false k 1 f1, eqb-false k 4 f4, eqb-false k 5 f5, eqb-false k 6 f6, eqb-false k 7 f7) (refl, refl, refl, refl))))))))))
+unfolding own sectionRow pointRow throwRow setRow cancelRow secureRow manualRow barRow secondRow noRow ownPoint ownThrow ownBar withPoints withBars
+is-done L s e = go (row-of L s (e .kind) (e .first) (e .second))
   where
-    k : ℕ
-    k = e .kind
+    same : (s .section ≡ s .section) × (s .phase ≡ s .phase) × (s .direction ≡ s .direction) × (s .stage ≡ s .stage)
+    same = (refl, refl, refl, refl)
 
-    D : State → Type 0
-    D = Done L s e
+    go : {row : Row} → OfKind L s (e .first) (e .second) (e .kind) row → Done L s e (row .does)
+    go (section-row q) = reads q
+    go (point-row q) = leaves (omega arith) same
+    go (throw-row q) = leaves (omega arith) same
+    go (set-row q) = sets q
+    go (cancel-row q) = cancels q
+    go (secure-row q) = secures q
+    go (manual-row q) = opens q
+    go (bar-row q) = leaves (omega arith) same
+    go (unbar-row q) = leaves (omega arith) same
+    go (second-row q) = leaves (omega arith) same
+    go (no-row u) = leaves (u .no-section, u .no-set, u .no-cancel, u .no-secure, u .no-release) same
 
 -- ---- sections
 
@@ -110,31 +114,26 @@ pub says-recorded : (e : Event) (g : ℕ) → e .kind ≡ 1 → e .first ≡ g �
 unfolding says recorded _and_
 says-recorded e g k f = chosen _ _ 0 (rw (eq-eqb _ 1 k, eq-eqb _ g f))
 
--- and that is what its second number means to the step
-pub meant-reading : (e : Event) → e .kind ≡ 1 → meant (e .kind) (e .second) ≡ recorded (e .second)
-unfolding meant
-meant-reading e k = chosen _ _ _ (le-leb (e .kind) 2 (omega arith))
-
 -- what a section reads then: what was said, or what it read
-pub section-done : (L : Layout) (s : State) (e : Event) (g : ℕ) → g < 64
+pub section-done : (L : Layout) (s : State) (e : Event) (g : ℕ) → g < mostSections
     → readings.reading (done L s e .section) g ≡ if eqb (says e g) 0 then readings.reading (s .section) g else says e g
 unfolding ownSection ownSet ownCancel ownSecure ownManual withSections withRoutes withLines readings.reading
 section-done L s e g b = go (is-done L s e)
   where
-    kept : e .kind ≢ 1 → read 64 3 (s .section) g ≡ if eqb (says e g) 0 then read 64 3 (s .section) g else says e g
+    kept : e .kind ≢ 1 → read mostSections 3 (s .section) g ≡ if eqb (says e g) 0 then read mostSections 3 (s .section) g else says e g
     kept d = sym (chosen _ _ _ (eq-eqb _ 0 (says-nothing e g d)))
 
     at : e .kind ≡ 1 → Dec (g ≡ e .first)
-        → read 64 3 (put 64 (s .section) (e .first) (meant (e .kind) (e .second))) g
-        ≡ if eqb (says e g) 0 then read 64 3 (s .section) g else says e g
+        → read mostSections 3 (put mostSections (s .section) (e .first) (recorded (e .second))) g
+        ≡ if eqb (says e g) 0 then read mostSections 3 (s .section) g else says e g
     at k (yes q) =
         let told = says-recorded e g k (sym q) in
         let some = recorded-in (e .second) in
-        put-here 64 3 (s .section) _ _ g b q ∙ meant-reading e k ∙ sym told ∙ sym (passed-over _ _ _ (ne-eqb (says e g) 0 (omega arith)))
-    at k (no d) = put-elsewhere 64 3 (s .section) _ _ g b d ∙ sym (chosen _ _ _ (eq-eqb _ 0 (says-other e g (λ q. d (sym q)))))
+        put-here mostSections 3 (s .section) _ _ g b q ∙ sym told ∙ sym (passed-over _ _ _ (ne-eqb (says e g) 0 (omega arith)))
+    at k (no d) = put-elsewhere mostSections 3 (s .section) _ _ g b d ∙ sym (chosen _ _ _ (eq-eqb _ 0 (says-other e g (λ q. d (sym q)))))
 
     go : {t : State} → Done L s e t
-        → read 64 3 (t .section) g ≡ if eqb (says e g) 0 then read 64 3 (s .section) g else says e g
+        → read mostSections 3 (t .section) g ≡ if eqb (says e g) 0 then read mostSections 3 (s .section) g else says e g
     go (reads k) = at k (ℕ-discrete g (e .first))
     go (sets k) = kept (omega arith)
     go (cancels k) = kept (omega arith)
@@ -161,21 +160,21 @@ module _ (L : Layout) (s : State) (r was : ℕ) where
 -- letting routes go makes a route idle, or leaves its phase
 let-go : (L : Layout) (s : State) (g : Gives) (r : ℕ) → unlessIdle s r (phase s r) (routeAfter (L .line) (L .route) s g r .phase) ≢ 0
     → unlessIdle s r (phase s r) (routeAfter (L .line) (L .route) s g r .phase) ≡ phase s r
-unfolding unlessIdle routeAfter heldAfter heldOf
+unfolding unlessIdle routeAfter lockingAfter lockingOf
 let-go L s g r =
     if-both (λ n. n ≢ 0 → n ≡ phase s r) _ (λ t d. refl)
-    (λ f. if-both (λ (h : Held). h .phase ≢ 0 → h .phase ≡ phase s r) _ (λ t d. absurd (d refl)) (λ t d. refl))
+    (λ f. if-both (λ (h : Locking). h .phase ≢ 0 → h .phase ≡ phase s r) _ (λ t d. absurd (d refl)) (λ t d. refl))
 
-module _ (L : Layout) (few : L .routes ≤ 48) (s : State) (e : Event) (r : ℕ) (b : r < L .routes) where
+module _ (L : Layout) (few : L .routes ≤ mostTrainRoutes) (s : State) (e : Event) (r : ℕ) (b : r < L .routes) where
   -- the signals go route by route
   pub phase-lit : phase (lit L s e) r ≡ fallenAt (L .line) (L .route) (done L s e) r (phase (done L s e) r)
   unfolding signals withRoutes
-  phase-lit = read-each 48 0 (L .routes) _ _ r (omega arith) b
+  phase-lit = read-each mostRoutes 0 (L .routes) _ _ r (omega arith) b
 
   -- by the end of the event a route is idle, or in the phase that its signal left it in
   pub phase-kept : phase (end L s e) r ≢ 0 → phase (end L s e) r ≡ phase (lit L s e) r
   unfolding after settle lineRelease withLines routes routesBy withRoutes farSections
-  phase-kept = rw (read-each 48 0 (L .routes) _ (lit L s e .phase) r (omega arith) b) (let-go L (farSections L s (lit L s e)) _ r)
+  phase-kept = rw (read-each mostRoutes 0 (L .routes) _ (lit L s e .phase) r (omega arith) b) (let-go L (farSections L s (lit L s e)) _ r)
 
   -- a route whose signal is not at proceed after the event's own effect goes, or keeps its phase
   pub phase-stays : phase (done L s e) r ≢ 1
@@ -206,9 +205,9 @@ module _ (L : Layout) (few : L .routes ≤ 48) (s : State) (e : Event) (r : ℕ)
       own-locked z = d (phase-kept d ∙ phase-lit ∙ fallen-else L (done L s e) r _ (omega arith) ∙ z)
 
       stored : (v : ℕ) → (e .first ≡ r → On 4 e r ⊎ (phase s r ≢ 0)) → Dec (r ≡ e .first)
-          → read 48 0 (put 48 (s .phase) (e .first) v) r ≢ 0 → On 4 e r ⊎ (phase s r ≢ 0)
+          → read mostRoutes 0 (put mostRoutes (s .phase) (e .first) v) r ≢ 0 → On 4 e r ⊎ (phase s r ≢ 0)
       stored v here (yes q) x = here (sym q)
-      stored v here (no q) x = inr (λ z. x (put-elsewhere 48 0 (s .phase) (e .first) v r (omega arith) q ∙ z))
+      stored v here (no q) x = inr (λ z. x (put-elsewhere mostRoutes 0 (s .phase) (e .first) v r (omega arith) q ∙ z))
 
       go : {t : State} → Done L s e t → phase t r ≢ 0
           → On 4 e r ⊎ (phase s r ≢ 0)
@@ -221,14 +220,14 @@ module _ (L : Layout) (few : L .routes ≤ 48) (s : State) (e : Event) (r : ℕ)
 
 -- ---- lines
 
-module _ (L : Layout) (few : L .lines ≤ 8) (s : State) (e : Event) (l : ℕ) (b : l < L .lines) where
+module _ (L : Layout) (few : L .lines ≤ mostLines) (s : State) (e : Event) (l : ℕ) (b : l < L .lines) where
   -- a line that the event neither secures nor releases by hand keeps its direction, as far as the event itself goes
   pub direction-same : ¬ On 6 e l → ¬ On 7 e l → direction (done L s e) l ≡ direction s l
   unfolding ownSection ownSet ownCancel ownSecure ownManual withSections withRoutes withLines
   direction-same n m = go (is-done L s e)
     where
-      elsewhere : (v : ℕ) → (e .first ≡ l → ⊥) → read 8 0 (put 8 (s .direction) (e .first) v) l ≡ direction s l
-      elsewhere v d = put-elsewhere 8 0 (s .direction) (e .first) v l (omega arith) (λ z. d (sym z))
+      elsewhere : (v : ℕ) → (e .first ≡ l → ⊥) → read mostLines 0 (put mostLines (s .direction) (e .first) v) l ≡ direction s l
+      elsewhere v d = put-elsewhere mostLines 0 (s .direction) (e .first) v l (omega arith) (λ z. d (sym z))
 
       go : {t : State} → Done L s e t → direction t l ≡ direction s l
       go (reads k) = refl
@@ -241,9 +240,9 @@ module _ (L : Layout) (few : L .lines ≤ 8) (s : State) (e : Event) (l : ℕ) (
   -- by the end of the event the line is as its own effect left it, or the line release made it neutral
   pub released : (direction (end L s e) l ≡ direction (done L s e) l)
       ⊎ ((direction (end L s e) l ≡ 0) × (ends L s (moved L s e) l (direction (done L s e) l) ≡ true))
-  unfolding after settle lineRelease withLines routes routesBy withRoutes farSections signals directionAfter
+  unfolding after settle lineRelease directionsAfter withLines routes routesBy withRoutes farSections signals directionAfter lineIn
   released =
-      rw (read-each 8 0 (L .lines) _ (done L s e .direction) l (omega arith) b)
+      rw (read-each mostLines 0 (L .lines) _ (done L s e .direction) l (omega arith) b)
       (if-both R _ (λ t. inl refl) (λ f. if-both R _ (λ t. inr (refl, t)) (λ t. inl refl)))
     where
       R : ℕ → Type 0
@@ -252,14 +251,14 @@ module _ (L : Layout) (few : L .lines ≤ 8) (s : State) (e : Event) (l : ℕ) (
   -- a line with a held block does not become neutral by itself
   pub direction-held : (i : ℕ) → i < lineIn L l .blocks → stage (end L s e) l i ≢ 0
       → direction (end L s e) l ≡ direction (done L s e) l
-  unfolding after settle lineRelease withLines ends endsBy passable isOpen lineIn
+  unfolding after settle lineRelease withLines endsBy passable isOpen lineIn
   direction-held i h d = ⊎-elim (λ q. q) (λ t. absurd (d (eqb-true _ 0 (and-left _ _ (all-at _ _ (every-at _ (t .1) 1) i h))))) released
 
   -- nor does one with an exit route locked
   pub direction-locked : (r : ℕ) → r < L .routes → routeIn L r .kind ≡ 2 → routeIn L r .line ≡ l → phase (end L s e) r ≢ 0
       → direction (end L s e) l ≡ direction (done L s e) l
-  unfolding after settle lineRelease withLines ends endsBy lockedExit lockedExitBy locked routeIn
+  unfolding after settle lineRelease withLines endsBy lockedExit lockedExitBy locked routeIn
   direction-locked r h k q d = ⊎-elim (λ z. z) (λ t. not-both some (not-true _ (every-at _ (t .1) 2))) released
     where
-      some : any (L .routes) (lockedExit (L .route) (end L s e .phase) l) ≡ true
+      some : anyBelow (L .routes) (lockedExit (L .route) (end L s e .phase) l) ≡ true
       some = any-at _ _ r h (and-both _ _ (fails-not _ (ne-eqb _ 0 d)) (and-both _ _ (eq-eqb _ 2 k) (eq-eqb _ l q)))

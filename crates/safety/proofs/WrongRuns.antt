@@ -81,13 +81,14 @@ conflict-locked S = S .apart 1 2 (lit< tt) (lit< tt) refl (eqb-false _ 0 refl) (
 
 -- ---- boxes that are wrong in another way
 
+-- a list is the same as itself
+pub same-itself : (xs : List ℕ) → same xs xs ≡ true
+same-itself [] = refl
+same-itself (x ∷ xs) = and-both _ _ (eq-eqb x x refl) (same-itself xs)
+
 -- two lists that the test tells apart
 apart : (xs ys : List ℕ) → not (same xs ys) ≡ true → xs ≢ ys
-apart xs ys t q = not-both (ap (same xs) (sym q) ∙ is-same xs) (not-true _ t)
-  where
-    is-same : (zs : List ℕ) → same zs zs ≡ true
-    is-same [] = refl
-    is-same (z ∷ zs) = and-both _ _ (eq-eqb z z refl) (is-same zs)
+apart xs ys t q = not-both (ap (same xs) (sym q) ∙ same-itself xs) (not-true _ t)
 
 -- computed
 unlike-tested : passes (λ r. not (same (showing r) (ofTheBox r))) unlike ≡ true

@@ -5,51 +5,34 @@
 --
 -- Read `≡` as is, `≢` as is not, `×` as and, `→` as then, `⊥` as never; `(r : ℕ) × ..` as there is a number r such that; `λ m. ..` as of the event m.
 -- L is the layout, h a history, p what shows, x and y signals, r and q routes; l, i, w are a line, its block counted from A, and a direction.
-use Prim.Native.Nat.{ℕ, _+_, _-_, _<_}
+use Prim.Native.Nat.{ℕ, _<_}
 use mathlib.Core.Path.{_≡_}
 use mathlib.Core.Logic.{_≢_}
 use mathlib.Core.Bool.{true}
 use mathlib.Core.List.{List, _∷_}
-use lib.Dec.{eqb, ltb}
-use Rattle.laws.specs.Choice.{if_then_else_}
-use Rattle.track.specs.Codes.{free, occupied, none, endA, endB, exitRoute, neutral, aToB, leaving}
+use Rattle.track.specs.Codes.{free, occupied, readsNone, exitRoute, neutral, leaving}
+use Rattle.track.specs.Signal.{Signal, main, into}
+use Rattle.signals.specs.Aspects.{stop}
+use Rattle.passage.specs.Passage as passage
 use Rattle.layout.specs.declared.Layout.{Layout}
 use Rattle.layout.specs.Layout.{lineIn, routeIn, conflict}
 use Rattle.layout.specs.Load.{load}
-use Rattle.layout_facts.specs.Plain.{block, innerSection, entranceSignal, nearestBlock}
+use Rattle.layout_facts.specs.Plain.{InBlock, nearestBlock}
 use Rattle.step_facts.specs.Run.{Event}
-use Rattle.safety.specs.Shown.{Signal, main, into, Panel, stop, showsIdle, showsLocked}
-use Rattle.safety.specs.History.{Moment, History, gave, reading, shown, Releases, Sometime, Since, sinceSpell, untilSpell, history}
+use Rattle.safety.specs.Shown.{Panel, showsIdle, showsLocked}
+use Rattle.safety.specs.History.{Moment, History, gave, reading, gaveBlock, blockReads, shown, Releases, Sometime, Since, sinceSpell, untilSpell, history}
 
--- ---- far section and far signal (section 5)
-
--- what lies beyond a block: the next block, or the station at the arrival end
-pub data Beyond : Type 0 where
-  next : ℕ → Beyond
-  arrival : ℕ → Beyond
-
--- beyond block i of line l in direction w
-unfoldable pub beyond : Layout → ℕ → ℕ → ℕ → Beyond
-beyond L l i w =
-    if eqb w aToB then (if ltb (i + 1) (lineIn L l .blocks) then next (i + 1) else arrival endB) else if eqb i 0 then arrival endA else next (i - 1)
-
--- the section there
-abbrev pub sectionAt : Layout → ℕ → Beyond → ℕ
-sectionAt L l (next j) = block L l j
-sectionAt L l (arrival e) = innerSection L l e
-
--- the signal between
-abbrev pub signalAt : Layout → ℕ → ℕ → Beyond → Signal
-signalAt L l w (next j) = into l j w
-signalAt L l w (arrival e) = main (entranceSignal L l e)
+-- ---- far section and far signal (section 5): passage/specs/Passage says what lies beyond a block
 
 -- the far section of block i of line l in direction w
 abbrev pub farSection : Layout → ℕ → ℕ → ℕ → ℕ
-farSection L l i w = sectionAt L l (beyond L l i w)
+farSection L l i w = passage.farSection (lineIn L l) i w
 
 -- its far signal
 abbrev pub farSignal : Layout → ℕ → ℕ → ℕ → Signal
-farSignal L l i w = signalAt L l w (beyond L l i w)
+farSignal L l i w = passage.farSignal (lineIn L l) l i w
+
+-- ---- what a signal shows
 
 -- signal x shows proceed, 21 or 22
 abbrev pub Proceeds : Panel → Signal → Type 0
@@ -62,15 +45,15 @@ Stops p x = p .signal x ≡ stop
 -- ---- a passage, told from the history (section 5)
 
 -- "an event gave the block occupied", and later ones no none or free of it
-abbrev pub Entered : ℕ → History → Type 0
-Entered g h = Since (λ m older. gave m g ≡ occupied) (λ m. (gave m g ≢ none) × (gave m g ≢ free)) h
+abbrev pub Entered : Layout → ℕ → ℕ → History → Type 0
+Entered L l i h = Since (λ m older. gaveBlock L l i m ≡ occupied) (λ m. (gaveBlock L l i m ≢ readsNone) × (gaveBlock L l i m ≢ free)) h
 
 -- "a later one, with no none or free of the block between, left the far section occupied and dropped the far signal": m is that one
 pub record Drops (L : Layout) (l i w : ℕ) (m : Moment) (older : History) : Type 0 where
   -- an earlier event gave the block occupied, and none since gave it a none or a free
-  pub entered : Entered (block L l i) older
+  pub entered : Entered L l i older
   -- nor did this one
-  pub stays : (gave m (block L l i) ≢ none) × (gave m (block L l i) ≢ free)
+  pub stays : (gaveBlock L l i m ≢ readsNone) × (gaveBlock L l i m ≢ free)
   -- the line is secured in direction w
   pub secured : (m .shows .line l ≡ w) × (w ≢ neutral)
   -- it left the far section occupied
@@ -82,13 +65,13 @@ pub record Drops (L : Layout) (l i w : ℕ) (m : Moment) (older : History) : Typ
 -- "then, with no none of either section between, an event gave the block free": the history before that event, which is the next free of the block
 abbrev pub Passage : Layout → ℕ → ℕ → ℕ → History → Type 0
 Passage L l i w h =
-    Since (Drops L l i w) (λ m. (gave m (block L l i) ≢ none) × (gave m (block L l i) ≢ free) × (gave m (farSection L l i w) ≢ none)) h
+    Since (Drops L l i w) (λ m. (gaveBlock L l i m ≢ readsNone) × (gaveBlock L l i m ≢ free) × (gave m (farSection L l i w) ≢ readsNone)) h
 
 -- the free reading that ended the block's last spell of not reading free closed a passage, or a manual release of its line was accepted since that
 -- spell
 pub data Cleared (L : Layout) (l i : ℕ) (h : History) : Type 0 where
-  byPassage : (w : ℕ) → Passage L l i w (untilSpell (block L l i) h) → Cleared L l i h
-  byHand : Sometime (Releases l) (sinceSpell (block L l i) h) → Cleared L l i h
+  byPassage : (w : ℕ) → Passage L l i w (untilSpell L l i h) → Cleared L l i h
+  byHand : Sometime (Releases l) (sinceSpell L l i h) → Cleared L l i h
 
 -- ---- signals into a block
 
@@ -122,10 +105,10 @@ pub record Enters (L : Layout) (p : Panel) (x : Signal) (l i w : ℕ) : Type 0 w
 pub record Guarded (L : Layout) (h : History) (x : Signal) (l i w : ℕ) : Type 0 where
   -- the line is secured its way
   pub secured : shown L h .line l ≡ w
-  -- no other signal shows proceed into the block, whatever line and block have its section
-  pub alone : (y : Signal) (k j v : ℕ) → Enters L (shown L h) y k j v → block L k j ≡ block L l i → y ≡ x
+  -- no other signal shows proceed into the block, whatever line and block have a section of it
+  pub alone : (y : Signal) (k j v g : ℕ) → Enters L (shown L h) y k j v → InBlock L k j g → InBlock L l i g → y ≡ x
   -- the block reads free
-  pub isFree : reading (block L l i) h ≡ free
+  pub isFree : blockReads L l i h ≡ free
   -- a proved passage was closed, or the line released by hand
   pub cleared : Cleared L l i h
 

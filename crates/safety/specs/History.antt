@@ -7,12 +7,14 @@ use mathlib.Core.List.{List, [], _∷_}
 use lib.Dec.{eqb}
 use Rattle.laws.specs.Choice.{if_then_else_}
 use Rattle.laws.specs.Tests.{_and_}
-use Rattle.track.specs.Codes.{free, occupied, none}
+use Rattle.track.specs.Codes.{free, occupied, readsNone, readSection, releaseLine}
+use Rattle.track.specs.Blocks.{jointReading}
 use Rattle.layout.specs.declared.Layout.{Layout}
+use Rattle.layout.specs.Layout.{lineIn}
 use Rattle.interlocking.specs.declared.State.{State}
 use Rattle.interlocking.specs.declared.Answer.{Answer}
 use Rattle.interlocking.specs.State.{cold}
-use Rattle.step_facts.specs.Run.{Event, sectionReading, manualRelease, box}
+use Rattle.step_facts.specs.Run.{Event, box}
 use Rattle.safety.specs.Shown.{Panel, panel}
 
 -- ---- moments
@@ -36,7 +38,7 @@ nothing = 0
 -- what an event says of section g: a reading is of the section that it names first; code 1 is free, 2 is occupied, every other code is none
 unfoldable pub says : Event → ℕ → ℕ
 says e g =
-    if eqb (e .kind) sectionReading and eqb (e .first) g then (if eqb (e .second) 1 then free else if eqb (e .second) 2 then occupied else none) else nothing
+    if eqb (e .kind) readSection and eqb (e .first) g then (if eqb (e .second) 1 then free else if eqb (e .second) 2 then occupied else readsNone) else nothing
 
 -- what the event of a moment gave section g
 abbrev pub gave : Moment → ℕ → ℕ
@@ -44,8 +46,15 @@ gave m g = says (m .event) g
 
 -- what section g reads: what was last given; none at the cold start
 unfoldable pub reading : ℕ → History → ℕ
-reading g [] = none
+reading g [] = readsNone
 reading g (m ∷ h) = if eqb (gave m g) nothing then reading g h else gave m g
+
+-- what the event of a moment gave block i of line l; what that block reads
+abbrev pub gaveBlock : Layout → ℕ → ℕ → Moment → ℕ
+gaveBlock L l i m = jointReading (gave m) (lineIn L l) i
+
+abbrev pub blockReads : Layout → ℕ → ℕ → History → ℕ
+blockReads L l i h = jointReading (λ g. reading g h) (lineIn L l) i
 
 -- ---- what showed, and what was done
 
@@ -56,7 +65,7 @@ shown L (m ∷ h) = m .shows
 
 -- a manual release of line l was accepted
 abbrev pub Releases : ℕ → Moment → Type 0
-Releases l m = (m .number ≡ 0) × (m .event .kind ≡ manualRelease) × (m .event .first ≡ l)
+Releases l m = (m .number ≡ 0) × (m .event .kind ≡ releaseLine) × (m .event .first ≡ l)
 
 -- ---- earlier and later
 
@@ -70,16 +79,16 @@ unfoldable pub Since : (Moment → History → Type 0) → (Moment → Type 0) �
 Since Began Kept [] = ⊥
 Since Began Kept (m ∷ h) = Began m h ⊎ (Kept m × Since Began Kept h)
 
--- the events since section g last did not read free: it has read free ever since
-unfoldable pub sinceSpell : ℕ → History → History
-sinceSpell g [] = []
-sinceSpell g (m ∷ h) = if eqb (reading g (m ∷ h)) free then m ∷ sinceSpell g h else []
+-- the events since block i of line l last did not read free: it has read free ever since
+unfoldable pub sinceSpell : Layout → ℕ → ℕ → History → History
+sinceSpell L l i [] = []
+sinceSpell L l i (m ∷ h) = if eqb (blockReads L l i (m ∷ h)) free then m ∷ sinceSpell L l i h else []
 
 -- the history before those: it ends with the last spell of not reading free, and the next event is the free reading that ended that spell. The cold
 -- start counts as a spell
-unfoldable pub untilSpell : ℕ → History → History
-untilSpell g [] = []
-untilSpell g (m ∷ h) = if eqb (reading g (m ∷ h)) free then untilSpell g h else m ∷ h
+unfoldable pub untilSpell : Layout → ℕ → ℕ → History → History
+untilSpell L l i [] = []
+untilSpell L l i (m ∷ h) = if eqb (blockReads L l i (m ∷ h)) free then untilSpell L l i h else m ∷ h
 
 -- ---- runs
 

@@ -3,5 +3,7 @@ pub mod Shown
 pub mod History
 pub mod Demand3
 pub mod WayOut
+pub mod FarInState
 pub mod WrongBoxes
 pub mod WrongRuns
+pub mod WrongBoxes10

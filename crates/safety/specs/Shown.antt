@@ -1,26 +1,13 @@
 -- What shows after an event: the signals, routes and lines of the panel image (section 7).
 use Prim.Native.Nat.{ℕ}
-use lib.Dec.{eqb}
-use Rattle.laws.specs.Choice.{if_then_else_}
-use Rattle.laws.specs.Tests.{_or_}
-use Rattle.track.specs.Codes.{aToB, bToA}
+use Rattle.track.specs.Signal.{Signal}
 use Rattle.tables.specs.Locks.{direction, phase}
+use Rattle.signals.specs.Numbers.{shows}
 use Rattle.layout.specs.declared.Layout.{Layout}
 use Rattle.interlocking.specs.declared.State.{State}
-use Rattle.panel.specs.Panel.{signalByte, routeByte, blockSignal}
+use Rattle.panel.specs.Panel.{routeByte}
 
--- a main signal by its number, or the block signal into block i of line l in direction w
-pub data Signal : Type 0 where
-  main : ℕ → Signal
-  into : ℕ → ℕ → ℕ → Signal
-
--- ---- section 7: what a signal shows, dark or absent, stop, and above it 21 and 22, proceed; what a route shows
-
-abbrev pub dark : ℕ
-dark = 0
-
-abbrev pub stop : ℕ
-stop = 20
+-- ---- section 7: what a route shows
 
 abbrev pub showsIdle : ℕ
 showsIdle = 0
@@ -34,11 +21,9 @@ pub record Panel : Type 0 where
   pub route : ℕ → ℕ
   pub line : ℕ → ℕ
 
--- the byte of a signal: a block has one each way, A to B and B to A
+-- what a signal shows: dark or absent, 20 stop, and above it 21 and 22, proceed
 unfoldable pub signalShows : Layout → State → Signal → ℕ
-signalShows L s (main x) = signalByte (L .routes) (L .route) (s .phase) x
-signalShows L s (into l i w) =
-    if eqb w aToB or eqb w bToA then blockSignal (L .line) (s .direction) (s .point) (s .stage) (s .bar) l i w else dark
+signalShows L s x = shows (L .routes) (L .route) (s .phase) (L .line) (s .direction) (s .point) (s .stage) (s .bar) x
 
 -- the byte of a route
 unfoldable pub routeShows : State → ℕ → ℕ

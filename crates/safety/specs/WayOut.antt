@@ -7,16 +7,16 @@ use lib.Dec.{eqb}
 use lib.ListN.{length, replicate}
 use Rattle.laws.specs.Choice.{if_then_else_}
 use Rattle.laws.specs.Tests.{_and_}
-use Rattle.track.specs.Codes.{free, neutral, idle, cancelling}
+use Rattle.track.specs.Codes.{free, neutral, idle, cancelling, readSection, cancelRoute, releaseLine, oneSecond}
+use Rattle.track.specs.Blocks.{onlySection}
 use Rattle.tables.specs.Blocks.{isOpen}
 use Rattle.tables.specs.Locks.{direction, phase, locked}
 use Rattle.layout.specs.declared.Layout.{Layout}
 use Rattle.layout.specs.Layout.{lineIn}
 use Rattle.layout.specs.Load.{load}
-use Rattle.layout_facts.specs.Plain.{block}
 use Rattle.interlocking.specs.declared.State.{State}
 use Rattle.interlocking.specs.Step.{step}
-use Rattle.step_facts.specs.Run.{Event, event, sectionReading, cancelRoute, manualRelease, oneSecond, box, stateAfter, fromCold}
+use Rattle.step_facts.specs.Run.{Event, event, box, stateAfter, fromCold}
 
 -- ---- the way out
 
@@ -33,10 +33,10 @@ cancels L (suc r) s = if standing s r then event cancelRoute r 0 ∷ cancels L r
 unfoldable pub ninetySeconds : List Event
 ninetySeconds = replicate 90 (event oneSecond 0 0)
 
--- the first i blocks of line l read free
+-- the first i blocks of line l read free: a reading of the one section of each
 unfoldable pub readFree : Layout → ℕ → ℕ → List Event
 readFree L l zero = []
-readFree L l (suc i) = event sectionReading (block L l i) free ∷ readFree L l i
+readFree L l (suc i) = event readSection (onlySection (lineIn L l) i) free ∷ readFree L l i
 
 -- all blocks of the first n lines do
 unfoldable pub allReadFree : Layout → ℕ → List Event
@@ -46,7 +46,7 @@ allReadFree L (suc l) = readFree L l (lineIn L l .blocks) ++ allReadFree L l
 -- release each of the first n lines by hand, the train not having left
 unfoldable pub releases : ℕ → List Event
 releases zero = []
-releases (suc l) = event manualRelease l 1 ∷ releases l
+releases (suc l) = event releaseLine l 1 ∷ releases l
 
 -- one after the other
 unfoldable pub wayOut : Layout → State → List Event

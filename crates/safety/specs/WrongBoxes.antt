@@ -7,30 +7,33 @@ use mathlib.Core.List.{[], _∷_}
 use lib.Dec.{eqb}
 use lib.ListN.{replicate}
 use Rattle.laws.specs.Choice.{if_then_else_}
-use Rattle.laws.specs.Tests.{_and_, every, all, any}
+use Rattle.laws.specs.Tests.{_and_, every, allBelow, anyBelow}
 use Rattle.laws.specs.Tables.{each, put}
-use Rattle.sets.specs.Sets.{setOf}
-use Rattle.track.specs.Codes.{free, occupied, none, exitRoute, neutral, aToB, openBlock, stage0, stage1, stage2, atProceed, atStop}
+use Rattle.track.specs.Codes.{free, occupied, readsNone, exitRoute, neutral, aToB, openBlock, stage0, stage1, stage2, atProceed, atStop, readSection, setRoute, cancelRoute, releaseLine, unbarBlock}
+use Rattle.track.specs.Sizes.{mostSections, mostBlocks, mostPlaces, mostTrainRoutes}
 use Rattle.track.specs.Objects.{line, route}
+use Rattle.track.specs.Blocks.{lineSections}
 use Rattle.tables.specs.Readings.{recorded}
 use Rattle.tables.specs.Blocks.{isOpen, unbarred}
 use Rattle.passage.specs.Passage.{ownStage, farStage}
-use Rattle.release.specs.declared.Gives.{Gives}
+use Rattle.tables.specs.declared.Gives.{Gives}
 use Rattle.layout.specs.declared.Layout.{Layout}
 use Rattle.reasons.specs.declared.Refusal.{Refusal}
-use Rattle.reasons.specs.Refusal.{when, firstOf}
+use Rattle.reasons.specs.Refusal.{refusedIf, firstOf}
 use Rattle.tables.specs.Locks.{direction, locked, lockedExit}
 use Rattle.reasons.specs.Reasons.{notFree, exitLocked}
 use Rattle.refusals.specs.Orders.{routeRefusal}
-use Rattle.refusals.specs.Events.{eventRefusal}
+use Rattle.refusals.specs.Events.{numbersRefusal}
+use Rattle.line_block.specs.LineRelease.{lastBlock, passable, wasInStage2, directionAfter}
 use Rattle.interlocking.specs.declared.State.{State}
 use Rattle.interlocking.specs.declared.Answer.{Answer}
-use Rattle.interlocking.specs.State.{cold, withSections, withRoutes, withLines}
-use Rattle.interlocking.specs.Own.{blockAt}
-use Rattle.interlocking.specs.Settle.{signals, farProceeds, farDropped, farReading, farSections, routes, passable, wasInStage2, directionAfter, lineRelease}
-use Rattle.interlocking.specs.Settle as settling
-use Rattle.interlocking.specs.Step.{refusal, meant, gives, own, refusedBy, askedInRun}
-use Rattle.step_facts.specs.Run.{Event, sectionReading, setRoute, cancelRoute, manualRelease, unbar}
+use Rattle.interlocking.specs.State.{cold, tablesOf, withSections, withRoutes, withLines}
+use Rattle.interlocking.specs.Own.{ownGiven}
+use Rattle.interlocking.specs.Settle.{signals, farSections, routes, lineRelease}
+use Rattle.interlocking.specs.Rows.{Row, rowOf}
+use Rattle.interlocking.specs.Step.{askedInRun, refusal, own, gives}
+use Rattle.step_facts.specs.Run.{Event}
+use Rattle.safety.specs.FarInState.{farReading, farProceeds, farDropped}
 
 -- ---- a step from its parts: what is refused; what the event does itself; then signals, far sections, routes, line release (section 5)
 
@@ -45,9 +48,9 @@ stepBy refuse act light move free end L s e =
     if eqb (refuse L s e .number) 0 then record {
       number = 0;
       detail = 0;
-      next = end L s (free L (move L s (light L (act L s e))) (gives (e .kind) (e .first) (meant (e .kind) (e .second))));
+      next = end L s (free L (move L s (light L (act L s e))) (gives L s (e .kind) (e .first) (e .second)));
     }
-    else refusedBy (refuse L s e) s
+    else record { number = refuse L s e .number; detail = refuse L s e .detail; next = s }
 
 -- what is refused, soundness being asked before the first event
 abbrev pub refuses : Layout → State → Event → Refusal
@@ -55,18 +58,19 @@ refuses L s e = refusal (askedInRun L) L s (e .kind) (e .first) (e .second)
 
 -- what an event does itself
 abbrev pub does : Layout → State → Event → State
-does L s e = own L s (e .kind) (e .first) (meant (e .kind) (e .second))
+does L s e = own L s (e .kind) (e .first) (e .second)
 
 -- ---- what is refused
 
 -- section 9: code 0 is refused, and the stored reading kept
 abbrev pub refusesNone : Box
-refusesNone = stepBy (λ L s e. firstOf (when (eqb (e .kind) sectionReading and eqb (e .second) 0) 3 0 ∷ refuses L s e ∷ [])) does signals farSections routes lineRelease
+refusesNone = stepBy (λ L s e. firstOf (refusedIf (eqb (e .kind) readSection and eqb (e .second) 0) 3 0 ∷ refuses L s e ∷ [])) does signals farSections routes lineRelease
 
 -- what is refused, where an order of kind k is refused by this
 abbrev pub refuseBy : ℕ → (Layout → State → ℕ → Refusal) → Layout → State → Event → Refusal
 refuseBy k refuse L s e =
-    if eqb (e .kind) k then firstOf (eventRefusal (askedInRun L) L (e .kind) (e .first) (e .second) ∷ refuse L s (e .first) ∷ []) else refuses L s e
+    let row : Row = rowOf L s k (e .first) (e .second) in
+    if eqb (e .kind) k then firstOf (numbersRefusal (askedInRun L) (row .missing) (e .first) (row .wrong) ∷ refuse L s (e .first) ∷ []) else refuses L s e
 
 -- the box that refuses so
 abbrev refusesBy : ℕ → (Layout → State → ℕ → Refusal) → Box
@@ -74,27 +78,28 @@ refusesBy k refuse = stepBy (refuseBy k refuse) does signals farSections routes 
 
 -- section 3: 17 is not asked of a manual release
 abbrev pub releasesLocked : Box
-releasesLocked = refusesBy manualRelease (λ L s l. notFree (s .section) (setOf (line (L .line) l .blocks) (line (L .line) l .block)))
+releasesLocked = refusesBy releaseLine (λ L s l. notFree (s .section) (lineSections (line (L .line) l)))
 
 -- section 3: 7 and 8 are not asked of it
 abbrev pub releasesTaken : Box
-releasesTaken = refusesBy manualRelease (λ L s l. exitLocked L (s .phase) l)
+releasesTaken = refusesBy releaseLine (λ L s l. exitLocked L (s .phase) l)
 
 -- section 3: 5 is not asked of a route that is set
 abbrev pub asksNoConflict : Box
 asksNoConflict =
-    refusesBy setRoute (λ L s r. firstOf (
-    when (locked (s .phase) r) 4 r
-    ∷ routeRefusal (L .line) (s .section) (s .point) (s .direction) (s .stage) (s .bar) (route (L .route) r)
-    ∷ []))
+    refusesBy setRoute (λ L s r. firstOf (refusedIf (locked (s .phase) r) 4 r ∷ routeRefusal (L .line) (tablesOf s) (route (L .route) r) ∷ []))
 
 -- ---- a block's own reading
+
+-- what a reading gives
+abbrev pub givenBy : Event → Gives
+givenBy e = record { section = e .first; reading = recorded (e .second); tick = 0 }
 
 -- what an event does itself, where a reading takes a block from stage to stage by this
 abbrev pub readBy : (ℕ → ℕ → ℕ) → Layout → State → Event → State
 readBy stage L s e =
-    if eqb (e .kind) sectionReading then withSections (does L s e) (does L s e .section)
-    (each (8 * L .lines) (λ k was. if blockAt (L .line) (e .first) k then stage (recorded (e .second)) was else was) (s .stage))
+    if eqb (e .kind) readSection then withSections (does L s e) (does L s e .section)
+    (each (mostBlocks * L .lines) (λ k was. stage (ownGiven (givenBy e) (line (L .line) (k / mostBlocks)) (k % mostBlocks)) was) (s .stage))
     else does L s e
 
 -- the box that reads so
@@ -107,7 +112,7 @@ opensFree = readsBy (λ v was. if eqb v free then openBlock else ownStage v was)
 
 -- section 5: none of the block is passed over, so that a passage is counted with a none between
 abbrev pub passesNone : Box
-passesNone = readsBy (λ v was. if eqb v none then was else ownStage v was)
+passesNone = readsBy (λ v was. if eqb v readsNone then was else ownStage v was)
 
 -- ---- far sections (section 5)
 
@@ -115,7 +120,7 @@ passesNone = readsBy (λ v was. if eqb v none then was else ownStage v was)
 abbrev pub moveBy : (State → ℕ → ℕ) → (Layout → State → State → ℕ → ℕ → ℕ → ℕ → ℕ) → Layout → State → State → State
 moveBy way stage L before s =
     withLines s (s .direction)
-    (each (8 * L .lines) (λ k was. if eqb (way s (k / 8)) neutral then was else stage L before s (k / 8) (k % 8) (way s (k / 8)) was) (s .stage))
+    (each (mostBlocks * L .lines) (λ k was. if eqb (way s (k / mostBlocks)) neutral then was else stage L before s (k / mostBlocks) (k % mostBlocks) (way s (k / mostBlocks)) was) (s .stage))
 
 -- the box that moves its blocks so
 abbrev movesBy : (State → ℕ → ℕ) → (Layout → State → State → ℕ → ℕ → ℕ → ℕ → ℕ) → Box
@@ -135,11 +140,11 @@ asksNoSignal = movesBy secured (λ L before s l i w was. farStage (farReading L 
 
 -- the far section need not read occupied
 abbrev pub asksNoArrival : Box
-asksNoArrival = movesBy secured (λ L before s l i w was. farStage (if eqb (farReading L s l i w) none then none else occupied) (farDropped L before s l i w) was)
+asksNoArrival = movesBy secured (λ L before s l i w was. farStage (if eqb (farReading L s l i w) readsNone then readsNone else occupied) (farDropped L before s l i w) was)
 
 -- none of the far section is passed over
 abbrev pub passesFarNone : Box
-passesFarNone = movesBy secured (λ L before s l i w was. farStage (if eqb (farReading L s l i w) none then free else farReading L s l i w) (farDropped L before s l i w) was)
+passesFarNone = movesBy secured (λ L before s l i w was. farStage (if eqb (farReading L s l i w) readsNone then free else farReading L s l i w) (farDropped L before s l i w) was)
 
 -- a block in stage 0 goes to 2 as well as one in stage 1
 abbrev pub asksNoEntry : Box
@@ -158,15 +163,15 @@ movesInNeutral =
 -- every fallen exit signal is at proceed again
 abbrev raised : Layout → State → State
 raised L s =
-    withRoutes s (each (L .routes) (λ r was. if eqb was atStop and eqb (route (L .route) r .kind) exitRoute then atProceed else was) (s .phase)) (s .step) (s .second)
+    withRoutes s (each (L .routes) (λ r was. if eqb was atStop and eqb (route (L .route) r .kind) exitRoute then atProceed else was) (s .phase)) (s .steps) (s .seconds)
 
 -- section 9: a cleared bar brings back a fallen exit signal, where it has all that keeps it at proceed
 abbrev pub bringsBack : Box
-bringsBack = stepBy refuses (λ L s e. if eqb (e .kind) unbar then raised L (does L s e) else does L s e) signals farSections routes lineRelease
+bringsBack = stepBy refuses (λ L s e. if eqb (e .kind) unbarBlock then raised L (does L s e) else does L s e) signals farSections routes lineRelease
 
 -- route r has waited one second
 abbrev counted : State → ℕ → State
-counted s r = withRoutes s (s .phase) (s .step) (put 48 (s .second) r 1)
+counted s r = withRoutes s (s .phase) (s .steps) (put mostTrainRoutes (s .seconds) r 1)
 
 -- section 9: the cancel wait ends at 89: the cancel counts as a second
 abbrev pub waits89 : Box
@@ -185,7 +190,7 @@ endsWhere ended = stepBy refuses does signals farSections routes (endBy ended)
 
 -- no exit route of the line is locked
 abbrev unlocked : Layout → State → ℕ → Bool
-unlocked L s l = not (any (L .routes) (lockedExit (L .route) (s .phase) l))
+unlocked L s l = not (anyBelow (L .routes) (lockedExit (L .route) (s .phase) l))
 
 -- line release is left out
 abbrev pub neverEnds : Box
@@ -193,33 +198,33 @@ neverEnds = endsWhere (λ L before s l w. false)
 
 -- a locked exit route is not asked
 abbrev pub endsLocked : Box
-endsLocked = endsWhere (λ L before s l w. wasInStage2 (before .stage) (line (L .line) l) l w and all (line (L .line) l .blocks) (passable (s .stage) (s .bar) l))
+endsLocked = endsWhere (λ L before s l w. wasInStage2 (before .stage) (line (L .line) l) l w and allBelow (line (L .line) l .blocks) (passable (s .stage) (s .bar) l))
 
 -- a held block is not asked, but for the last in travel
 abbrev pub endsHeld : Box
 endsHeld =
     endsWhere (λ L before s l w. every (
     wasInStage2 (before .stage) (line (L .line) l) l w
-    ∷ isOpen (s .stage) l (settling.lastBlock (line (L .line) l) w)
-    ∷ all (line (L .line) l .blocks) (unbarred (s .bar) l)
+    ∷ isOpen (s .stage) l (lastBlock (line (L .line) l) w)
+    ∷ allBelow (line (L .line) l .blocks) (unbarred (s .bar) l)
     ∷ unlocked L s l
     ∷ []))
 
 -- a bar is not asked
 abbrev pub endsBarred : Box
 endsBarred =
-    endsWhere (λ L before s l w. every (wasInStage2 (before .stage) (line (L .line) l) l w ∷ all (line (L .line) l .blocks) (isOpen (s .stage) l) ∷ unlocked L s l ∷ []))
+    endsWhere (λ L before s l w. every (wasInStage2 (before .stage) (line (L .line) l) l w ∷ allBelow (line (L .line) l .blocks) (isOpen (s .stage) l) ∷ unlocked L s l ∷ []))
 
 -- it is not asked that the last block in travel went from stage 2 to open
 abbrev pub endsUnpassed : Box
-endsUnpassed = endsWhere (λ L before s l w. all (line (L .line) l .blocks) (passable (s .stage) (s .bar) l) and unlocked L s l)
+endsUnpassed = endsWhere (λ L before s l w. allBelow (line (L .line) l .blocks) (passable (s .stage) (s .bar) l) and unlocked L s l)
 
 -- ---- the cold start (sections 1 and 5)
 
 -- blocks are open
 abbrev pub coldOpen : State
-coldOpen = withLines cold (cold .direction) (replicate 64 openBlock)
+coldOpen = withLines cold (cold .direction) (replicate mostPlaces openBlock)
 
 -- sections read free
 abbrev pub coldFree : State
-coldFree = withSections cold (replicate 64 free) (cold .stage)
+coldFree = withSections cold (replicate mostSections free) (cold .stage)

@@ -7,18 +7,18 @@ use mathlib.Core.Bool.{Bool}
 use mathlib.Core.List.{List, [], _∷_, _++_}
 use lib.ListN.{replicate}
 use Rattle.track.specs.Codes.{free}
+use Rattle.track.specs.Signal.{Signal}
 use Rattle.layout.specs.declared.Layout.{Layout}
 use Rattle.layout.specs.Rules.{rule1, rule2, rule3, rule4, rule5, rule6}
 use Rattle.layout.specs.Load.{load, whole}
-use Rattle.layout_facts.specs.Plain.{block}
+use Rattle.layout_facts.specs.Plain.{InBlock}
 use Rattle.layout_facts.specs.BranchT.{layoutT}
 use Rattle.interlocking.specs.declared.State.{State}
 use Rattle.interlocking.specs.State.{cold}
 use Rattle.panel.specs.Panel.{image}
 use Rattle.step_facts.specs.Run.{Event, event, boxInRun, stateAfter}
 use Rattle.safety.specs.Cases.{p3, p4, p5}
-use Rattle.safety.specs.Shown.{Signal}
-use Rattle.safety.specs.History.{History, reading, shown, goesOn}
+use Rattle.safety.specs.History.{History, blockReads, shown, goesOn}
 use Rattle.safety.specs.Demand3.{Cleared, Enters}
 use Rattle.safety.specs.WrongBoxes.{Box, refusesNone, releasesLocked, releasesTaken, asksNoConflict, opensFree, passesNone, countsStopped, asksNoSignal, asksNoArrival, passesFarNone, asksNoEntry, movesInNeutral, bringsBack, waits89, neverEnds, endsLocked, endsHeld, endsBarred, endsUnpassed, coldOpen, coldFree}
 
@@ -110,8 +110,8 @@ pub data Asked : Type 0 where
 -- what it is, of signal x into block i of line l in direction w
 abbrev pub Met : Asked → Layout → History → Signal → ℕ → ℕ → ℕ → Type 0
 Met secured L h x l i w = shown L h .line l ≡ w
-Met alone L h x l i w = (y : Signal) (k j v : ℕ) → Enters L (shown L h) y k j v → block L k j ≡ block L l i → y ≡ x
-Met isFree L h x l i w = reading (block L l i) h ≡ free
+Met alone L h x l i w = (y : Signal) (k j v g : ℕ) → Enters L (shown L h) y k j v → InBlock L k j g → InBlock L l i g → y ≡ x
+Met isFree L h x l i w = blockReads L l i h ≡ free
 Met cleared L h x l i w = Cleared L l i h
 
 -- at the end of a history some signal shows proceed into a block without it

@@ -1,11 +1,11 @@
--- What main signals and block signals show (section 4), over the tables of a state: what sections and points read, phases of routes,
--- directions of lines, stages and bars of blocks.
+-- When a signal may show proceed and when it falls (section 4), over the tables of a state: what sections and points read, phases of routes,
+-- directions of lines, stages and bars of blocks. What each then shows stands in MainSignals and BlockSignals.
 use Prim.Native.Nat.{ℕ}
 use mathlib.Core.Bool.{Bool}
 use mathlib.Core.List.{List, [], _∷_}
 use lib.Dec.{eqb}
 use Rattle.laws.specs.Choice.{if_then_else_}
-use Rattle.laws.specs.Tests.{_and_, implies, every, any}
+use Rattle.laws.specs.Tests.{_and_, implies, every, anyBelow}
 use Rattle.track.specs.declared.Line.{Line}
 use Rattle.track.specs.declared.Route.{Route}
 use Rattle.track.specs.Codes.{exitRoute, atProceed, atStop}
@@ -46,7 +46,7 @@ routeProceeds phases r a x = eqb (phase phases r) atProceed and eqb (a .entry) x
 
 -- a main signal shows proceed: for one of the n routes
 unfoldable pub mainProceeds : ℕ → List Route → List ℕ → ℕ → Bool
-mainProceeds n rs phases x = any n (λ r. routeProceeds phases r (route rs r) x)
+mainProceeds n rs phases x = anyBelow n (λ r. routeProceeds phases r (route rs r) x)
 
 -- the block signal into block i of line l for direction w shows proceed, where there is one
 unfoldable pub blockProceeds : List Line → List ℕ → List ℕ → List ℕ → List ℕ → ℕ → ℕ → ℕ → Bool

@@ -178,19 +178,14 @@ fn mixed_codes(sum: u64, codes: &[u8]) -> u64 {
     all
 }
 
-// The sum with the codes of a table of 64.
-fn mixed_64(sum: u64, codes: [u8; 64]) -> u64 {
-    mixed_codes(sum, &codes)
-}
-
 // The sum with the codes of sections, points and routes.
 fn mixed_half(sum: u64, s: State) -> u64 {
     let section = s.section;
     let point = s.point;
     let order = s.order;
     let phase = s.phase;
-    let step = s.step;
-    let a = mixed_64(sum, section);
+    let step = s.steps;
+    let a = mixed_codes(sum, &section);
     let b = mixed_codes(a, &point);
     let c = mixed_codes(b, &order);
     let d = mixed_codes(c, &phase);
@@ -199,15 +194,15 @@ fn mixed_half(sum: u64, s: State) -> u64 {
 
 // The sum with all the codes of a state.
 fn mixed_state(sum: u64, s: State) -> u64 {
-    let second = s.second;
+    let second = s.seconds;
     let direction = s.direction;
     let stage = s.stage;
     let bar = s.bar;
     let a = mixed_half(sum, s);
     let b = mixed_codes(a, &second);
     let c = mixed_codes(b, &direction);
-    let d = mixed_64(c, stage);
-    mixed_64(d, bar)
+    let d = mixed_codes(c, &stage);
+    mixed_codes(d, &bar)
 }
 
 // Plays what the arguments name, from a state on.

@@ -3,6 +3,8 @@ use interlocking::State;
 use layout::Layout;
 use track::Line;
 use track::Route;
+use track::sizes::MOST_LINES;
+use track::sizes::MOST_TRAIN_ROUTES;
 
 // A change: record 0 the layout, 1 the state, 2 a line, 3 a route; which line or route; which field, counted from 0 as the record declares them;
 // which place, where the field is a table; the byte. A number, field or place that there is not changes nothing.
@@ -57,14 +59,14 @@ fn changed_routes(given: State, c: Change) -> State {
         t.phase = xs;
     }
     if c.field == 4 {
-        let mut xs = given.step;
+        let mut xs = given.steps;
         put(&mut xs, c.place, c.byte);
-        t.step = xs;
+        t.steps = xs;
     }
     if c.field == 5 {
-        let mut xs = given.second;
+        let mut xs = given.seconds;
         put(&mut xs, c.place, c.byte);
-        t.second = xs;
+        t.seconds = xs;
     }
     t
 }
@@ -236,7 +238,7 @@ fn changed_tables(given: Layout, c: Change) -> Layout {
 
 // A layout with a line changed.
 fn changed_at_line(plan: Layout, c: Change) -> Layout {
-    if 8 <= c.number {
+    if MOST_LINES <= c.number {
         return plan;
     }
     let mut lines = plan.line;
@@ -250,7 +252,7 @@ fn changed_at_line(plan: Layout, c: Change) -> Layout {
 
 // A layout with a route changed.
 fn changed_at_route(plan: Layout, c: Change) -> Layout {
-    if 48 <= c.number {
+    if MOST_TRAIN_ROUTES <= c.number {
         return plan;
     }
     let mut routes = plan.route;

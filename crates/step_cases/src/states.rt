@@ -4,9 +4,19 @@ use super::text::put_codes;
 use check::same;
 use interlocking::State;
 use layout::Layout;
+use track::sizes::BLOCKS;
+use track::sizes::PLACES;
+use track::sizes::ROUTES;
+use track::sizes::SECTIONS;
+use track::sizes::TRAIN_ROUTES;
 
-// Whether two tables of 64 are the same.
-fn same64(a: [u8; 64], b: [u8; 64]) -> bool {
+// Whether two tables of sections are the same.
+fn same_sections(a: [u8; SECTIONS], b: [u8; SECTIONS]) -> bool {
+    same(&a, &b)
+}
+
+// Whether two tables of blocks are the same.
+fn same_blocks(a: [u8; PLACES], b: [u8; PLACES]) -> bool {
     same(&a, &b)
 }
 
@@ -18,17 +28,17 @@ fn same_readings(s: State, t: State) -> bool {
     let section_then = t.section;
     let point_then = t.point;
     let order_then = t.order;
-    same64(section, section_then) && same(&point, &point_then) && same(&order, &order_then)
+    same_sections(section, section_then) && same(&point, &point_then) && same(&order, &order_then)
 }
 
 // Whether routes are the same in two states.
 fn same_routes(s: State, t: State) -> bool {
     let phase = s.phase;
-    let step = s.step;
-    let second = s.second;
+    let step = s.steps;
+    let second = s.seconds;
     let phase_then = t.phase;
-    let step_then = t.step;
-    let second_then = t.second;
+    let step_then = t.steps;
+    let second_then = t.seconds;
     same(&phase, &phase_then) && same(&step, &step_then) && same(&second, &second_then)
 }
 
@@ -40,7 +50,9 @@ fn same_lines(s: State, t: State) -> bool {
     let direction_then = t.direction;
     let stage_then = t.stage;
     let bar_then = t.bar;
-    same(&direction, &direction_then) && same64(stage, stage_then) && same64(bar, bar_then)
+    same(&direction, &direction_then)
+        && same_blocks(stage, stage_then)
+        && same_blocks(bar, bar_then)
 }
 
 // Whether two states are the same.
@@ -48,13 +60,29 @@ pub fn same_states(s: State, t: State) -> bool {
     same_readings(s, t) && same_routes(s, t) && same_lines(s, t)
 }
 
-// Puts the first n codes of a table of 48, each in so many digits.
-fn put48(line: &mut [u8], at: usize, codes: [u8; 48], n: usize, digits: u8) -> usize {
+// Puts the first n codes of a table of sections.
+fn put_sections(line: &mut [u8], at: usize, codes: [u8; SECTIONS], n: usize) -> usize {
+    put_codes(line, at, &codes, n, 1)
+}
+
+// Puts the first n phases.
+fn put_phases(line: &mut [u8], at: usize, codes: [u8; ROUTES], n: usize) -> usize {
+    put_codes(line, at, &codes, n, 1)
+}
+
+// Puts the first n steps or seconds of train routes, each in so many digits.
+fn put_of_routes(
+    line: &mut [u8],
+    at: usize,
+    codes: [u8; TRAIN_ROUTES],
+    n: usize,
+    digits: u8,
+) -> usize {
     put_codes(line, at, &codes, n, digits)
 }
 
-// Puts the first n codes of a table of 64.
-fn put64(line: &mut [u8], at: usize, codes: [u8; 64], n: usize) -> usize {
+// Puts the first n codes of a table of blocks.
+fn put_blocks(line: &mut [u8], at: usize, codes: [u8; PLACES], n: usize) -> usize {
     put_codes(line, at, &codes, n, 1)
 }
 
@@ -63,7 +91,7 @@ fn put_readings(line: &mut [u8], at: usize, plan: Layout, s: State) -> usize {
     let section = s.section;
     let point = s.point;
     let order = s.order;
-    let a = put64(line, at, section, size(plan.sections));
+    let a = put_sections(line, at, section, size(plan.sections));
     let b = put_codes(line, a, &point, size(plan.points), 1);
     put_codes(line, b, &order, size(plan.points), 1)
 }
@@ -71,23 +99,23 @@ fn put_readings(line: &mut [u8], at: usize, plan: Layout, s: State) -> usize {
 // Puts the phases of its routes, their steps, and their seconds in two digits.
 fn put_routes(line: &mut [u8], at: usize, plan: Layout, s: State) -> usize {
     let phase = s.phase;
-    let step = s.step;
-    let second = s.second;
+    let step = s.steps;
+    let second = s.seconds;
     let n = size(plan.routes);
-    let a = put48(line, at, phase, n, 1);
-    let b = put48(line, a, step, n, 1);
-    put48(line, b, second, n, 2)
+    let a = put_phases(line, at, phase, n);
+    let b = put_of_routes(line, a, step, n, 1);
+    put_of_routes(line, b, second, n, 2)
 }
 
-// Puts the directions of its lines, and the stages and bars of eight blocks for each.
+// Puts the directions of its lines, and the stages and bars of all places of blocks of each.
 fn put_lines(line: &mut [u8], at: usize, plan: Layout, s: State) -> usize {
     let direction = s.direction;
     let stage = s.stage;
     let bar = s.bar;
     let n = size(plan.lines);
     let a = put_codes(line, at, &direction, n, 1);
-    let b = put64(line, a, stage, 8 * n);
-    put64(line, b, bar, 8 * n)
+    let b = put_blocks(line, a, stage, BLOCKS * n);
+    put_blocks(line, b, bar, BLOCKS * n)
 }
 
 // Puts a state, as far as the layout has objects.

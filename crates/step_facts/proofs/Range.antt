@@ -14,6 +14,7 @@ use Rattle.laws.proofs.Choice.{if-both}
 use Rattle.laws.proofs.Each.{each-at, each-past}
 use Rattle.layout_facts.proofs.Means.{lastly, _also_, _&_, every-means, all-means}
 use Rattle.layout_facts.proofs.Lists.{between-means}
+use Rattle.track.specs.Sizes.{mostSections, mostPoints, mostLines, mostPlaces, mostTrainRoutes, mostRoutes}
 use Rattle.interlocking.specs.declared.State.{State}
 use Rattle.interlocking.specs.State.{cold, codes, routesAndLinesInRange, inRange, withSections, withPoints, withRoutes, withLines, withBars}
 use Rattle.step_facts.specs.Range.{In, Within, InRange, Sections, Points, Orders, Phases, Steps, Seconds, Directions, Stages, Bars}
@@ -27,12 +28,12 @@ codes-means n low high xs = Iff·trans (all-means (λ i l. between-means _ _ _))
 
 -- a state's nine tables, each in its range
 abbrev Ranged : State → Type 0
-Ranged s = Sections (s .section) × Points (s .point) × Orders (s .order) × Phases (s .phase) × Steps (s .step) × Seconds (s .second)
+Ranged s = Sections (s .section) × Points (s .point) × Orders (s .order) × Phases (s .phase) × Steps (s .steps) × Seconds (s .seconds)
     × Directions (s .direction) × Stages (s .stage) × Bars (s .bar)
 
 -- then it is in range
 ranged : {s : State} → Ranged s → InRange s
-ranged t = record { section = t .0; point = t .1; order = t .2; phase = t .3; step = t .4; second = t .5; direction = t .6; stage = t .7; bar = t .8 }
+ranged t = record { section = t .0; point = t .1; order = t .2; phase = t .3; steps = t .4; seconds = t .5; direction = t .6; stage = t .7; bar = t .8 }
 
 -- each table of a state
 pub inRange-means : (s : State) → inRange s ≡ true ↔ InRange s
@@ -44,7 +45,7 @@ inRange-means s =
     also lastly (codes-means _ _ _ _))))) (
       λ (section, (point, (order, (phase, (step, (second, (direction, (stage, bar)))))))).
           ranged (section, point, order, phase, step, second, direction, stage, bar),
-      λ r. r .section & r .point & r .order & r .phase & r .step & r .second & r .direction & r .stage & r .bar,
+      λ r. r .section & r .point & r .order & r .phase & r .steps & r .seconds & r .direction & r .stage & r .bar,
     )
 
 -- ---- tables
@@ -78,15 +79,15 @@ alike-within n low high v h = record { entry = λ i b. rw (getD-replicate n i v 
 cold-ranges : InRange cold
 unfolding cold
 cold-ranges = record {
-  section = alike-within 64 1 3 3 (omega arith);
-  point = alike-within 32 1 3 3 (omega arith);
-  order = alike-within 32 0 2 0 (omega arith);
-  phase = alike-within 48 0 3 0 (omega arith);
-  step = alike-within 48 0 3 0 (omega arith);
-  second = alike-within 48 0 89 0 (omega arith);
-  direction = alike-within 8 0 2 0 (omega arith);
-  stage = alike-within 64 0 3 1 (omega arith);
-  bar = alike-within 64 0 1 0 (omega arith);
+  section = alike-within mostSections 1 3 3 (omega arith);
+  point = alike-within mostPoints 1 3 3 (omega arith);
+  order = alike-within mostPoints 0 2 0 (omega arith);
+  phase = alike-within mostRoutes 0 3 0 (omega arith);
+  steps = alike-within mostTrainRoutes 0 3 0 (omega arith);
+  seconds = alike-within mostTrainRoutes 0 89 0 (omega arith);
+  direction = alike-within mostLines 0 2 0 (omega arith);
+  stage = alike-within mostPlaces 0 3 1 (omega arith);
+  bar = alike-within mostPlaces 0 1 0 (omega arith);
 }
 
 -- the cold start is in range
@@ -97,12 +98,12 @@ module _ {s : State} (R : InRange s) where
   -- with its readings of sections and its stages made anew
   pub sections-range : {section stage : List ℕ} → Sections section → Stages stage → InRange (withSections s section stage)
   unfolding withSections
-  sections-range g k = ranged (g, R .point, R .order, R .phase, R .step, R .second, R .direction, k, R .bar)
+  sections-range g k = ranged (g, R .point, R .order, R .phase, R .steps, R .seconds, R .direction, k, R .bar)
 
   -- with its readings of points and its orders made anew
   pub points-range : {point order : List ℕ} → Points point → Orders order → InRange (withPoints s point order)
   unfolding withPoints
-  points-range p o = ranged (R .section, p, o, R .phase, R .step, R .second, R .direction, R .stage, R .bar)
+  points-range p o = ranged (R .section, p, o, R .phase, R .steps, R .seconds, R .direction, R .stage, R .bar)
 
   -- with what it holds of routes made anew
   pub routes-range : {phase step second : List ℕ} → Phases phase → Steps step → Seconds second → InRange (withRoutes s phase step second)
@@ -112,9 +113,9 @@ module _ {s : State} (R : InRange s) where
   -- with its directions and its stages made anew
   pub lines-range : {direction stage : List ℕ} → Directions direction → Stages stage → InRange (withLines s direction stage)
   unfolding withLines
-  lines-range d k = ranged (R .section, R .point, R .order, R .phase, R .step, R .second, d, k, R .bar)
+  lines-range d k = ranged (R .section, R .point, R .order, R .phase, R .steps, R .seconds, d, k, R .bar)
 
   -- with its bars made anew
   pub bars-range : {bar : List ℕ} → Bars bar → InRange (withBars s bar)
   unfolding withBars
-  bars-range b = ranged (R .section, R .point, R .order, R .phase, R .step, R .second, R .direction, R .stage, b)
+  bars-range b = ranged (R .section, R .point, R .order, R .phase, R .steps, R .seconds, R .direction, R .stage, b)

@@ -7,14 +7,18 @@ use borrow.Author.Tests.{ltb-true}
 use Rattle.laws.proofs.Choice.{if-both}
 use Rattle.track.specs.declared.Line.{Line}
 use Rattle.track.specs.declared.Route.{Route}
+use Rattle.track.specs.Signal.{Signal}
 use Rattle.signals.specs.Signals.{fallen}
 use Rattle.passage.specs.Passage.{farStage}
-use Rattle.release.specs.declared.Gives.{Gives}
-use Rattle.release.specs.declared.Held.{Held}
-use Rattle.release.specs.Release.{earlyStep, stepFrom, stepAfter, secondsAfter, heldAfter}
+use Rattle.tables.specs.declared.Gives.{Gives}
+use Rattle.release.specs.declared.Locking.{Locking}
+use Rattle.release.specs.declared.WatchedPair.{WatchedPair}
+use Rattle.release.specs.Release.{stepsAfter, secondsAfter, lockingAfter}
+use Rattle.line_block.specs.FarSections.{farMoved, farStageAt, farStages}
+use Rattle.line_block.specs.LineRelease.{directionAfter, directionsAfter}
 use Rattle.layout.specs.declared.Layout.{Layout}
 use Rattle.interlocking.specs.declared.State.{State}
-use Rattle.interlocking.specs.Settle.{fallenAt, signals, farMoved, farAfter, farSections, heldOf, routeAfter, unlessIdle, routesBy, routes, directionAfter, lineRelease, settle}
+use Rattle.interlocking.specs.Settle.{fallenAt, signals, farSections, lockingOf, routeAfter, unlessIdle, routesBy, routes, lineRelease, settle}
 use Rattle.step_facts.specs.Range.{In, InRange}
 use Rattle.step_facts.proofs.Range.{each-within, read-within, routes-range, lines-range}
 
@@ -28,7 +32,7 @@ fallen-in ls rs s r was h = if-both (In 0 3) _ (λ t. if-both (In 0 3) _ (λ u. 
 -- so the phases stay in range
 signals-range : (L : Layout) {s : State} → InRange s → InRange (signals L s)
 unfolding signals
-signals-range L {s} R = routes-range R (each-within (R .phase) _ _ (fallen-in (L .line) (L .route) s)) (R .step) (R .second)
+signals-range L {s} R = routes-range R (each-within (R .phase) _ _ (fallen-in (L .line) (L .route) s)) (R .steps) (R .seconds)
 
 -- ---- far sections
 
@@ -40,56 +44,51 @@ far-stage-in far dropped was h =
     (λ t. if-both (In 0 3) _ (λ u. if-both (In 0 3) _ (λ x. omega arith) (λ x. omega arith)) (λ u. h))
 
 -- so too by the direction of its line: in neutral the stage stays
-far-in : (directions : List ℕ) (far : ℕ → ℕ → ℕ → ℕ) (dropped : ℕ → ℕ → ℕ → Bool) (k was : ℕ) → In 0 3 was → In 0 3 (farAfter directions far dropped k was)
-unfolding farAfter farMoved
-far-in directions far dropped k was h = if-both (In 0 3) _ (λ t. h) (λ t. far-stage-in _ _ was h)
+far-in : (ls : List Line) (directions sections : List ℕ) (before after : Signal → Bool) (k was : ℕ) → In 0 3 was
+    → In 0 3 (farStageAt ls directions sections before after k was)
+unfolding farStageAt farMoved
+far-in ls directions sections before after k was h = if-both (In 0 3) _ (λ t. h) (λ t. far-stage-in _ _ was h)
 
 -- so the stages stay in range
 far-range : (L : Layout) (before : State) {s : State} → InRange s → InRange (farSections L before s)
-unfolding farSections
-far-range L before {s} R = lines-range R (R .direction) (each-within (R .stage) _ _ (far-in _ _ _))
+unfolding farSections farStages
+far-range L before {s} R = lines-range R (R .direction) (each-within (R .stage) _ _ (far-in _ _ _ _ _))
 
 -- ---- routes
 
--- phase, step and seconds of one route
-record HeldIn (h : Held) : Type 0 where
+-- phase, steps and seconds of one route
+record LockingIn (h : Locking) : Type 0 where
   phase : In 0 3 (h .phase)
-  step : In 0 3 (h .step)
-  second : In 0 89 (h .second)
+  steps : In 0 3 (h .steps)
+  seconds : In 0 89 (h .seconds)
 
--- before the second step, whatever was given
-early-in : (step gave1 gave2 reads1 : ℕ) → In 0 3 (earlyStep step gave1 gave2 reads1)
-unfolding earlyStep
-early-in step gave1 gave2 reads1 =
-    if-both (In 0 3) _ (λ t. if-both (In 0 3) _ (λ u. omega arith) (λ u. if-both (In 0 3) _ (λ x. omega arith) (λ x. omega arith)))
-    (λ t. if-both (In 0 3) _ (λ u. omega arith) (λ u. omega arith))
-
--- and at any: the step done is one of three, or none
-step-in : (step gave1 gave2 reads1 reads2 : ℕ) → In 0 3 (stepFrom step gave1 gave2 reads1 reads2)
-unfolding stepFrom
-step-in step gave1 gave2 reads1 reads2 =
+-- the steps done are one of three, or none: each line of the table says so
+steps-in : (w : WatchedPair) (steps : ℕ) → In 0 3 (stepsAfter w steps)
+unfolding stepsAfter
+steps-in w steps =
     if-both (In 0 3) _ (λ t. omega arith) (λ t. if-both (In 0 3) _ (λ u. omega arith)
-    (λ u. if-both (In 0 3) _ (λ x. if-both (In 0 3) _ (λ y. omega arith) (λ y. omega arith)) (λ x. early-in step gave1 gave2 reads1)))
+    (λ u. if-both (In 0 3) _ (λ x. if-both (In 0 3) _ (λ y. omega arith) (λ y. omega arith)) (λ x. if-both (In 0 3) _ (λ y. omega arith)
+    (λ y. if-both (In 0 3) _ (λ z. if-both (In 0 3) _ (λ v. omega arith) (λ v. omega arith)) (λ z. if-both (In 0 3) _ (λ v. omega arith) (λ v. omega arith))))))
 
 -- no second is counted past 89: the 90th releases the route
-seconds-in : (e : Gives) (phase second : ℕ) → In 0 89 second → In 0 89 (secondsAfter e phase second)
+seconds-in : (e : Gives) (phase seconds : ℕ) → In 0 89 seconds → In 0 89 (secondsAfter e phase seconds)
 unfolding secondsAfter
-seconds-in e phase second h = if-both (In 0 89) _ (λ t. if-both (In 0 89) _ (λ u. omega (arith, ltb-true)) (λ u. h)) (λ t. h)
+seconds-in e phase seconds h = if-both (In 0 89) _ (λ t. if-both (In 0 89) _ (λ u. omega (arith, ltb-true)) (λ u. h)) (λ t. h)
 
--- phase, step and seconds stay in range: a route that goes is idle with 0 and 0, one that stays keeps its phase
-held-in : (ls : List Line) (sections : List ℕ) (a : Route) (e : Gives) (h : Held) → HeldIn h → HeldIn (heldAfter ls sections a e h)
-unfolding heldAfter stepAfter
-held-in ls sections a e h H =
-    if-both HeldIn _ (λ t. record { phase = omega arith; step = omega arith; second = omega arith })
-    (λ t. record { phase = H .phase; step = step-in _ _ _ _ _; second = seconds-in e _ _ (H .second) })
+-- phase, steps and seconds stay in range: a route that goes is idle with 0 and 0, one that stays keeps its phase
+locking-in : (ls : List Line) (sections : List ℕ) (a : Route) (e : Gives) (h : Locking) → LockingIn h → LockingIn (lockingAfter ls sections a e h)
+unfolding lockingAfter
+locking-in ls sections a e h H =
+    if-both LockingIn _ (λ t. record { phase = omega arith; steps = omega arith; seconds = omega arith })
+    (λ t. record { phase = H .phase; steps = steps-in _ _; seconds = seconds-in e _ _ (H .seconds) })
 
 -- what becomes of what the state holds of a route
-route-in : (ls : List Line) (rs : List Route) {s : State} (e : Gives) (r : ℕ) → InRange s → HeldIn (routeAfter ls rs s e r)
-unfolding routeAfter heldOf
-route-in ls rs {s} e r R = held-in ls (s .section) _ e _ (record {
+route-in : (ls : List Line) (rs : List Route) {s : State} (e : Gives) (r : ℕ) → InRange s → LockingIn (routeAfter ls rs s e r)
+unfolding routeAfter lockingOf
+route-in ls rs {s} e r R = locking-in ls (s .section) _ e _ (record {
   phase = read-within (R .phase) 0 r (omega arith);
-  step = read-within (R .step) 0 r (omega arith);
-  second = read-within (R .second) 0 r (omega arith);
+  steps = read-within (R .steps) 0 r (omega arith);
+  seconds = read-within (R .seconds) 0 r (omega arith);
 })
 
 -- an idle route stays as it is
@@ -102,8 +101,8 @@ routes-after-range : (L : Layout) {s : State} (e : Gives) → InRange s → InRa
 unfolding routes routesBy
 routes-after-range L {s} e R =
     routes-range R (each-within (R .phase) _ _ (λ r was h. unless-in s r was _ 0 3 h (route-in (L .line) (L .route) e r R .phase)))
-    (each-within (R .step) _ _ (λ r was h. unless-in s r was _ 0 3 h (route-in (L .line) (L .route) e r R .step)))
-    (each-within (R .second) _ _ (λ r was h. unless-in s r was _ 0 89 h (route-in (L .line) (L .route) e r R .second)))
+    (each-within (R .steps) _ _ (λ r was h. unless-in s r was _ 0 3 h (route-in (L .line) (L .route) e r R .steps)))
+    (each-within (R .seconds) _ _ (λ r was h. unless-in s r was _ 0 89 h (route-in (L .line) (L .route) e r R .seconds)))
 
 -- ---- line release
 
@@ -114,8 +113,8 @@ direction-in ended l was h = if-both (In 0 2) _ (λ t. h) (λ t. if-both (In 0 2
 
 -- so the directions stay in range
 release-range : (L : Layout) (before : State) {s : State} → InRange s → InRange (lineRelease L before s)
-unfolding lineRelease
-release-range L before {s} R = lines-range R (each-within (R .direction) _ _ (direction-in _)) (R .stage)
+unfolding lineRelease directionsAfter
+release-range L before {s} R = lines-range R (each-within (R .direction) _ _ (λ l. direction-in _ l)) (R .stage)
 
 -- ---- all that follows
 

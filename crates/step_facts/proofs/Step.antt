@@ -4,61 +4,77 @@ use mathlib.Core.Path.{_≡_, refl, sym, ap, _∙_}
 use mathlib.Core.Bool.{Bool, true, false}
 use mathlib.Core.Logic.{_↔_}
 use native.Mathlib.Omega.{arith}
-use borrow.Author.Tests.{eqb-true, eqb-false, le-leb}
+use native.Mathlib.Decide.{ℕ-discrete}
+use borrow.Author.Tests.{eq-eqb, ne-eqb, le-leb}
+use lib.Dec.{eqb}
 use Rattle.laws.specs.Choice.{if_then_else_}
 use Rattle.laws.specs.Tests.{_and_}
-use Rattle.laws.proofs.Choice.{if-both}
 use Rattle.laws.proofs.Tests.{and-left, and-right, and-both, fails-from}
 use Rattle.layout_facts.proofs.Sound.{sound-says}
+use Rattle.track.specs.Sizes.{mostLines, mostTrainRoutes}
 use Rattle.layout.specs.declared.Layout.{Layout}
 use Rattle.layout.specs.Sound.{sound}
 use Rattle.interlocking.specs.declared.State.{State}
 use Rattle.interlocking.specs.declared.Answer.{Answer}
 use Rattle.interlocking.specs.State.{inRange}
-use Rattle.interlocking.specs.Step.{refusal, meant, after, refusedBy, answer, stepWhere, step, askedInRun, stepInRun}
+use Rattle.interlocking.specs.Step.{rowRefusal, moves, stays, tried, followed, answeredBy, stepWhere, step, askedInRun, stepInRun, refusal, own, gives, after}
+use Rattle.interlocking.specs.Rows.{rowOf}
+use Rattle.interlocking.proofs.Rows.{row-of}
 use Rattle.step_facts.specs.Range.{InRange}
 use Rattle.step_facts.proofs.Range.{inRange-means}
 use Rattle.step_facts.proofs.Own.{own-range}
 use Rattle.step_facts.proofs.Settle.{settle-range}
-use Rattle.step_facts.proofs.Refusals.{passed-says, sound-number, unsound-refused}
+use Rattle.step_facts.proofs.Refusals.{second-right, sound-number, unsound-refused}
 
 -- ---- done or refused
 
 -- the two ways in which an event ends where soundness was asked
 pub data Ending (isSound : Bool) (L : Layout) (s : State) (k a b : ℕ) : Answer → Type 0 where
-  done : refusal isSound L s k a b .number ≡ 0 → Ending isSound L s k a b (record { number = 0; detail = 0; next = after L s k a (meant k b) })
+  done : refusal isSound L s k a b .number ≡ 0 → Ending isSound L s k a b (record { number = 0; detail = 0; next = after L s k a b })
   refused-by : (refusal isSound L s k a b .number ≡ 0 → ⊥)
-      → Ending isSound L s k a b (refusedBy (refusal isSound L s k a b) s)
+      → Ending isSound L s k a b (record { number = refusal isSound L s k a b .number; detail = refusal isSound L s k a b .detail; next = s })
+
+-- nothing is refused: the event is done, and what follows
+pub step-done : (isSound : Bool) (L : Layout) (s : State) (k a b : ℕ) → refusal isSound L s k a b .number ≡ 0
+    → stepWhere isSound L s k a b ≡ record { number = 0; detail = 0; next = after L s k a b }
+unfolding stepWhere answeredBy followed tried moves refusal own gives after if_then_else_
+step-done isSound L s k a b p = let z : eqb (rowRefusal isSound a (rowOf L s k a b) .number) 0 ≡ true = eq-eqb _ 0 p in rw z
+
+-- something is: the answer is the refusal, with the state as it was
+pub step-refused : (isSound : Bool) (L : Layout) (s : State) (k a b : ℕ) → (refusal isSound L s k a b .number ≡ 0 → ⊥)
+    → stepWhere isSound L s k a b ≡ record { number = refusal isSound L s k a b .number; detail = refusal isSound L s k a b .detail; next = s }
+unfolding stepWhere answeredBy followed tried stays refusal if_then_else_
+step-refused isSound L s k a b p = let z : eqb (rowRefusal isSound a (rowOf L s k a b) .number) 0 ≡ false = ne-eqb _ 0 p in rw (z, z)
 
 -- it ends in one of them
 pub ending : (isSound : Bool) (L : Layout) (s : State) (k a b : ℕ) → Ending isSound L s k a b (stepWhere isSound L s k a b)
-unfolding stepWhere answer
-ending isSound L s k a b = if-both (Ending isSound L s k a b) _ (λ t. done (eqb-true _ 0 t)) (λ t. refused-by (eqb-false _ 0 t))
+ending isSound L s k a b = go (ℕ-discrete (refusal isSound L s k a b .number) 0)
+  where
+    go : Dec (refusal isSound L s k a b .number ≡ 0) → Ending isSound L s k a b (stepWhere isSound L s k a b)
+    go (yes p) = rw (step-done isSound L s k a b p) (done p)
+    go (no p) = rw (step-refused isSound L s k a b p) (refused-by p)
 
 -- what each ending says of the answer r
 module _ {isSound : Bool} {L : Layout} {s : State} {k a b : ℕ} where
   -- only a done event moves the state
   ended-kept : {r : Answer} → Ending isSound L s k a b r → (r .number ≡ 0 → ⊥) → r .next ≡ s
-  unfolding refusedBy
   ended-kept (done e) p = absurd (p refl)
   ended-kept (refused-by e) p = refl
 
   -- a done event's detail is 0, and no refusal's number is
   ended-detail : {r : Answer} → Ending isSound L s k a b r → r .number ≡ 0 → r .detail ≡ 0
-  unfolding refusedBy
   ended-detail (done e) p = refl
   ended-detail (refused-by e) p = absurd (e p)
 
   -- the number is 0 or the refusal's
   ended-number : {r : Answer} → Ending isSound L s k a b r → refusal isSound L s k a b .number ≤ 17 → r .number ≤ 17
-  unfolding refusedBy
   ended-number (done e) h = omega arith
   ended-number (refused-by e) h = h
 
   -- the own effect of an accepted event and what follows from it keep the state in range
   ended-range : {r : Answer} → Ending isSound L s k a b r → InRange s → InRange (r .next)
-  unfolding after refusedBy
-  ended-range (done e) R = settle-range L s _ (own-range L R a _ k (passed-says isSound L s k a b e))
+  unfolding after own
+  ended-range (done e) R = settle-range L s _ (own-range L R k a b (row-of L s k a b) (second-right isSound L s k a b e))
   ended-range (refused-by e) R = R
 
 -- a refusal leaves the state as it was
@@ -83,8 +99,10 @@ module _ (L : Layout) (s : State) (k a b : ℕ) where
 
   -- a layout that breaks section 2, or a state with a code outside its range, gets 18 with detail 0, whatever the event
   pub unsound-18 : sound L and inRange s ≡ false → step L s k a b ≡ record { number = 18; detail = 0; next = s }
-  unfolding step stepWhere answer refusedBy if_then_else_
-  unsound-18 e = let p = unsound-refused L s k a b in rw (e, p .0, p .1)
+  unfolding step
+  unsound-18 e =
+      let p = unsound-refused L s k a b in
+      rw (e, step-refused false L s k a b (λ z. let y : 18 ≡ 0 = sym (p .0) ∙ z in omega arith), p .0, p .1)
 
   -- a sound layout and a state in range never do: the answer is one of 0 to 17
   pub sound-numbers : sound L ≡ true → inRange s ≡ true → step L s k a b .number ≤ 17
@@ -105,4 +123,4 @@ module _ (L : Layout) (s : State) (k a b : ℕ) where
   unfolding step stepInRun askedInRun
   run-step-same h e =
       let R = sound-says L h .ranges in
-      ap (λ t. stepWhere t L s k a b) (and-both _ _ (le-leb _ 8 (R .lineCount)) (and-both _ _ (le-leb _ 48 (R .routeCount)) (le-leb 1 _ (R .sectionCount .0))) ∙ sym (and-both _ _ h e))
+      ap (λ t. stepWhere t L s k a b) (and-both _ _ (le-leb _ mostLines (R .lineCount)) (and-both _ _ (le-leb _ mostTrainRoutes (R .routeCount)) (le-leb 1 _ (R .sectionCount .0))) ∙ sym (and-both _ _ h e))

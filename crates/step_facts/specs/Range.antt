@@ -2,7 +2,8 @@
 use Prim.Native.Nat.{ℕ, _<_, _≤_}
 use mathlib.Core.List.{List}
 use lib.ListN.{getD}
-use Rattle.track.specs.Codes.{free, left, right, none, neutral, bToA, openBlock, stage2, idle, cancelling}
+use Rattle.track.specs.Codes.{free, left, right, readsNone, neutral, bToA, openBlock, stage2, idle, cancelling}
+use Rattle.track.specs.Sizes.{mostSections, mostPoints, mostLines, mostPlaces, mostTrainRoutes, mostRoutes}
 use Rattle.interlocking.specs.declared.State.{State}
 
 -- x lies in low .. high
@@ -15,39 +16,39 @@ pub record Within (n low high : ℕ) (xs : List ℕ) : Type 0 where
 
 -- what sections read (section 1)
 abbrev pub Sections : List ℕ → Type 0
-Sections xs = Within 64 free none xs
+Sections xs = Within mostSections free readsNone xs
 
 -- what points read (section 1)
 abbrev pub Points : List ℕ → Type 0
-Points xs = Within 32 left none xs
+Points xs = Within mostPoints left readsNone xs
 
 -- orders: 0 for none, left, right (section 3)
 abbrev pub Orders : List ℕ → Type 0
-Orders xs = Within 32 0 right xs
+Orders xs = Within mostPoints 0 right xs
 
 -- phases of routes (sections 4 and 6)
 abbrev pub Phases : List ℕ → Type 0
-Phases xs = Within 48 idle cancelling xs
+Phases xs = Within mostRoutes idle cancelling xs
 
 -- the steps done of letting a route go, 0..3 (section 6)
 abbrev pub Steps : List ℕ → Type 0
-Steps xs = Within 48 0 3 xs
+Steps xs = Within mostTrainRoutes 0 3 xs
 
 -- the seconds of cancelling, 0..89 (section 6)
 abbrev pub Seconds : List ℕ → Type 0
-Seconds xs = Within 48 0 89 xs
+Seconds xs = Within mostTrainRoutes 0 89 xs
 
 -- directions of lines (section 5)
 abbrev pub Directions : List ℕ → Type 0
-Directions xs = Within 8 neutral bToA xs
+Directions xs = Within mostLines neutral bToA xs
 
 -- stages of blocks (section 5)
 abbrev pub Stages : List ℕ → Type 0
-Stages xs = Within 64 openBlock stage2 xs
+Stages xs = Within mostPlaces openBlock stage2 xs
 
 -- bars, 0 or 1 (section 3)
 abbrev pub Bars : List ℕ → Type 0
-Bars xs = Within 64 0 1 xs
+Bars xs = Within mostPlaces 0 1 xs
 
 -- each table has codes that there are
 pub record InRange (s : State) : Type 0 where
@@ -55,8 +56,8 @@ pub record InRange (s : State) : Type 0 where
   pub point : Points (s .point)
   pub order : Orders (s .order)
   pub phase : Phases (s .phase)
-  pub step : Steps (s .step)
-  pub second : Seconds (s .second)
+  pub steps : Steps (s .steps)
+  pub seconds : Seconds (s .seconds)
   pub direction : Directions (s .direction)
   pub stage : Stages (s .stage)
   pub bar : Bars (s .bar)

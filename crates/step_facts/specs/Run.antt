@@ -17,26 +17,6 @@ pub record Event : Type 0 where
 abbrev pub event : ℕ → ℕ → ℕ → Event
 event k a b = record { kind = k; first = a; second = b }
 
--- ---- section 3: the kinds of events that statements name
-
-abbrev pub sectionReading : ℕ
-sectionReading = 1
-
-abbrev pub setRoute : ℕ
-setRoute = 4
-
-abbrev pub cancelRoute : ℕ
-cancelRoute = 5
-
-abbrev pub manualRelease : ℕ
-manualRelease = 7
-
-abbrev pub unbar : ℕ
-unbar = 9
-
-abbrev pub oneSecond : ℕ
-oneSecond = 10
-
 -- ---- runs
 
 -- the box on layout L: in each state, for each event, an answer with the next state

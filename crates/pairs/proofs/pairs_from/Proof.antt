@@ -3,7 +3,7 @@ use Prim.Native.Nat.{_-_}
 use borrow.Author.Needs.{needs}
 use Rattle.laws.proofs.Loops.{Turned, iters}
 use Rattle.pairs.proofs.Laws.{pair-place, pair-mirror, pair-turned, pairs-read}
-use Rattle.pairs.specs.Pairs.{pairTurn}
+use Rattle.pairs.specs.Pairs.{noPair, pairTurn}
 use Rattle.pairs.proofs.pairs_from.Statement.{statement}
 use Rattle.pairs.proofs.pairs_from.Tie as tie
 
@@ -16,4 +16,5 @@ abbrev μ-loop : tie.MeasureT-loop
 μ-loop s routes count conflict₀ cur₀ last₀ i₀ conflict cur last i = count - i
 
 pub pairs-from-spec : {M : Type 1} → statement M
-pairs-from-spec = tie.close (tie.spec Inv-loop μ-loop (λ c κs. search iters) (λ c. search iters) (λ c κs. search iters) (λ c. search (needs, pair-place)) (λ c. search (needs, pair-mirror)) (λ c. search iters) (λ c. search iters) (λ c. search (iters, pair-turned)) (λ c. search (needs, pairs-read)))
+unfolding noPair
+pairs-from-spec = tie.close (tie.spec Inv-loop μ-loop (λ c κs. search iters) (λ c. search iters) (λ c κs. search iters) (λ c κs. search iters) (λ c κs. search iters) (λ c. search (needs, pair-place, pair-mirror)) (λ c. search (needs, pair-place, pair-mirror)) (λ c. search iters) (λ c. search iters) (λ c. search (iters, pair-turned)) (λ c. search (needs, pairs-read)))

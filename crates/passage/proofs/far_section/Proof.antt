@@ -1,8 +1,9 @@
--- Where the station comes next, its inner section; else the next block's section.
+-- The section of what lies beyond.
 use borrow.Author.Needs.{needs}
-use Rattle.passage.proofs.Laws.{far-station, far-block}
+use Rattle.passage.specs.Passage.{farSection}
 use Rattle.passage.proofs.far_section.Statement.{statement}
 use Rattle.passage.proofs.far_section.Tie as tie
 
 pub far-section-spec : {M : Type 1} → statement M
-far-section-spec = tie.close (tie.spec (λ c κs. search (needs, far-station, far-block)) (λ c κs. search (needs, far-station, far-block)) (λ c κs. search (needs, far-station, far-block)) (λ c. search (needs, far-station, far-block)) (λ c κs. search (needs, far-station, far-block)) (λ c. search (needs, far-station, far-block)))
+unfolding farSection
+far-section-spec = tie.close (tie.spec (λ c κs. search needs) (λ c κs. search needs) (λ c. cc))

@@ -7,4 +7,4 @@ use Rattle.release.proofs.is_vacated.Tie as tie
 
 pub is-vacated-spec : {M : Type 1} → statement M
 unfolding vacated implies _and_
-is-vacated-spec = tie.close (tie.spec (λ c κs. search needs) (λ c κs. search needs) (λ c κs. search needs) (λ c κs. search needs) (λ c. cc))
+is-vacated-spec = tie.close (tie.spec (λ c κs. search needs) (λ c κs. search needs) (λ c κs. search needs) (λ c. cc))

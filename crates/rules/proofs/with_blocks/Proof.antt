@@ -1,4 +1,4 @@
--- The set is united with that of the line's own blocks.
+-- The set is united with that of the sections of the line's blocks.
 use borrow.Author.Needs.{needs}
 use Rattle.rules.specs.Sets.{lineBlocks}
 use Rattle.rules.proofs.with_blocks.Statement.{statement}

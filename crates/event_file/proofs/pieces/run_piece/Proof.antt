@@ -8,8 +8,10 @@ use borrow.Author.Needs.{needs}
 use lib.ListN.{length}
 use Rattle.laws.specs.Tables.{iter}
 use Rattle.step_facts.specs.Run.{boxInRun}
+use Rattle.event_file.specs.Lines.{shownInRun}
 use Rattle.event_file.specs.Run.{turnRun, start, turns, soFar, Went}
 use Rattle.event_file.proofs.PanelText.{most-panel, most-plain, line-plain, line-panel}
+use Rattle.event_file.proofs.Reading.{next-same}
 use Rattle.event_file.proofs.Turns.{runs, run-taken}
 use Rattle.event_file.proofs.pieces.run_piece.Statement.{statement}
 use Rattle.event_file.proofs.pieces.run_piece.Tie as tie
@@ -18,7 +20,7 @@ abbrev Inv-loop : tie.InvT-loop
 Inv-loop panel layout state₀ count₀ bytes at₀ last out₀ written₀ turn₀ state count at out written turn =
     (turn ≤ turns)
     × Went out₀ 0 (length out₀) out (soFar state count at written)
-    (iter (λ k. turnRun (boxInRun layout) panel layout last bytes (length out₀)) turn (start state₀ count₀ at₀))
+    (iter (λ k. turnRun (boxInRun layout) panel (shownInRun layout) last bytes (length out₀)) turn (start state₀ count₀ at₀))
 
 abbrev μ-loop : tie.MeasureT-loop
 μ-loop panel layout state₀ count₀ bytes at₀ last out₀ written₀ turn₀ state count at out written turn = turns - turn
@@ -49,9 +51,9 @@ loop-again c =
     let less = turn .loop-test .taken in (
       omega (arith, less),
       run-taken _ _ _ _ _ _ _ _ _ _ _ _ _ _ _ (turn .before .loop .inv .1) less _ (asked .before .before .most-line .ensures) _ (asked .before .if1 .left)
-          (asked .next-event .ensures) _ _ _ _ _ _ _ _ (search needs) (answered .before .before .step-in-run .ensures) (answered .next-count .ensures)
-          (⊎-elim (λ w. line-panel _ _ _ _ _ _ _ _ _ _ _ _ (w .0 .taken) (w .5) (w .6) (w .2 .ensures))
-          (λ w. line-plain _ _ _ _ _ _ _ _ _ _ _ _ (w .0 .left) (w .5) (w .6) (w .2 .ensures)) (c .if2 .came)),
+          (next-same _ _ (asked .next-event .ensures)) _ _ _ _ _ _ _ _ (search needs) (answered .before .before .step-in-run .ensures) (answered .next-count .ensures)
+          (⊎-elim (λ w. line-panel _ _ _ _ _ _ _ _ _ _ _ (w .0 .taken) (w .5) (w .6) (w .2 .ensures))
+          (λ w. line-plain _ _ _ _ _ _ _ _ _ _ _ (w .0 .left) (w .5) (w .6) (w .2 .ensures)) (c .if2 .came)),
     )
 
 pub run-piece-spec : {M : Type 1} → statement M

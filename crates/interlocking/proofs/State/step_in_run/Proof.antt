@@ -1,8 +1,8 @@
--- The counts are looked at, then the event is answered.
+-- No more is asked than that the tables hold the objects and that there is a section.
 use borrow.Author.Needs.{needs}
-use Rattle.interlocking.proofs.Stepped.{counts-hold}
-use Rattle.interlocking.specs.Step.{askedInRun, stepInRun}
 use Rattle.laws.specs.Tests.{_and_}
+use Rattle.interlocking.specs.Step.{askedInRun, stepInRun}
+use Rattle.interlocking.proofs.Stepped.{counts-hold}
 use Rattle.interlocking.proofs.State.step_in_run.Statement.{statement}
 use Rattle.interlocking.proofs.State.step_in_run.Tie as tie
 

@@ -1,9 +1,9 @@
--- The record itself.
-use mathlib.Core.Path.{refl}
-use Rattle.interlocking.specs.Step.{refusedBy}
+-- A record of the refusal, with nothing given.
+use borrow.Author.Needs.{needs}
+use Rattle.interlocking.specs.Step.{stays}
 use Rattle.interlocking.proofs.event.refused.Statement.{statement}
 use Rattle.interlocking.proofs.event.refused.Tie as tie
 
 pub refused-spec : {M : Type 1} → statement M
-unfolding refusedBy
-refused-spec = tie.close (tie.spec (λ c. refl))
+unfolding stays
+refused-spec = tie.close (tie.spec (λ c κs. search needs) (λ c. cc))

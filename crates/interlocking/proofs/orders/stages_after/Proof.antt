@@ -1,39 +1,40 @@
--- The stages at the places before k have gone by the reading where the block is that section; else they are as they were.
+-- The stages at the places before k have gone by what the event gives their blocks.
 use Prim.Native.Nat.{_-_}
 use borrow.Author.Needs.{needs}
 use lib.ListN.{length}
 use mathlib.Core.Path.{_≡_}
 use Rattle.laws.proofs.Arrays.{length-mapped}
 use Rattle.laws.proofs.Each.{Redone, redo-start, redo-on, redo-skip, redoes}
+use Rattle.track.specs.Sizes.{mostLines, mostPlaces}
 use Rattle.interlocking.specs.Own.{ownStageAt}
 use Rattle.interlocking.proofs.Laws.{own-elsewhere, own-here}
 use Rattle.interlocking.proofs.orders.stages_after.Statement.{statement}
 use Rattle.interlocking.proofs.orders.stages_after.Tie as tie
 
 abbrev Inv-loop : tie.InvT-loop
-Inv-loop m g v ls stage₀ k₀ stage k = (length ls ≡ 8) × Redone 64 m (ownStageAt ls g v) stage₀ stage k
+Inv-loop m e ls stage₀ k₀ stage k = (length ls ≡ mostLines) × Redone mostPlaces m (ownStageAt ls e) stage₀ stage k
 
 abbrev μ-loop : tie.MeasureT-loop
-μ-loop m g v ls stage₀ k₀ stage k = m - k
+μ-loop m e ls stage₀ k₀ stage k = m - k
 
--- another section's place
+-- a block to which nothing is given
 elsewhere : tie.Need-loop-again Inv-loop μ-loop
 elsewhere c =
     let there = c .before .before .before .loop-test .taken in (
       c .before .before .before .before .loop .inv .0,
       redo-skip _ _ _ _ _ _ (c .before .before .before .before .loop .inv .1) there
-          (own-elsewhere _ _ _ _ _ _ _ _ (c .before .before .before .before .loop .inv .0) there (c .before .before .before .before .before .pre) (c .before .is-block .ensures)
+          (own-elsewhere _ _ _ _ _ _ _ (c .before .before .before .before .loop .inv .0) there (c .before .before .before .before .before .pre) (c .before .own-given .ensures)
           (c .if1 .taken)),
     )
 
--- the section's own place
+-- a block that is given a reading
 here : tie.Need-loop-again-2 Inv-loop μ-loop
 here c =
     let there = c .before .before .before .before .loop-test .taken in (
       c .before .before .before .before .before .loop .inv .0,
       redo-on _ _ _ _ _ _ _ (c .before .before .before .before .before .loop .inv .1) there
-          (own-here _ _ _ _ _ _ _ _ (c .before .before .before .before .before .loop .inv .0) there (c .before .before .before .before .before .before .pre)
-          (c .before .before .is-block .ensures) _ (c .before .if1 .left) (c .own-stage .ensures)),
+          (own-here _ _ _ _ _ _ _ (c .before .before .before .before .before .loop .inv .0) there (c .before .before .before .before .before .before .pre)
+          (c .before .before .own-given .ensures) _ (c .own-stage .ensures)),
     )
 
 pub stages-after-spec : {M : Type 1} → statement M

@@ -1,13 +1,13 @@
 -- Each route is tested, and the first that conflicts with itself, or whose conflicts are not both ways, ends it.
 use Prim.Native.Nat.{_-_}
-use Rattle.laws.proofs.Loops.{Held, alls}
+use Rattle.laws.proofs.Loops.{SoFar, alls}
 use Rattle.layout.specs.Sound.{rowMirrors}
 use Rattle.layout.proofs.pairs_of_routes.mirrored.Statement.{statement}
 use Rattle.layout.proofs.pairs_of_routes.mirrored.Tie as tie
 
 -- each route before r is not in conflict with itself, and its conflicts with those before it are both ways
 abbrev Inv-loop : tie.InvT-loop
-Inv-loop m n r₀ r = Held n (rowMirrors m) r
+Inv-loop m n r₀ r = SoFar n (rowMirrors m) r
 
 -- the routes left
 abbrev μ-loop : tie.MeasureT-loop

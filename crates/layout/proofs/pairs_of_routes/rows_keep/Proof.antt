@@ -2,8 +2,8 @@
 use Prim.Native.Nat.{_-_}
 use borrow.Author.Needs.{needs}
 use Rattle.laws.proofs.Arrays.{length-mapped}
-use Rattle.laws.proofs.Loops.{Held, held-on, alls}
-use Rattle.laws.specs.Tests.{all}
+use Rattle.laws.proofs.Loops.{SoFar, held-on, alls}
+use Rattle.laws.specs.Tests.{allBelow}
 use Rattle.layout.proofs.Tested.{row-at, rows-stop, rows-on}
 use Rattle.layout.specs.Walks.{rowKeeps}
 use Rattle.layout.proofs.pairs_of_routes.rows_keep.Statement.{statement}
@@ -11,7 +11,7 @@ use Rattle.layout.proofs.pairs_of_routes.rows_keep.Tie as tie
 
 -- the route r keeps rule 6 with each before q
 abbrev Inv-loop2 : tie.InvT-loop2
-Inv-loop2 m n t r a q₀ q = Held r (rowKeeps m t r) q
+Inv-loop2 m n t r a q₀ q = SoFar r (rowKeeps m t r) q
 
 -- the routes before r that are left
 abbrev μ-loop2 : tie.MeasureT-loop2
@@ -19,7 +19,7 @@ abbrev μ-loop2 : tie.MeasureT-loop2
 
 -- each route before r keeps it with each before itself
 abbrev Inv-loop : tie.InvT-loop
-Inv-loop m n t r₀ r = Held n (λ k. all k (rowKeeps m t k)) r
+Inv-loop m n t r₀ r = SoFar n (λ k. allBelow k (rowKeeps m t k)) r
 
 -- the routes left
 abbrev μ-loop : tie.MeasureT-loop

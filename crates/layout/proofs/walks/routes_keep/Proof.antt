@@ -1,7 +1,7 @@
 -- Each route is tested, and the first that does not keep the rule ends it.
 use Prim.Native.Nat.{_-_}
 use Rattle.laws.proofs.Arrays.{length-mapped}
-use Rattle.laws.proofs.Loops.{Held, alls}
+use Rattle.laws.proofs.Loops.{SoFar, alls}
 use Rattle.layout.proofs.Tested.{kept-at}
 use Rattle.layout.specs.Walks.{routeKeeps}
 use Rattle.track.specs.Objects.{route}
@@ -10,7 +10,7 @@ use Rattle.layout.proofs.walks.routes_keep.Tie as tie
 
 -- each route before i keeps the rule
 abbrev Inv-loop : tie.InvT-loop
-Inv-loop k c ls blocks n rs i₀ i = Held n (λ j. routeKeeps k c ls blocks (route rs j)) i
+Inv-loop k c ls blocks n rs i₀ i = SoFar n (λ j. routeKeeps k c ls blocks (route rs j)) i
 
 -- the routes left
 abbrev μ-loop : tie.MeasureT-loop

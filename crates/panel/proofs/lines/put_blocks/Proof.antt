@@ -26,7 +26,7 @@ loop-holds c = (omega arith, omega arith, refl, search writes)
 
 -- there is room for block i
 put-block-requires : tie.Need-put-block-requires Inv-loop μ-loop
-put-block-requires c κs = (search needs, omega arith)
+put-block-requires c κs = omega arith
 
 -- block i is written after those before it
 loop-again : tie.Need-loop-again Inv-loop μ-loop

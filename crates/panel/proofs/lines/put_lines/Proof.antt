@@ -5,6 +5,7 @@ use native.Mathlib.Omega.{arith}
 use borrow.Author.Needs.{needs}
 use lib.ListN.{length}
 use Rattle.laws.proofs.Arrays.{length-mapped}
+use Rattle.track.specs.Sizes.{mostLines}
 use Rattle.panel.specs.Panel.{join, blocks, lineBytes}
 use Rattle.panel.specs.Writes.{Wrote}
 use Rattle.panel.proofs.Writes.{wrote-length, join-on, writes}
@@ -35,7 +36,7 @@ loop-again : tie.Need-loop-again Inv-loop μ-loop
 loop-again c =
     let here = c .before .before .before .before .before .before in
     let start = here .before .before in
-    let long : length (start .args .t2) ≡ 8 = search (needs, length-mapped) in
+    let long : length (start .args .t2) ≡ mostLines = search (needs, length-mapped) in
     let wrote = c .before .before .put-line .ensures in (
       omega arith,
       lines-next _ _ _ _ _ _ (start .args .n) (start .args .at) _ _ _ _ _ long (search needs) (search needs) (search needs) wrote,

@@ -1,0 +1,32 @@
+-- No second result meets the contract of a public function. Each `Post` is the contract itself, as the function is proved to meet it.
+use Rattle.laws.proofs.Only.{Determines, only}
+use Rattle.file_objects.proofs.no_sections.Reads as no-sections
+use Rattle.file_objects.proofs.read_sections.Reads as read-sections
+use Rattle.file_objects.proofs.no_lines.Reads as no-lines
+use Rattle.file_objects.proofs.read_lines.Reads as read-lines
+use Rattle.file_objects.proofs.no_routes.Reads as no-routes
+use Rattle.file_objects.proofs.read_routes.Reads as read-routes
+
+-- no own sections
+pub no-sections-determined : Determines no-sections.Post
+no-sections-determined κs a r q s = only
+
+-- the points' own sections
+pub read-sections-determined : Determines read-sections.Post
+read-sections-determined κs a r q s = only
+
+-- no lines
+pub no-lines-determined : Determines no-lines.Post
+no-lines-determined κs a r q s = only
+
+-- the lines
+pub read-lines-determined : Determines read-lines.Post
+read-lines-determined κs a r q s = only
+
+-- no routes
+pub no-routes-determined : Determines no-routes.Post
+no-routes-determined κs a r q s = only
+
+-- the routes
+pub read-routes-determined : Determines read-routes.Post
+read-routes-determined κs a r q s = only

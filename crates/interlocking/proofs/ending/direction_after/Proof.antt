@@ -1,9 +1,0 @@
--- By the direction, then by whether the line is released.
-use Rattle.laws.proofs.Choice.{choices, if-yes, if-no}
-use Rattle.interlocking.specs.Settle.{directionAfter}
-use Rattle.interlocking.proofs.ending.direction_after.Statement.{statement}
-use Rattle.interlocking.proofs.ending.direction_after.Tie as tie
-
-pub direction-after-spec : {M : Type 1} → statement M
-unfolding directionAfter
-direction-after-spec = tie.close (tie.spec (λ c. search (choices, if-yes, if-no)) (λ c κs. search (choices, if-yes, if-no)) (λ c. search (choices, if-yes, if-no)) (λ c. search (choices, if-yes, if-no)))

@@ -1,0 +1,9 @@
+-- A record of the two.
+use mathlib.Core.Path.{refl}
+use Rattle.interlocking.specs.Step.{moves}
+use Rattle.interlocking.proofs.event.done.Statement.{statement}
+use Rattle.interlocking.proofs.event.done.Tie as tie
+
+pub done-spec : {M : Type 1} → statement M
+unfolding moves
+done-spec = tie.close (tie.spec (λ c. refl))

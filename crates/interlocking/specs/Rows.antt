@@ -1,0 +1,156 @@
+-- Section 3's table of events: a row for each kind. A row is filled for a layout, a state and the event's two numbers, a and b.
+use Prim.Native.Nat.{ℕ}
+use mathlib.Core.Bool.{Bool, false, not}
+use lib.Dec.{eqb, leb}
+use Rattle.laws.specs.Choice.{if_then_else_}
+use Rattle.laws.specs.Tests.{_and_}
+use Rattle.track.specs.Codes.{left, right, aToB, bToA, readSection, readPoint, throwPoint, setRoute, cancelRoute, secureLine, releaseLine, barBlock, unbarBlock, oneSecond}
+use Rattle.track.specs.Sizes.{mostSections}
+use Rattle.track.specs.Lists.{between}
+use Rattle.tables.specs.declared.Gives.{Gives}
+use Rattle.tables.specs.Readings.{recorded}
+use Rattle.layout.specs.declared.Layout.{Layout}
+use Rattle.layout.specs.Layout.{lineIn}
+use Rattle.reasons.specs.declared.Refusal.{Refusal}
+use Rattle.reasons.specs.Refusal.{refused, noRefusal}
+use Rattle.refusals.specs.Orders.{throwRefusal, setRefusal, cancelRefusal, secureRefusal, manualRefusal}
+use Rattle.interlocking.specs.declared.State.{State}
+use Rattle.interlocking.specs.State.{tablesOf}
+use Rattle.interlocking.specs.Own.{ownSection, ownPoint, ownThrow, ownSet, ownCancel, ownSecure, ownManual, ownBar}
+
+pub record Row : Type 0 where
+  -- 2: there is no object a
+  pub missing : Bool
+  -- 3: the number b is wrong
+  pub wrong : Bool
+  -- what is refused of it besides, in the paper's order
+  pub besides : Refusal
+  -- what it does itself, where it is not refused
+  pub does : State
+  -- what it gives: a section its reading, or a second
+  pub gives : Gives
+
+-- ---- what an event gives; a number past the last section is no section
+
+-- nothing
+unfoldable pub nothing : Gives
+nothing = record { section = mostSections; reading = 0; tick = 0 }
+
+-- section g the reading v
+unfoldable pub givesReading : ℕ → ℕ → Gives
+givesReading g v = record { section = g; reading = v; tick = 0 }
+
+-- a second
+unfoldable pub aSecond : Gives
+aSecond = record { section = mostSections; reading = 0; tick = 1 }
+
+-- ---- the rows
+
+-- 1: section reading (section, code)
+unfoldable pub sectionRow : Layout → State → ℕ → ℕ → Row
+sectionRow L s a b = record {
+  missing = leb (L .sections) a;
+  wrong = false;
+  besides = noRefusal;
+  does = ownSection (L .line) (L .lines) s a (recorded b);
+  gives = givesReading a (recorded b);
+}
+
+-- 2: point reading (point, code)
+unfoldable pub pointRow : Layout → State → ℕ → ℕ → Row
+pointRow L s a b = record {
+  missing = leb (L .points) a;
+  wrong = false;
+  besides = noRefusal;
+  does = ownPoint s a (recorded b);
+  gives = nothing;
+}
+
+-- 3: throw (point, position 1 or 2)
+unfoldable pub throwRow : Layout → State → ℕ → ℕ → Row
+throwRow L s a b = record {
+  missing = leb (L .points) a;
+  wrong = not (between left right b);
+  besides = throwRefusal L (tablesOf s) a;
+  does = ownThrow s a b;
+  gives = nothing;
+}
+
+-- 4: set route (route)
+unfoldable pub setRow : Layout → State → ℕ → ℕ → Row
+setRow L s a b = record {
+  missing = leb (L .routes) a;
+  wrong = not (eqb b 0);
+  besides = setRefusal L (tablesOf s) a;
+  does = ownSet s a;
+  gives = nothing;
+}
+
+-- 5: cancel route (route)
+unfoldable pub cancelRow : Layout → State → ℕ → ℕ → Row
+cancelRow L s a b = record {
+  missing = leb (L .routes) a;
+  wrong = not (eqb b 0);
+  besides = cancelRefusal (tablesOf s) a;
+  does = ownCancel s a;
+  gives = nothing;
+}
+
+-- 6: secure line (line, 1 = A to B, 2 = B to A)
+unfoldable pub secureRow : Layout → State → ℕ → ℕ → Row
+secureRow L s a b = record {
+  missing = leb (L .lines) a;
+  wrong = not (between aToB bToA b);
+  besides = secureRefusal L (tablesOf s) a;
+  does = ownSecure s a b;
+  gives = nothing;
+}
+
+-- 7: manual release, KTP (line, ground 1 not left, 2 in siding, 3 returned)
+unfoldable pub manualRow : Layout → State → ℕ → ℕ → Row
+manualRow L s a b = record {
+  missing = leb (L .lines) a;
+  wrong = not (between 1 3 b);
+  besides = manualRefusal L (tablesOf s) a;
+  does = ownManual (L .line) (L .lines) s a;
+  gives = nothing;
+}
+
+-- 8, 9: bar, 1, and unbar, 0 (line, block counted from 0)
+unfoldable pub barRow : ℕ → Layout → State → ℕ → ℕ → Row
+barRow bar L s a b = record {
+  missing = leb (L .lines) a;
+  wrong = leb (lineIn L a .blocks) b;
+  besides = noRefusal;
+  does = ownBar s a b bar;
+  gives = nothing;
+}
+
+-- 10: one second has passed; both numbers are unused
+unfoldable pub secondRow : State → ℕ → ℕ → Row
+secondRow s a b = record {
+  missing = false;
+  wrong = not (eqb a 0 and eqb b 0);
+  besides = noRefusal;
+  does = s;
+  gives = aSecond;
+}
+
+-- a kind that has no row: 1
+unfoldable pub noRow : State → Row
+noRow s = record { missing = false; wrong = false; besides = refused 1 0; does = s; gives = nothing }
+
+-- the row of kind k
+unfoldable pub rowOf : Layout → State → ℕ → ℕ → ℕ → Row
+rowOf L s k a b =
+    if eqb k readSection then sectionRow L s a b
+    else if eqb k readPoint then pointRow L s a b
+    else if eqb k throwPoint then throwRow L s a b
+    else if eqb k setRoute then setRow L s a b
+    else if eqb k cancelRoute then cancelRow L s a b
+    else if eqb k secureLine then secureRow L s a b
+    else if eqb k releaseLine then manualRow L s a b
+    else if eqb k barBlock then barRow 1 L s a b
+    else if eqb k unbarBlock then barRow 0 L s a b
+    else if eqb k oneSecond then secondRow s a b
+    else noRow s

@@ -1,0 +1,4 @@
+pub mod Lines
+pub mod FarSections
+pub mod LineRelease
+pub mod Unique

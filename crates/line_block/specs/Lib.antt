@@ -1,0 +1,3 @@
+pub mod FarSections
+pub mod LineRelease
+pub mod Entries

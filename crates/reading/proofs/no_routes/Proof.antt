@@ -1,9 +1,0 @@
--- The same route 48 times.
-use borrow.Author.Needs.{needs}
-use Rattle.reading.specs.Routes.{noRoutes}
-use Rattle.reading.proofs.no_routes.Statement.{statement}
-use Rattle.reading.proofs.no_routes.Tie as tie
-
-pub no-routes-spec : {M : Type 1} → statement M
-unfolding noRoutes
-no-routes-spec = tie.close (tie.spec (λ c κs. search needs) (λ c. cc))

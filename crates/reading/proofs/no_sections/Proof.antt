@@ -1,9 +1,0 @@
--- The code and the definition are the same 32 zeros.
-use mathlib.Core.Path.{refl}
-use Rattle.reading.specs.Sections.{noSections}
-use Rattle.reading.proofs.no_sections.Statement.{statement}
-use Rattle.reading.proofs.no_sections.Tie as tie
-
-pub no-sections-spec : {M : Type 1} → statement M
-unfolding noSections
-no-sections-spec = tie.close (tie.spec (λ c. refl))

@@ -1,9 +1,0 @@
--- The section is read, then stored at the point's place.
-use borrow.Author.Needs.{needs}
-use Rattle.reading.specs.Sections.{sectionTurn}
-use Rattle.reading.proofs.own.Statement.{statement}
-use Rattle.reading.proofs.own.Tie as tie
-
-pub own-spec : {M : Type 1} → statement M
-unfolding sectionTurn
-own-spec = tie.close (tie.spec (λ c κs. search needs) (λ c. search needs) (λ c. cc))

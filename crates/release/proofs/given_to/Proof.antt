@@ -1,9 +1,0 @@
--- The reading, where the event gives that section one, else 0.
-use Rattle.laws.proofs.Choice.{choices}
-use Rattle.release.specs.Release.{given}
-use Rattle.release.proofs.given_to.Statement.{statement}
-use Rattle.release.proofs.given_to.Tie as tie
-
-pub given-to-spec : {M : Type 1} → statement M
-unfolding given
-given-to-spec = tie.close (tie.spec (λ c. search choices) (λ c. search choices))

@@ -1,0 +1,43 @@
+-- How many of each there may be (section 2): the most of each, which is also the length of the table that holds them.
+use Prim.Native.Nat.{ℕ}
+
+-- sections, points, main signals
+abbrev pub mostSections : ℕ
+mostSections = 64
+
+abbrev pub mostPoints : ℕ
+mostPoints = 32
+
+abbrev pub mostSignals : ℕ
+mostSignals = 32
+
+-- lines, the blocks of one line, and the places of all blocks of all lines in a table of blocks
+abbrev pub mostLines : ℕ
+mostLines = 8
+
+abbrev pub mostBlocks : ℕ
+mostBlocks = 8
+
+abbrev pub mostPlaces : ℕ
+mostPlaces = 64
+
+-- train routes, of which the layout has a record each; all routes that have a number, a phase and conflicts. Today all routes are train routes
+abbrev pub mostTrainRoutes : ℕ
+mostTrainRoutes = 48
+
+abbrev pub mostRoutes : ℕ
+mostRoutes = 48
+
+-- pairs of routes: the places of the table of conflicts, for each two routes both ways; the pairs of train routes that a file may list
+abbrev pub mostPairs : ℕ
+mostPairs = 2304
+
+abbrev pub mostConflicts : ℕ
+mostConflicts = 1128
+
+-- the entries of a list of a line or a route: blocks, path, overlap, points; the sections of an overlap
+abbrev pub mostListed : ℕ
+mostListed = 8
+
+abbrev pub mostOverlap : ℕ
+mostOverlap = 4
