@@ -30,6 +30,7 @@ static int kept_before(const uint8_t *bytes) {
 
 static struct hiruketawha_layout *layout;
 static struct hiruketawha_state *state;
+static struct hiruketawha_state cold; /* the state at power-on */
 
 static uint32_t seed = 1;
 
@@ -38,12 +39,28 @@ static uint8_t random_byte(void) {
     return seed >> 24;
 }
 
-/* A file that is refused so: the layout keeps every byte. */
+/* No byte beside the two records is written. */
+static int kept_beside(void) { return kept_before((uint8_t *)layout) && kept_before((uint8_t *)state); }
+
+static void power_on(void) {
+    hiruketawha_power_on(state, layout);
+    EXPECT(kept_beside());
+}
+
+/* A file that is refused so: both records keep every byte. */
 static void refused(const uint8_t *bytes, size_t length, uint8_t number, size_t detail) {
-    struct hiruketawha_layout kept = *layout;
-    struct hiruketawha_load_reply reply = hiruketawha_load(bytes, length, layout);
+    struct hiruketawha_layout on = *layout;
+    struct hiruketawha_state before = *state;
+    struct hiruketawha_load_reply reply = hiruketawha_load(state, layout, bytes, length);
     EXPECT(reply.number == number && reply.detail == detail);
-    EXPECT(memcmp(layout, &kept, sizeof kept) == 0 && kept_before((uint8_t *)layout));
+    EXPECT(memcmp(layout, &on, sizeof on) == 0 && memcmp(state, &before, sizeof before) == 0 && kept_beside());
+}
+
+/* A file that is accepted: the state starts anew. */
+static void accepted(const uint8_t *bytes, size_t length) {
+    struct hiruketawha_load_reply reply = hiruketawha_load(state, layout, bytes, length);
+    EXPECT(reply.number == 0 && reply.detail == 0);
+    EXPECT(memcmp(state, &cold, sizeof cold) == 0 && kept_beside());
 }
 
 /* Cut files, each beginning of branch T; none at all; one with a byte too many; one of another version. P8 is the cut at 48. */
@@ -70,9 +87,29 @@ static uint8_t answer(uint32_t kind, uint32_t first, uint32_t second) {
     struct hiruketawha_layout on = *layout;
     struct hiruketawha_state before = *state;
     struct hiruketawha_reply reply = hiruketawha_event(state, layout, kind, first, second);
-    EXPECT(reply.number <= 18 && memcmp(layout, &on, sizeof on) == 0 && kept_before((uint8_t *)layout) && kept_before((uint8_t *)state));
+    EXPECT(reply.number <= 18 && memcmp(layout, &on, sizeof on) == 0 && kept_beside());
     EXPECT(reply.number == 0 || memcmp(state, &before, sizeof before) == 0);
     return reply.number;
+}
+
+/* P1 on branch T, so that a route is set on a secured line: cut files leave that, and a second file starts the state anew, be it of another
+ * layout, of the same, or on a state of any bytes. */
+static void test_second_file(void) {
+    static const uint32_t p1[][3] = {{1, 0, 1}, {1, 1, 1}, {1, 2, 1}, {1, 3, 1}, {2, 0, 1}, {7, 0, 1}, {6, 0, 1}, {4, 1, 0}, {4, 0, 0}};
+    static const uint8_t one_section[] = {1, 1, 0, 0, 0, 0, 0};
+    struct hiruketawha_layout first = *layout;
+    for (size_t i = 0; i < sizeof p1 / sizeof p1[0]; i++) EXPECT(answer(p1[i][0], p1[i][1], p1[i][2]) == 0);
+    EXPECT(state->direction[0] == 1 && state->phase[0] == 1 && state->phase[1] == 1);
+    test_files();
+    accepted(one_section, sizeof one_section);
+    EXPECT(layout->sections == 1 && layout->lines == 0 && layout->routes == 0);
+    EXPECT(answer(HIRUKETAWHA_READ_SECTION, 0, 1) == 0 && answer(HIRUKETAWHA_SET_ROUTE, 0, 0) == HIRUKETAWHA_NO_SUCH_OBJECT);
+    accepted(branch_t, sizeof branch_t);
+    EXPECT(memcmp(layout, &first, sizeof first) == 0);
+    EXPECT(answer(HIRUKETAWHA_READ_SECTION, 0, 1) == 0);
+    accepted(branch_t, sizeof branch_t);
+    memset(state, 255, sizeof *state);
+    accepted(branch_t, sizeof branch_t);
 }
 
 /* Numbers of any size, on branch T: kinds past 10 and objects that there aren't are refused so. */
@@ -120,7 +157,7 @@ static void unsound(void) {
 /* No layout; a layout of zeros, of 255s, of any bytes; a state of them. */
 static void test_records(void) {
     struct hiruketawha_layout sound = *layout;
-    hiruketawha_no_layout(layout);
+    power_on();
     unsound();
     memset(layout, 0, sizeof *layout);
     unsound();
@@ -135,7 +172,7 @@ static void test_records(void) {
         for (size_t j = 0; j < sizeof *state; j++) ((uint8_t *)state)[j] = random_byte();
         unsound();
     }
-    hiruketawha_cold(state);
+    *state = cold;
 }
 
 /* One byte of branch T's layout or of a state, any value: an answer, whichever it is. */
@@ -150,19 +187,18 @@ static void test_one_byte(void) {
         *layout = sound;
     }
     for (size_t j = 0; j < sizeof *state; j++) {
-        hiruketawha_cold(state);
+        *state = cold;
         ((uint8_t *)state)[j] = 4 + random_byte() % 252;
         uint8_t number = answer(HIRUKETAWHA_SECOND, 0, 0);
         EXPECT(number == HIRUKETAWHA_NOT_SOUND || (number == 0 && ((uint8_t *)state)[j] < 90));
     }
-    hiruketawha_cold(state);
+    *state = cold;
 }
 
 static void every_call(void) {
     uint8_t image[16];
-    hiruketawha_no_layout(layout);
-    hiruketawha_cold(state);
-    hiruketawha_load(branch_t, sizeof branch_t, layout);
+    hiruketawha_power_on(state, layout);
+    hiruketawha_load(state, layout, branch_t, sizeof branch_t);
     for (uint32_t kind = 1; kind <= 10; kind++) hiruketawha_event(state, layout, kind, 0, kind < 4 || kind == 6 || kind == 7);
     hiruketawha_panel(state, layout, image, sizeof image);
 }
@@ -182,12 +218,12 @@ static void test_stack(void) {
 int main(void) {
     layout = (struct hiruketawha_layout *)before_a_wall(sizeof *layout);
     state = (struct hiruketawha_state *)before_a_wall(sizeof *state);
-    hiruketawha_no_layout(layout);
-    hiruketawha_cold(state);
+    power_on();
+    cold = *state;
     test_files();
-    struct hiruketawha_load_reply loaded = hiruketawha_load(branch_t, sizeof branch_t, layout);
-    EXPECT(loaded.number == 0 && loaded.detail == 0);
+    accepted(branch_t, sizeof branch_t);
     test_files();
+    test_second_file();
     test_buffers();
     test_numbers();
     test_records();

@@ -20,9 +20,8 @@ static struct hiruketawha_layout layout;
 static struct hiruketawha_state state;
 
 int main(void) {
-    hiruketawha_no_layout(&layout);
-    hiruketawha_cold(&state);
-    struct hiruketawha_load_reply loaded = hiruketawha_load(branch_t, sizeof branch_t, &layout);
+    hiruketawha_power_on(&state, &layout);
+    struct hiruketawha_load_reply loaded = hiruketawha_load(&state, &layout, branch_t, sizeof branch_t);
     if (loaded.number != HIRUKETAWHA_DONE) {
         printf("layout %d %zu\n", loaded.number, loaded.detail);
         return 1;

@@ -2,7 +2,7 @@
 #[allow(dead_code)]
 mod hiruketawha;
 
-use hiruketawha::{Layout, State};
+use hiruketawha::Cabinet;
 
 const BRANCH_T: [u8; 49] = [
     1, 4, 1, 2, 4, 1, 1, 1, 0, 2, 1, 2, 0, 3, 0, 2, 0, 0, 0, 1, 0, 0, 0, 2, 1, //
@@ -25,16 +25,15 @@ const P1: [[u32; 3]; 12] = [
 ];
 
 fn main() {
-    let mut layout = Layout::none();
-    let mut state = State::cold();
-    let loaded = layout.load(&BRANCH_T);
+    let mut cabinet = Cabinet::power_on();
+    let loaded = cabinet.load(&BRANCH_T);
     if loaded.number != 0 {
         println!("layout {} {}", loaded.number, loaded.detail);
         std::process::exit(1);
     }
     println!("event answer detail");
     for (i, [kind, first, second]) in P1.into_iter().enumerate() {
-        let reply = state.event(&layout, kind, first, second);
+        let reply = cabinet.event(kind, first, second);
         println!("{} {} {}", i + 1, reply.number, reply.detail);
     }
 }

@@ -82,51 +82,44 @@ pub struct Drawn {
 }
 
 extern "C" {
-    fn hiruketawha_cold(state: *mut State);
-    fn hiruketawha_no_layout(layout: *mut Layout);
-    fn hiruketawha_load(bytes: *const u8, length: usize, layout: *mut Layout) -> LoadReply;
+    fn hiruketawha_power_on(state: *mut State, layout: *mut Layout);
+    fn hiruketawha_load(state: *mut State, layout: *mut Layout, bytes: *const u8, length: usize) -> LoadReply;
     fn hiruketawha_event(state: *mut State, layout: *const Layout, kind: u32, first: u32, second: u32) -> Reply;
     fn hiruketawha_panel(state: *const State, layout: *const Layout, image: *mut u8, length: usize) -> Drawn;
 }
 
-impl State {
-    /// The cold start.
-    pub fn cold() -> State {
-        let mut state = MaybeUninit::uninit();
-        // SAFETY: the library writes the whole record and reads nothing of it.
+/// The two records that are kept from power-on.
+pub struct Cabinet {
+    state: State,
+    layout: Layout,
+}
+
+impl Cabinet {
+    /// The cold start, with no layout.
+    pub fn power_on() -> Cabinet {
+        let (mut state, mut layout) = (MaybeUninit::uninit(), MaybeUninit::uninit());
+        // SAFETY: the library writes both records whole and reads nothing of them.
         unsafe {
-            hiruketawha_cold(state.as_mut_ptr());
-            state.assume_init()
+            hiruketawha_power_on(state.as_mut_ptr(), layout.as_mut_ptr());
+            Cabinet { state: state.assume_init(), layout: layout.assume_init() }
         }
     }
 
-    /// One event on this state.
-    pub fn event(&mut self, layout: &Layout, kind: u32, first: u32, second: u32) -> Reply {
-        // SAFETY: the library reads both records, writes this one, and keeps nothing.
-        unsafe { hiruketawha_event(self, layout, kind, first, second) }
+    /// A layout file: where it is accepted the state starts anew; where it is refused both records stay what they were.
+    pub fn load(&mut self, bytes: &[u8]) -> LoadReply {
+        // SAFETY: the library reads these bytes, reads and writes both records, and keeps nothing.
+        unsafe { hiruketawha_load(&mut self.state, &mut self.layout, bytes.as_ptr(), bytes.len()) }
+    }
+
+    /// One event on the state.
+    pub fn event(&mut self, kind: u32, first: u32, second: u32) -> Reply {
+        // SAFETY: the library reads both records, writes the state, and keeps nothing.
+        unsafe { hiruketawha_event(&mut self.state, &self.layout, kind, first, second) }
     }
 
     /// The panel image, into the buffer's first bytes.
-    pub fn panel(&self, layout: &Layout, image: &mut [u8]) -> Drawn {
+    pub fn panel(&self, image: &mut [u8]) -> Drawn {
         // SAFETY: the library reads both records, writes within the buffer, and keeps nothing.
-        unsafe { hiruketawha_panel(self, layout, image.as_mut_ptr(), image.len()) }
-    }
-}
-
-impl Layout {
-    /// The layout with no objects.
-    pub fn none() -> Layout {
-        let mut layout = MaybeUninit::uninit();
-        // SAFETY: the library writes the whole record and reads nothing of it.
-        unsafe {
-            hiruketawha_no_layout(layout.as_mut_ptr());
-            layout.assume_init()
-        }
-    }
-
-    /// A layout file into this layout, which stays what it was where the file is refused.
-    pub fn load(&mut self, bytes: &[u8]) -> LoadReply {
-        // SAFETY: the library reads these bytes, reads and writes this record, and keeps nothing.
-        unsafe { hiruketawha_load(bytes.as_ptr(), bytes.len(), self) }
+        unsafe { hiruketawha_panel(&self.state, &self.layout, image.as_mut_ptr(), image.len()) }
     }
 }

@@ -31,26 +31,38 @@ static int all(uint8_t byte, const uint8_t *bytes, size_t count) {
 
 /* ---- the tests */
 
-/* The library writes every byte of each record, and none beside it. */
-static void test_sizes(void) {
+static void forget(void) {
     memset(&state, UNTOUCHED, sizeof state);
-    hiruketawha_cold(&state.record);
-    EXPECT(all(UNTOUCHED, state.before, GUARD) && all(UNTOUCHED, state.after, GUARD));
-    EXPECT(memchr(&state.record, UNTOUCHED, sizeof state.record) == NULL);
     memset(&layout, UNTOUCHED, sizeof layout);
-    hiruketawha_no_layout(&layout.record);
-    EXPECT(all(UNTOUCHED, layout.before, GUARD) && all(UNTOUCHED, layout.after, GUARD));
-    EXPECT(all(0, (const uint8_t *)&layout.record, sizeof layout.record));
 }
 
+/* The state is cold, and no byte beside the records is written. */
+static void expect_cold(void) {
+    EXPECT(memcmp(&state.record, &want, sizeof want) == 0);
+    EXPECT(all(UNTOUCHED, state.before, GUARD) && all(UNTOUCHED, state.after, GUARD));
+    EXPECT(all(UNTOUCHED, layout.before, GUARD) && all(UNTOUCHED, layout.after, GUARD));
+}
+
+/* Power-on writes every byte of both records. */
+static void test_power_on(void) {
+    memset(want.section, 3, sizeof want.section);
+    memset(want.point, 3, sizeof want.point);
+    memset(want.stage, 1, sizeof want.stage);
+    forget();
+    hiruketawha_power_on(&state.record, &layout.record);
+    EXPECT(all(0, (const uint8_t *)&layout.record, sizeof layout.record));
+    expect_cold();
+}
+
+/* So does a file that is accepted. */
 static void test_layout(void) {
     fill_layout(&wide);
     put_layout(&wide);
-    memset(&layout, UNTOUCHED, sizeof layout);
-    struct hiruketawha_load_reply loaded = hiruketawha_load(file, length, &layout.record);
+    forget();
+    struct hiruketawha_load_reply loaded = hiruketawha_load(&state.record, &layout.record, file, length);
     EXPECT(loaded.number == 0 && loaded.detail == 0);
     EXPECT(memcmp(&layout.record, &wide, sizeof wide) == 0);
-    EXPECT(all(UNTOUCHED, layout.before, GUARD) && all(UNTOUCHED, layout.after, GUARD));
+    expect_cold();
 }
 
 /* An event that is done and makes the state what is wanted. */
@@ -68,14 +80,6 @@ static void read_section(int section, uint8_t code) {
 static void read_point(int point, uint8_t code) {
     want.point[point] = code;
     done(HIRUKETAWHA_READ_POINT, point, code);
-}
-
-static void test_cold(void) {
-    memset(want.section, 3, sizeof want.section);
-    memset(want.point, 3, sizeof want.point);
-    memset(want.stage, 1, sizeof want.stage);
-    hiruketawha_cold(&state.record);
-    EXPECT(memcmp(&state.record, &want, sizeof want) == 0);
 }
 
 static void test_points(void) {
@@ -182,9 +186,8 @@ static void print_state(void) {
 }
 
 int main(void) {
-    test_sizes();
+    test_power_on();
     test_layout();
-    test_cold();
     test_points();
     test_route(0);
     test_route(47);

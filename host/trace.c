@@ -1,6 +1,6 @@
 /* An event program over the C entries, for peer/compare: trace LAYOUT EVENTS [panel].
  * It prints what section 8 says; with `panel`, the panel's bytes after each event too. Beside that it holds each call to what the header
- * says of the bytes that are lent: a refusal leaves the state as it was, and the panel writes its image's bytes and no other. */
+ * says of the bytes that are lent: a refusal leaves the records as they were, and the panel writes its image's bytes and no other. */
 #include <string.h>
 
 #include "expect.h"
@@ -91,14 +91,22 @@ static void run_events(int with_panel) {
     }
 }
 
+static struct hiruketawha_load_reply load(void) {
+    struct hiruketawha_state before = state;
+    struct hiruketawha_layout on = layout;
+    struct hiruketawha_load_reply reply = hiruketawha_load(&state, &layout, layout_file.bytes, layout_file.length);
+    EXPECT(memcmp(&before, &state, sizeof before) == 0);
+    EXPECT(reply.number == 0 || memcmp(&on, &layout, sizeof on) == 0);
+    return reply;
+}
+
 int main(int count, char **words) {
     EXPECT(count == 3 || (count == 4 && strcmp(words[3], "panel") == 0));
     int with_panel = count == 4;
     slurp(words[1], &layout_file);
     slurp(words[2], &event_file);
-    hiruketawha_no_layout(&layout);
-    hiruketawha_cold(&state);
-    struct hiruketawha_load_reply loaded = hiruketawha_load(layout_file.bytes, layout_file.length, &layout);
+    hiruketawha_power_on(&state, &layout);
+    struct hiruketawha_load_reply loaded = load();
     if (loaded.number != 0) {
         printf("layout %d %zu\n", loaded.number, loaded.detail);
         return 0;

@@ -1,7 +1,9 @@
 /* Hiruketawha, the control box for private branch lines, as a static library: libcabinet.a.
  *
- * A controller keeps two records from power-on, a layout and a state, and lends them to the functions below. The library keeps nothing
- * between calls, allocates nothing, reads and writes no file, and calls no function of the C library but memcpy, memmove and memset.
+ * A controller keeps two records from power-on, a state and a layout, and lends them to each of the functions below, first and in this
+ * order. It writes them by these functions only: whatever it calls from power-on on, the state is then of a run on that layout. The
+ * library keeps nothing between calls, allocates nothing, reads and writes no file, and calls no function of the C library but memcpy,
+ * memmove and memset.
  * Every call returns. Each function is proved to do what is said here, for every input, on every byte that it is lent; what is lent must be
  * what the types say: records of the sizes below, `length` bytes behind a pointer, and no byte lent to a call twice if the call writes it.
  * A pointer to zero bytes is never followed, and may be null. The archive is for x86-64 Linux.
@@ -153,18 +155,16 @@ struct hiruketawha_drawn {
 
 /* ---- The functions. */
 
-/* The state's record at power-on (sections 1 and 5): everything reads none, no order, no route, no line secured, every block held in stage
- * 0, no bar. Writes the whole record, whatever it held. */
-void hiruketawha_cold(struct hiruketawha_state *state);
+/* Both records at power-on, each written whole, whatever it held. The layout has no objects: it is not sound, so every event and every
+ * panel gets 18 until a file is loaded. The state is cold (sections 1 and 5): everything reads none, no order, no route, no line secured,
+ * every block held in stage 0, no bar. */
+void hiruketawha_power_on(struct hiruketawha_state *state, struct hiruketawha_layout *layout);
 
-/* The layout's record at power-on: no objects. It is not sound, so every event and every panel gets 18 until a file is loaded. Writes the
- * whole record, whatever it held. */
-void hiruketawha_no_layout(struct hiruketawha_layout *layout);
-
-/* A layout file of `length` bytes into the layout's record (section 2). Where it is accepted, 0 and 0, and the whole record is written.
- * Where it is refused, 21 to 26 with the detail, and the record keeps what it held: a layout that was in use stays in use. After a file is
- * accepted the state begins anew: call hiruketawha_cold, since what is promised of a run holds for one layout from the cold start. */
-struct hiruketawha_load_reply hiruketawha_load(const uint8_t *bytes, size_t length, struct hiruketawha_layout *layout);
+/* A layout file of `length` bytes into the layout's record (section 2). Where it is accepted, 0 and 0, and both records are written whole:
+ * the state starts anew, cold, since what is promised of a run holds for one layout from the cold start. Where it is refused, 21 to 26
+ * with the detail, and both records keep every byte: a layout that was in use stays in use, and so does its state. */
+struct hiruketawha_load_reply hiruketawha_load(struct hiruketawha_state *state, struct hiruketawha_layout *layout, const uint8_t *bytes,
+                                               size_t length);
 
 /* One event (sections 3 to 6) on the state's record, on that layout; numbers of any size. 0 and 0, and the record is the next state; or a
  * refusal, 1 to 18, and the record is as it was. */

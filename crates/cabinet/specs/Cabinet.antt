@@ -1,25 +1,23 @@
--- What the entries of the cabinet tell, and what they leave in the records that are lent to them (sections 2, 3, 7).
-use lib.Dec.{eqb}
-use Rattle.laws.specs.Choice.{if_then_else_}
-use Rattle.layout.specs.declared.Layout.{Layout}
+-- What a call tells, as the records that the entries return have it (sections 2, 3, 7).
 use Rattle.layout.specs.declared.Loaded.{Loaded}
-use Rattle.interlocking.specs.declared.Answer.{Answer}
+use Rattle.panel.specs.declared.Drawn.{Drawn}
 use Rattle.cabinet.specs.declared.Reply.{Reply}
 use Rattle.cabinet.specs.declared.LoadReply.{LoadReply}
+use Rattle.cabinet.specs.declared.LoadedOver.{LoadedOver}
+use Rattle.cabinet.specs.Calls.{Records, afterLoad, Told}
 
--- what is told of an event; its next state goes into the state's record
-unfoldable pub reply : Answer → Reply
-reply a = record { number = a .number; detail = a .detail }
+-- of an event
+unfoldable pub reply : Told → Reply
+reply t = record { number = t .number; detail = t .detail }
 
--- what is told of a layout file
-unfoldable pub loadReply : Loaded → LoadReply
-loadReply a = record { number = a .number; detail = a .detail }
+-- of a layout file
+unfoldable pub loadReply : Told → LoadReply
+loadReply t = record { number = t .number; detail = t .detail }
 
--- what the layout's record holds afterwards. Section 2 gives a refused file no objects; a record that is lent stays as it was (demand 1). Demand 3 is of a
--- run on one layout from the cold start: after an accepted file the state's record must begin anew
-unfoldable pub layoutAfter : Layout → Loaded → Layout
-layoutAfter before a = if eqb (a .number) 0 then a .layout else before
+-- of a panel image: the detail is its length
+unfoldable pub drawnReply : Told → Drawn
+drawnReply t = record { number = t .number; length = t .detail }
 
--- the same with the answer's number and detail, as the code hands it on
-unfoldable pub loadOver : Layout → Loaded → Loaded
-loadOver before a = record { number = a .number; detail = a .detail; layout = layoutAfter before a }
+-- the answer to a layout file with what it leaves in both records, as the code hands it on
+unfoldable pub loadOver : Records → Loaded → LoadedOver
+loadOver before a = record { number = a .number; detail = a .detail; layout = afterLoad before a .layout; state = afterLoad before a .state }

@@ -1,17 +1,13 @@
 // The records that live in the cabinet from power-on, and the entries of the static library that a controller links (sections 2, 3, 7).
 // One thin entry lends the state's record to the event and changes it there; all else takes and returns states as values.
+// Each call's contract is the call's definition in specs/Calls.
 use interlocking::State;
 use layout::Layout;
-use layout::Loaded;
 use panel::Drawn;
 ghost use mathlib.Core.Path.{_≡_};
-ghost use lib.ListN.{length};
-ghost use Rattle.layout.specs.Layout.{noLayout};
 ghost use Rattle.layout.specs.Load.{load};
-ghost use Rattle.interlocking.specs.State.{cold};
-ghost use Rattle.interlocking.specs.Step.{step};
-ghost use Rattle.panel.specs.Panel.{answer, drawn};
-ghost use Rattle.cabinet.specs.Cabinet.{reply, loadReply, layoutAfter, loadOver};
+ghost use Rattle.cabinet.specs.Calls.{records, powerOn, loadFile, giveEvent, drawPanel, afterCall, tells};
+ghost use Rattle.cabinet.specs.Cabinet.{reply, loadReply, drawnReply, loadOver};
 
 // What is told of an event: the answer's number and its detail.
 #[repr(C)]
@@ -27,10 +23,18 @@ pub struct LoadReply {
     pub detail: usize,
 }
 
+// The answer to a layout file, with what it leaves in both records.
+struct LoadedOver {
+    number: u8,
+    detail: usize,
+    layout: Layout,
+    state: State,
+}
+
 // One event on the state's record: the state is taken out, the step is made of it, and its next state is stored in its place.
 pub fn event(state: &mut State, layout: Layout, kind: u32, first: u32, second: u32) -> Reply
-    ensures { λ r. ⌜ (r ≡ reply (step layout (now (state .entry)) kind first second))
-        × (now (state .exit) ≡ step layout (now (state .entry)) kind first second .next) ⌝ }
+    ensures { λ r. ⌜ (r ≡ reply (tells (records layout (now (state .entry))) (giveEvent kind first second)))
+        × (records layout (now (state .exit)) ≡ afterCall (records layout (now (state .entry))) (giveEvent kind first second)) ⌝ }
 {
     let s = *state;
     let a = s.step(layout, kind, first, second);
@@ -41,46 +45,53 @@ pub fn event(state: &mut State, layout: Layout, kind: u32, first: u32, second: u
     }
 }
 
-// A layout file for a record that holds a layout: a refused file leaves the layout as it was.
-fn load_over(bytes: &[u8], before: Layout) -> Loaded
-    ensures { λ r. ⌜ r ≡ loadOver before (load (now (bytes .entry))) ⌝ }
+// A layout file for records that hold a layout and a state: an accepted file starts the state anew, a refused one leaves both as they were.
+fn load_over(bytes: &[u8], layout: Layout, state: State) -> LoadedOver
+    ensures { λ r. ⌜ r ≡ loadOver (records layout state) (load (now (bytes .entry))) ⌝ }
 {
     let loaded = layout::load(bytes);
+    let accepted = loaded.layout;
+    let anew = State::cold();
     if loaded.number == 0 {
-        return loaded;
+        return LoadedOver {
+            number: loaded.number,
+            detail: loaded.detail,
+            layout: accepted,
+            state: anew,
+        };
     }
-    Loaded {
+    LoadedOver {
         number: loaded.number,
         detail: loaded.detail,
-        layout: before,
+        layout,
+        state,
     }
 }
 
-// The state's record at power-on.
+// Both records at power-on: a layout with no objects, so that every event gets 18 until a file is loaded, and the cold start.
 #[no_mangle]
-pub extern "C" fn hiruketawha_cold(state: &mut State)
-    ensures { λ _. ⌜ now (state .exit) ≡ cold ⌝ }
+pub extern "C" fn hiruketawha_power_on(state: &mut State, layout: &mut Layout)
+    ensures { λ _. ⌜ records (now (layout .exit)) (now (state .exit)) ≡ afterCall (records (now (layout .entry)) (now (state .entry))) powerOn ⌝ }
 {
+    *layout = layout::no_layout();
     *state = State::cold();
 }
 
-// The layout's record at power-on: no objects, so that every event gets 18 until a file is loaded.
+// A layout file into the layout's record, with the state started anew. A refused file leaves every byte of both records as it was.
 #[no_mangle]
-pub extern "C" fn hiruketawha_no_layout(layout: &mut Layout)
-    ensures { λ _. ⌜ now (layout .exit) ≡ noLayout ⌝ }
+pub extern "C" fn hiruketawha_load(
+    state: &mut State,
+    layout: &mut Layout,
+    bytes: &[u8],
+) -> LoadReply
+    ensures { λ r. ⌜ (r ≡ loadReply (tells (records (now (layout .entry)) (now (state .entry))) (loadFile (now (bytes .entry)))))
+        × (records (now (layout .exit)) (now (state .exit)) ≡ afterCall (records (now (layout .entry)) (now (state .entry))) (loadFile (now (bytes .entry)))) ⌝ }
 {
-    *layout = layout::no_layout();
-}
-
-// A layout file into the layout's record. A refused file leaves every byte of the record as it was.
-#[no_mangle]
-pub extern "C" fn hiruketawha_load(bytes: &[u8], layout: &mut Layout) -> LoadReply
-    ensures { λ r. ⌜ (r ≡ loadReply (load (now (bytes .entry))))
-        × (now (layout .exit) ≡ layoutAfter (now (layout .entry)) (load (now (bytes .entry)))) ⌝ }
-{
-    let before = *layout;
-    let a = load_over(bytes, before);
+    let s = *state;
+    let l = *layout;
+    let a = load_over(bytes, l, s);
     *layout = a.layout;
+    *state = a.state;
     LoadReply {
         number: a.number,
         detail: a.detail,
@@ -96,8 +107,8 @@ pub extern "C" fn hiruketawha_event(
     first: u32,
     second: u32,
 ) -> Reply
-    ensures { λ r. ⌜ (r ≡ reply (step (now (layout .entry)) (now (state .entry)) kind first second))
-        × (now (state .exit) ≡ step (now (layout .entry)) (now (state .entry)) kind first second .next) ⌝ }
+    ensures { λ r. ⌜ (r ≡ reply (tells (records (now (layout .entry)) (now (state .entry))) (giveEvent kind first second)))
+        × (records (now (layout .entry)) (now (state .exit)) ≡ afterCall (records (now (layout .entry)) (now (state .entry))) (giveEvent kind first second)) ⌝ }
 {
     let l = *layout;
     event(state, l, kind, first, second)
@@ -106,8 +117,8 @@ pub extern "C" fn hiruketawha_event(
 // The panel image into a lent buffer.
 #[no_mangle]
 pub extern "C" fn hiruketawha_panel(state: &State, layout: &Layout, image: &mut [u8]) -> Drawn
-    ensures { λ r. ⌜ (r ≡ answer (now (layout .entry)) (now (state .entry)) (length (now (image .entry))))
-        × (now (image .exit) ≡ drawn (now (layout .entry)) (now (state .entry)) (now (image .entry))) ⌝ }
+    ensures { λ r. ⌜ (r ≡ drawnReply (tells (records (now (layout .entry)) (now (state .entry))) (drawPanel (now (image .entry)))))
+        × (now (image .exit) ≡ tells (records (now (layout .entry)) (now (state .entry))) (drawPanel (now (image .entry))) .buffer) ⌝ }
 {
     let s = *state;
     let l = *layout;

@@ -10,4 +10,6 @@ pub mod Further
 pub mod Onward
 pub mod Outcomes
 pub mod Buffer
+pub mod Events
+pub mod Printed
 pub mod Unique

@@ -1,10 +1,11 @@
 -- The list from a place of the file on: as many events as the file has bytes are enough, and what stands at the place tells how it begins.
-use Prim.Native.Nat.{ℕ, zero, suc, _+_, _<_, _≤_}
+use Prim.Native.Nat.{ℕ, zero, suc, _+_, _≤_}
 use mathlib.Core.Path.{_≡_, refl, sym, ap, subst}
 use mathlib.Core.Bool.{Bool}
 use mathlib.Core.List.{List, [], _++_}
 use mathlib.Core.Logic.{_⊎_, inl, inr, ⊎-elim}
 use native.Mathlib.Omega.{arith}
+use borrow.Author.Tests.{ltb-false}
 use lib.Dec.{ltb}
 use lib.ListN.{length}
 use Rattle.laws.proofs.Choice.{if-both}
@@ -23,26 +24,26 @@ use Rattle.event_file.specs.List.{eventsWord, faultLine, answerLine, lis
 use Rattle.event_file.proofs.Reading.{event-none}
 
 module _ (file : List ℕ) where
-  -- ---- an event ends behind the place where it begins and not past the file's end, and a fault is 21 or 22
+  -- ---- an event takes three bytes or more and ends not past the file's end, a fault is 21 or 22, and nothing stands past the end alone
 
   -- it is so of what stands at a place
   abbrev pub Past : ℕ → Next → Type 0
-  Past at (Taken kind first second next) = (at < next) × (next ≤ length file)
+  Past at (Taken kind first second next) = (at + 3 ≤ next) × (next ≤ length file)
   Past at (Bad number place) = (number ≡ 21) ⊎ (number ≡ 22)
-  Past at Nothing = Unit {0}
+  Past at Nothing = length file ≤ at
 
   -- the fault of one number
   fault-past : (place : ℕ) {m p : ℕ} → Fault m p ≡ numberAt file place → (m ≡ 21) ⊎ (m ≡ 22)
   fault-past place e = ⊎-elim (λ z. inr z) (λ z. inl (z .0)) (fault-number file place e refl)
 
-  -- the second number of an event, read at the place or behind it
-  second-past : (at kind first place : ℕ) (n : Number) → at ≤ place → n ≡ numberAt file place → Past at (withSecond kind first n)
+  -- the second number of an event, read two bytes behind the place or further
+  second-past : (at kind first place : ℕ) (n : Number) → at + 2 ≤ place → n ≡ numberAt file place → Past at (withSecond kind first n)
   unfolding withSecond
   second-past at kind first place (Value value next) h e = (omega (arith, number-after file place e refl), number-inside file place e refl)
   second-past at kind first place (Fault number p) h e = fault-past place e
 
-  -- the first number, with the second behind it
-  first-past : (at kind place : ℕ) (n : Number) → at ≤ place → n ≡ numberAt file place → Past at (withFirst file kind n)
+  -- the first number, read a byte behind the place or further, with the second behind it
+  first-past : (at kind place : ℕ) (n : Number) → at + 1 ≤ place → n ≡ numberAt file place → Past at (withFirst file kind n)
   unfolding withFirst
   first-past at kind place (Value value next) h e =
       second-past at kind value next (numberAt file next) (omega (arith, number-after file place e refl)) refl
@@ -58,12 +59,12 @@ module _ (file : List ℕ) where
   -- so it holds of every place
   pub event-past : (at : ℕ) → Past at (eventAt file at)
   unfolding eventAt
-  event-past at = if-both (Past at) (ltb at (length file)) (λ t. kind-past at at (numberAt file at) (omega arith) refl) (λ t. tt)
+  event-past at = if-both (Past at) (ltb at (length file)) (λ t. kind-past at at (numberAt file at) (omega arith) refl) (λ t. ltb-false at (length file) t)
 
   module _ (f : State → Event → Answer) (panel : Bool) (show : State → List ℕ) where
     -- ---- one more event is allowed, and there is none
 
-    -- an event takes at least a byte, so what is left is enough for what follows it
+    -- an event takes bytes, so what is left is enough for what follows it
     next-more : (m : ℕ)
         → ((s : State) (n at : ℕ) → length file ≤ m + at → listFrom (suc m) f panel show file s n at ≡ listFrom m f panel show file s n at)
         → (s : State) (n at : ℕ) (x : Next) → Past at x → length file ≤ suc m + at
@@ -77,7 +78,7 @@ module _ (file : List ℕ) where
     next-more m before s n at Nothing p h = refl
 
     -- by the events that are allowed
-    one-more : (m : ℕ) (s : State) (n at : ℕ) → length file ≤ m + at → listFrom (suc m) f panel show file s n at ≡ listFrom m f panel show file s n at
+    pub one-more : (m : ℕ) (s : State) (n at : ℕ) → length file ≤ m + at → listFrom (suc m) f panel show file s n at ≡ listFrom m f panel show file s n at
     unfolding listFrom listNext
     one-more zero s n at h = let past : length file ≤ at = omega arith in rw (← event-none file at past)
     one-more (suc m) s n at h = next-more m (one-more m) s (nextCount n) at (eventAt file at) (event-past at) h

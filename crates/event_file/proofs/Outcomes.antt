@@ -49,7 +49,7 @@ module _ (f : State → Event → Answer) (panel : Bool) (show : State → List 
         → Outcome s n at (suc at) (nextOf f panel show true s n at x)
     unfolding nextOf took stopped if_then_else_
     read-outcome (Taken kind first second next) p e =
-        goes (omega arith) (p .0) (p .1) (from-taken file f panel show s n (length gone + at) kind first second (length gone + next) e)
+        goes (omega arith) (omega (arith, p .0)) (p .1) (from-taken file f panel show s n (length gone + at) kind first second (length gone + next) e)
     read-outcome (Bad number place) p e =
         rw (both-fail (eqb number 21) false refl)
         (fails (⊎-elim (λ z. omega (arith, z)) (λ z. omega (arith, z)) p) (from-bad file f panel show s n (length gone + at) number (length gone + place) e))

@@ -44,12 +44,12 @@ module _ (L : Layout) (s : State) (h : sound L ≡ true) (e : inRange s ≡ true
   shown-same = ap (λ (d : Drawn). shownBy d (image L s)) (run-answer-same L s h e 512)
 
   -- 512 bytes are enough, so the answer is 0 with the image's length
-  drawn-whole : record { number = 0; length = length (image L s) } ≡ answer L s 512
+  pub drawn-whole : (room : ℕ) → 512 ≤ room → record { number = 0; length = length (image L s) } ≡ answer L s room
   unfolding answer answerWhere _and_
-  drawn-whole =
-      if-false _ _ _ _ (rw (h, e)) (if-ge 512 (length (image L s)) _ _ _ (omega (arith, length-image L s, length-most L (sound-says L h .ranges))) refl)
+  drawn-whole room enough =
+      if-false _ _ _ _ (rw (h, e)) (if-ge room (length (image L s)) _ _ _ (omega (arith, length-image L s, length-most L (sound-says L h .ranges))) refl)
 
   -- what a line with the panel shows of a state in range on a sound layout is its image, whole
   pub shown-whole : shown L s ≡ image L s
   unfolding shown shownBy
-  shown-whole = sym (if-true _ _ _ _ (ap (λ (d : Drawn). eqb (d .number) 0) (sym drawn-whole)) refl)
+  shown-whole = sym (if-true _ _ _ _ (ap (λ (d : Drawn). eqb (d .number) 0) (sym (drawn-whole 512 (omega arith)))) refl)

@@ -14,7 +14,7 @@ use Rattle.layout_facts.proofs.Order.{one-of}
 
 module _ (L : Layout) (S : Sound L) where
   -- the block nearest an end is there
-  nearest-there : (l e : ℕ) → l < L .lines → nearestBlock L l e < lineIn L l .blocks
+  pub nearest-there : (l e : ℕ) → l < L .lines → nearestBlock L l e < lineIn L l .blocks
   unfolding nearestBlock nearest
   nearest-there l e hl = let few = S .ranges .lines l hl .blockCount in if-both (λ i. i < lineIn L l .blocks) _ (λ a. omega arith) (λ b. omega arith)
 

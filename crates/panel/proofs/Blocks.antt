@@ -21,7 +21,7 @@ use Rattle.signals.specs.Signals.{enterableBy, enterable}
 use Rattle.signals.specs.BlockSignals.{blockShows, blockShownWhere}
 use Rattle.panel.specs.Panel.{join, blocks, blockBytes, lineBytes}
 use Rattle.panel.specs.Writes.{Wrote, blockBy, lineBy}
-use Rattle.panel.proofs.Writes.{wrote-one, wrote-then}
+use Rattle.panel.proofs.Writes.{length-join, wrote-one, wrote-then}
 
 -- ---- one block
 
@@ -33,9 +33,7 @@ module _ (stages bars : List ℕ) (n way : ℕ) (placed : Bool) (l : ℕ) where
 
   -- k blocks have three bytes each
   blocks-length : (k : ℕ) → length (join k (blockBy stages bars n way placed l)) ≡ 3 * k
-  unfolding join
-  blocks-length zero = refl
-  blocks-length (suc k) = length-append (join k _) _ ∙ ap₂ _+_ (blocks-length k) (block-length k) ∙ omega arith
+  blocks-length = length-join (blockBy stages bars n way placed l) 3 block-length
 
   -- stage, signal A to B and signal B to A, stored one after the other, are the bytes of block i
   pub block-made : (i at stage ab ba : ℕ) (b : List ℕ) → stage ≡ read mostPlaces stage0 stages (place l i)

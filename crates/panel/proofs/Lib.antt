@@ -3,3 +3,5 @@ pub mod Blocks
 pub mod Laws
 pub mod Answers
 pub mod Unique
+pub mod Image
+pub mod Whole

@@ -1,12 +1,12 @@
 -- Bytes written one after the other into a buffer.
-use Prim.Native.Nat.{ℕ, zero, suc, _+_, _≤_}
+use Prim.Native.Nat.{ℕ, zero, suc, _+_, _*_, _≤_}
 use mathlib.Core.Path.{_≡_, refl, sym, ap, _∙_}
 use mathlib.Core.List.{List, [], _∷_, _++_}
 use native.Mathlib.Nat.{add-zero, add-suc, suc-add, zero-add}
 use native.Mathlib.Numerals.{add-one}
 use native.Mathlib.Omega.{arith}
 use borrow.Author.Needs.{needs}
-use lib.ListN.{length, set}
+use lib.ListN.{length, set, length-append}
 use lib.Seq.{length-sets}
 use Rattle.laws.specs.Tables.{tableFrom, table}
 use Rattle.numerals.proofs.Writes.{written-then}
@@ -31,6 +31,12 @@ table-more n f = rw add-one (from-more n 0 f ∙ ap (λ m. tableFrom 0 n f ++ (f
 join-more : (n : ℕ) (f : ℕ → List ℕ) → join (n + 1) f ≡ join n f ++ f n
 unfolding join
 join-more n f = rw (add-one, join)
+
+-- n runs of m bytes each
+pub length-join : (f : ℕ → List ℕ) (m : ℕ) → ((i : ℕ) → length (f i) ≡ m) → (n : ℕ) → length (join n f) ≡ m * n
+unfolding join
+length-join f m e zero = omega arith
+length-join f m e (suc n) = length-append (join n f) (f n) ∙ omega (arith, length-join f m e n, e n)
 
 -- ---- what is written after what was written
 

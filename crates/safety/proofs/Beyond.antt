@@ -14,8 +14,9 @@ use Rattle.passage.specs.Passage as passage
 use Rattle.layout.specs.declared.Layout.{Layout}
 use Rattle.layout.specs.Layout.{lineIn}
 use Rattle.layout_facts.specs.Plain.{innerSection, Sound}
-use Rattle.safety.specs.Demand3.{farSection}
-use Rattle.safety.proofs.Entries.{Is, holds, fails, which, block-there, chosen, passed-over}
+use Rattle.safety.specs.Cleared.{farSection}
+use Rattle.laws.proofs.Choice.{Is, holds, fails, which, chosen, passed-over}
+use Rattle.step_facts.proofs.Entries.{block-there}
 
 -- another block of the line, with a signal between; or an end of the line
 pub data BeyondCase (L : Layout) (l i w : ℕ) : Beyond → Type 0 where

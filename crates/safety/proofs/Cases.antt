@@ -4,7 +4,7 @@ use mathlib.Core.Path.{_≡_, refl, sym, ap, ap₂, _∙_}
 use mathlib.Core.Bool.{true, false≢true}
 use mathlib.Core.List.{List, [], _∷_, _++_}
 use native.Mathlib.Omega.{arith}
-use borrow.Author.Tests.{eqb-true}
+use borrow.Author.Tests.{eqb-true, eq-eqb}
 use lib.ListN.{length, drop-of-length-le}
 use lib.Seq.{sets, sets-eq}
 use Rattle.laws.specs.Tests.{every}
@@ -32,6 +32,11 @@ same-means [] [] t = refl
 same-means [] (y ∷ ys) t = absurd (false≢true t)
 same-means (x ∷ xs) [] t = absurd (false≢true t)
 same-means (x ∷ xs) (y ∷ ys) t = ap₂ (λ (n : ℕ) (ns : List ℕ). n ∷ ns) (eqb-true x y (and-left _ _ t)) (same-means xs ys (and-right _ _ t))
+
+-- a list is the same as itself
+pub same-itself : (xs : List ℕ) → same xs xs ≡ true
+same-itself [] = refl
+same-itself (x ∷ xs) = and-both _ _ (eq-eqb x x refl) (same-itself xs)
 
 -- the image is P2's
 cold-image : image layoutT cold ≡ coldPanel

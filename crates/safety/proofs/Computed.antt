@@ -16,7 +16,8 @@ use Rattle.passage.specs.Passage.{ownStage, departure, arrival, beyond, section
 use Rattle.line_block.specs.FarSections.{drops, farMoved, farStageAt, farStages}
 use Rattle.line_block.specs.LineRelease.{lastBlock, passable, wasInStage2, endsBy, directionAfter, directionsAfter}
 use Rattle.release.specs.Release.{watchedSection, watchedBlock, exitPair, pathPair, watchedPair, stepsAfter, toVacate, endReading, vacated, secondsAfter, goes, lockingAfter}
-use Rattle.layout_facts.specs.Plain.{innerSection, entranceSignal, nearestBlock}
+use Rattle.layout_facts.specs.Plain.{innerSection, entranceSignal, nearestBlock, path, overlap, routePoint, routePosition, linePoint, linePosition}
+use Rattle.layout_facts.specs.Plain as plain
 use Rattle.layout_facts.proofs.BranchT.{computed}
 use Rattle.reasons.specs.Refusal.{refused, noRefusal, refusedIf, found, firstOf}
 use Rattle.reasons.specs.Searches.{lacking, misplaced, routeLocks, lineLocks, failing}
@@ -32,9 +33,10 @@ use Rattle.interlocking.specs.Step.{rowRefusal, moves, stays, tried, followed, 
 use Rattle.panel.specs.Panel.{join, blocks, routeByte, blockBytes, lineBytes, image, panelLength, drawnWhere, drawn}
 use Rattle.panel.specs.Panel as panels
 use Rattle.step_facts.specs.Run.{box, boxInRun, stateAfter, answers, fromCold}
-use Rattle.safety.specs.Shown.{signalShows, routeShows, lineShows, panel}
-use Rattle.safety.specs.History.{says, shown, sinceSpell, untilSpell, moment, goesOn, history}
-use Rattle.safety.specs.History as told
+use Rattle.panel.specs.Shown.{sectionShown, pointShown, signalShown, routeShown, lineShown, blockShown}
+use Rattle.safety.specs.History.{gaveSection, reads, shown, moment, goesOn, history}
+use Rattle.safety.specs.Locked.{gaveFirst, gaveSecond, secondsSince}
+use Rattle.safety.specs.Lights.{position}
 
 -- whoever unfolds this unfolds all that a run, its history and what shows in it are made of
 unfoldable pub runComputed : ℕ
@@ -55,5 +57,6 @@ unfolding computed
     numbersRefusal nothing givesReading aSecond sectionRow pointRow throwRow setRow cancelRow secureRow manualRow barRow secondRow noRow rowOf
     rowRefusal moves stays tried followed answeredBy stepWhere step askedInRun stepInRun refusal own gives after
     join blocks proceedShown shownBy shownFor mainShows routeByte hasSignal lightShown blockShows blockBytes lineBytes image panelLength panels.refused panels.answerWhere panels.answer drawnWhere drawn
-    box boxInRun stateAfter answers fromCold signalShows shows routeShows lineShows panel says told.reading shown sinceSpell untilSpell moment goesOn history
+    box boxInRun stateAfter answers fromCold shows sectionShown pointShown signalShown routeShown lineShown blockShown gaveSection reads shown moment goesOn history
+    gaveFirst gaveSecond secondsSince position plain.ownSection path overlap routePoint routePosition linePoint linePosition
 runComputed = 0

@@ -7,7 +7,7 @@ use mathlib.Core.Bool.{true, false}
 use mathlib.Core.List.{List, _∷_}
 use native.Mathlib.Decide.{ℕ-discrete}
 use native.Mathlib.Omega.{arith}
-use borrow.Author.Tests.{eqb-true, eq-eqb, ne-eqb, ltb-true, lt-ltb, not-true}
+use borrow.Author.Tests.{eqb-true, eq-eqb, ne-eqb, lt-ltb, not-true}
 use lib.ListN.{getD}
 use Rattle.laws.specs.Choice.{if_then_else_}
 use Rattle.laws.specs.Tests.{_and_}
@@ -20,7 +20,6 @@ use Rattle.tables.specs.Readings as readings
 use Rattle.tables.specs.Blocks.{isOpen}
 use Rattle.signals.specs.Signals.{enterableBy, enterable, clear, routeProceeds, mainProceeds, blockProceeds}
 use Rattle.signals.specs.BlockSignals.{hasSignal}
-use Rattle.signals.specs.Numbers.{shows}
 use Rattle.passage.specs.declared.Beyond.{Beyond}
 use Rattle.passage.specs.Passage.{beyond, sectionAt, signalAt, farSignal}
 use Rattle.passage.specs.Passage as passage
@@ -31,24 +30,28 @@ use Rattle.layout.specs.Sound.{sound}
 use Rattle.layout_facts.specs.Plain.{InBlock, innerSection, entranceSignal, path, Sound}
 use Rattle.layout_facts.proofs.Uses.{entrance-path}
 use Rattle.interlocking.specs.declared.State.{State}
-use Rattle.interlocking.specs.State.{inRange, withRoutes, withLines}
-use Rattle.interlocking.specs.Settle.{signals, proceedsIn, farSections, routesBy, routes, lineRelease, settle}
-use Rattle.interlocking.specs.Step.{refusal, after}
+use Rattle.interlocking.specs.State.{inRange, withRoutes}
+use Rattle.interlocking.specs.Settle.{signals, proceedsIn, routes}
+use Rattle.interlocking.specs.Step.{refusal}
 use Rattle.step_facts.specs.Run.{Event}
-use Rattle.signals.proofs.Shows.{main-shows, main-stops}
-use Rattle.safety.specs.Shown.{signalShows, lineShows, panel}
-use Rattle.safety.specs.History.{History, says, gaveBlock, reading, Since}
-use Rattle.safety.specs.Demand3.{farSection, Proceeds, Stops, Passage}
-use Rattle.safety.specs.FarInState.{farReading, farProceeds, farDropped}
-use Rattle.safety.proofs.Entries.{phase, direction, stage, block, block-there, chosen, passed-over}
-use Rattle.safety.proofs.Passed.{two-ways, secure-neutral}
-use Rattle.safety.proofs.Within.{On, done, lit, end, says-of-one, says-other, phase-kept, lit-clear, direction-same, direction-held}
-use Rattle.safety.proofs.Blocks.{OwnCase, byHand, unread, frees, shuts, takes, FarCase, keeps, proves, loses}
+use Rattle.panel.specs.Panel.{image}
+use Rattle.panel.specs.Shown.{panel}
+use Rattle.safety.specs.History.{History, gaveSection, gaveBlock, sectionReads, shown, Since}
+use Rattle.safety.specs.Cleared.{farSection, Proceeds, Stops, Passage}
+use Rattle.step_facts.specs.FarInState.{farReading, farProceeds, farDropped}
+use Rattle.laws.proofs.Choice.{chosen, passed-over}
+use Rattle.step_facts.proofs.Entries.{phase, direction, stage, block, block-there}
+use Rattle.step_facts.proofs.Passed.{two-ways, secure-neutral}
+use Rattle.step_facts.proofs.Within.{On, done, lit, end, phase-kept, lit-clear, direction-same, direction-held}
+use Rattle.safety.proofs.Given.{granted, one-section}
+use Rattle.safety.proofs.Blocks.{OwnCase, byHand, unread, frees, shuts, takes, own-of}
+use Rattle.step_facts.proofs.FarCases.{FarCase, keeps, proves, loses, far-of, open-same, enterable-same}
 use Rattle.safety.proofs.Beyond.{BeyondCase, aBlock, aStation, beyond-case, far-there}
-use Rattle.safety.proofs.Signals.{into-lit, into-stops}
-use Rattle.safety.proofs.Told.{reading-kept, reading-given}
+use Rattle.safety.proofs.Signals.{one-each-way, main-lit, main-stopped, into-lit, into-stops}
+use Rattle.panel.proofs.Image.{shows-line}
+use Rattle.safety.proofs.Told.{reads-kept, reads-given}
 use Rattle.safety.proofs.Invariant.{Inv}
-use Rattle.safety.proofs.Routes.{granted, own-of, far-of, open-same, enterable-same, reads-on}
+use Rattle.safety.proofs.ReadAfter.{reads-done}
 use Rattle.safety.proofs.Held.{opened-then}
 
 -- ---- the far section
@@ -60,7 +63,7 @@ first-free sections xs n h b = eqb-true _ 1 (all-at _ _ h 0 b)
 
 module _ (L : Layout) (S : Sound L) (l i w : ℕ) (b : l < L .lines) (c : i < lineIn L l .blocks) where
   -- rule 1: it is another section than the block
-  far-other : (x : Beyond) → BeyondCase L l i w x → block L l i ≢ sectionAt (lineIn L l) w x
+  pub far-other : (x : Beyond) → BeyondCase L l i w x → block L l i ≢ sectionAt (lineIn L l) w x
   unfolding sectionAt facing InBlock innerSection
   far-other x (aBlock j h d up down) q = d (S .rule1 .once l i l j _ b c b h (only-in (lineIn L l) i) (rw q (only-in (lineIn L l) j)) .1)
   far-other x (aStation e h) q = S .rule1 .noInner l i l e b c b h (rw q at (only-in (lineIn L l) i))
@@ -92,24 +95,25 @@ far-signal n w j up down = go (ℕ-discrete w 1)
 
 module _ (L : Layout) (S : Sound L) (s : State) (e : Event) (l i w : ℕ) (b : l < L .lines) where
   -- a far signal at proceed shows proceed
-  far-showed : (x : Beyond) → BeyondCase L l i w x → w ≢ 0 → direction s l ≤ 2 → proceedsIn L s (signalAt (lineIn L l) l w x) ≡ true → Proceeds (panel L s) (signalAt (lineIn L l) l w x)
-  unfolding proceedsIn signalAt panel signalShows shows blockProceeds
+  far-showed : (x : Beyond) → BeyondCase L l i w x → w ≢ 0 → direction s l ≤ 2 → proceedsIn L s (signalAt (lineIn L l) l w x) ≡ true
+      → Proceeds (panel L (image L s)) (signalAt (lineIn L l) l w x)
+  unfolding proceedsIn signalAt blockProceeds entranceSignal
   far-showed x (aBlock j h d up down) z few p =
       let way = eqb-true (direction s l) w (and-left _ _ p) in
-      into-lit L s l j w z (omega arith) (far-signal _ w j up down) p
-  far-showed x (aStation k h) z few p = ltb-true 20 _ (main-shows _ _ _ _ ∙ p)
+      into-lit L s l j w b h (one-each-way w z (omega arith)) (far-signal _ w j up down) p
+  far-showed x (aStation k h) z few p = main-lit L s _ (S .ranges .lines l b .entrances k h) p
 
   -- one that fell within the event still shows stop at its end: phases never return to 1, and the far sections open no block
   far-stops : (x : Beyond) → BeyondCase L l i w x → w ≢ 0 → direction s l ≤ 2 → direction (done L s e) l ≡ w → direction (end L s e) l ≡ w
       → proceedsIn L s (signalAt (lineIn L l) l w x) ≡ true → proceedsIn L (lit L s e) (signalAt (lineIn L l) l w x) ≡ false
-      → Stops (panel L (end L s e)) (signalAt (lineIn L l) l w x)
-  unfolding proceedsIn signalAt panel signalShows shows blockProceeds mainProceeds routeProceeds signals withRoutes
+      → Stops (panel L (image L (end L s e))) (signalAt (lineIn L l) l w x)
+  unfolding proceedsIn signalAt blockProceeds mainProceeds routeProceeds signals withRoutes entranceSignal
   far-stops x (aBlock j h d up down) z few own now p f =
       let way = eqb-true (direction s l) w (and-left _ _ p) in
-      into-stops L (end L s e) l j w z (omega arith) (far-signal _ w j up down) now
+      into-stops L (end L s e) l j w b h (one-each-way w z (omega arith)) (far-signal _ w j up down) now
       (fails-from _ (λ t. not-both (and-both _ _ (eq-eqb _ w own) (sym (enterable-same L S s e l j b h) ∙ t)) f))
   far-stops x (aStation k h) z few own now p f =
-      main-stops (L .routes) (L .route) (end L s e .phase) _
+      main-stopped L (end L s e) _ (S .ranges .lines l b .entrances k h)
       (fails-from _ (λ t.
       let (r, there, lit) = any-some _ _ t in
       let one = eqb-true (phase (end L s e) r) 1 (and-left _ _ lit) in
@@ -121,18 +125,18 @@ module _ (L : Layout) (S : Sound L) (s : State) (e : Event) (l i w : ℕ) (b : l
 module _ (L : Layout) (S : Sound L) (s : State) (h : History) (I : Inv L s h) (e : Event)
     (pass : refusal (sound L and inRange s) L s (e .kind) (e .first) (e .second) .number ≡ 0) (l i : ℕ) (b : l < L .lines) (c : i < lineIn L l .blocks) where
   -- what lies beyond the block
-  there : (w : ℕ) → BeyondCase L l i w (beyond (lineIn L l) i w)
+  pub there : (w : ℕ) → BeyondCase L l i w (beyond (lineIn L l) i w)
   there w = beyond-case L l i w c
 
   -- what the far section reads within the event is what the history tells of it
-  far-reads : (w : ℕ) → farReading L (lit L s e) l i w ≡ reading (farSection L l i w) (granted L s e ∷ h)
-  unfolding after settle lineRelease withLines routes routesBy withRoutes farSections signals
-  far-reads w = reads-on L S s h I e pass (farSection L l i w) (far-there L S l i w b c)
+  pub far-reads : (w : ℕ) → farReading L (lit L s e) l i w ≡ sectionReads L (farSection L l i w) (granted L s e ∷ h)
+  unfolding signals withRoutes
+  far-reads w = reads-done L S s h I e (farSection L l i w) (far-there L S l i w b c)
 
   -- "to stop" follows from "from proceed" on a sound layout: within the event a far section that reads occupied holds its signal at stop.
   -- The next block would be open and read free; a route in from the line would have the inner section free in its path
   pub stop-follows : (w : ℕ) → farReading L (lit L s e) l i w ≡ 2 → farProceeds L (lit L s e) l i w ≡ false
-  unfolding passage.farSection farSignal isOpen after settle lineRelease withLines routes routesBy withRoutes farSections signals
+  unfolding passage.farSection farSignal isOpen signals withRoutes
   stop-follows w taken =
       fails-from _ (λ t.
       let free = far-free L S l i w b c (lit L s e) opens (lit-clear L (S .ranges .routeCount) s e) (beyond (lineIn L l) i w) (there w) t in
@@ -140,74 +144,79 @@ module _ (L : Layout) (S : Sound L) (s : State) (h : History) (I : Inv L s h) (e
     where
       opens : (j : ℕ) → j < lineIn L l .blocks → stage (done L s e) l j ≡ 0 → readings.reading (done L s e .section) (block L l j) ≡ 1
       opens j k z =
-          reads-on L S s h I e pass _ (block-there L S l j b k)
+          reads-done L S s h I e _ (block-there L S l j b k)
           ∙ opened-then L S s h I e pass l j b k (eqb-true _ 0 (open-same L S s e l j b k ∙ eq-eqb _ 0 z)) .isFree
 
   -- a block that was in stage 2 and stays there: the passage waits on
   waits-on : stage (done L s e) l i ≡ 3 → (direction (done L s e) l ≢ 0 → farReading L (lit L s e) l i (direction (done L s e) l) ≢ 3)
       → (direction (done L s e) l ≢ 0) × Passage L l i (direction (done L s e) l) (granted L s e ∷ h)
   unfolding Since
-  waits-on z far = go (own-of L S s e l i b c)
+  waits-on z far = go (own-of L S s e h l i b c)
     where
-      on : stage s l i ≡ 3 → ¬ On 7 e l → gaveBlock L l i (granted L s e) ≢ 3 → gaveBlock L l i (granted L s e) ≢ 1
+      on : stage s l i ≡ 3 → ¬ On 7 e l → gaveBlock L l i (granted L s e) h ≢ 3 → gaveBlock L l i (granted L s e) h ≢ 1
           → (direction (done L s e) l ≢ 0) × Passage L l i (direction (done L s e) l) (granted L s e ∷ h)
       on was hand none free =
-          let P = I .passing l i b c was in
+          let P = I .blocks l i b c .passes was in
           let same : direction (done L s e) l ≡ direction s l =
           direction-same L (S .ranges .lineCount) s e l b (λ u. P .0 (ap (direction s) (sym (u .1)) ∙ secure-neutral L s e pass (u .0))) hand in (
             λ q. P .0 (sym same ∙ q),
-            inr ((none, free, λ q. far (λ y. P .0 (sym same ∙ y)) (far-reads _ ∙ reading-given _ h _ 3 q (omega arith))), rw same (P .1)),
+            inr (((none, free), λ q. far (λ y. P .0 (sym same ∙ y)) (far-reads _ ∙ reads-given _ _ h 3 q (omega arith))), rw same (P .1)),
           )
 
-      go : OwnCase L e l i (stage s l i) (stage (done L s e) l i) → (direction (done L s e) l ≢ 0) × Passage L l i (direction (done L s e) l) (granted L s e ∷ h)
-      go (byHand k q x) = absurd (omega arith)
+      go : OwnCase (On 7 e l) (gaveBlock L l i (granted L s e) h) (stage s l i) (stage (done L s e) l i)
+          → (direction (done L s e) l ≢ 0) × Passage L l i (direction (done L s e) l) (granted L s e ∷ h)
+      go (byHand u q x) = absurd (omega arith)
       go (unread n q x) = on (sym x ∙ z) n (omega arith) (omega arith)
-      go (frees k q was x) = absurd (omega arith)
-      go (shuts k x) = absurd (omega arith)
-      go (takes k q (inl x) y) = absurd (omega arith)
-      go (takes k q (inr x) y) = on (sym x ∙ z) (λ u. let v = u .0 in omega arith) (omega arith) (omega arith)
+      go (frees n q was x) = absurd (omega arith)
+      go (shuts n q x) = absurd (omega arith)
+      go (takes n q (inl x) y) = absurd (let v = x .0 in omega arith)
+      go (takes n q (inr x) y) = on (sym x ∙ z) n (omega arith) (omega arith)
 
   -- a block that goes from stage 1 to 2: this event dropped the far signal and left the far section occupied. The far section read free before, so
   -- this event gave it occupied, so it gave the block nothing: the block was entered by an event before
   module _ (w : ℕ) (own : direction (done L s e) l ≡ w) (z : stage (done L s e) l i ≡ 2) (d : w ≢ 0) (taken : farReading L (lit L s e) l i w ≡ 2)
       (up : farProceeds L s l i w ≡ true) where
     -- the far section reads occupied then
-    now : reading (farSection L l i w) (granted L s e ∷ h) ≡ 2
+    now : sectionReads L (farSection L l i w) (granted L s e ∷ h) ≡ 2
     now = sym (far-reads w) ∙ taken
 
     -- before the event each open block read free
     opens : (j : ℕ) → j < lineIn L l .blocks → stage s l j ≡ 0 → readings.reading (s .section) (block L l j) ≡ 1
-    opens j k z = I .reads _ (block-there L S l j b k) ∙ I .opened l j b k z .isFree
+    opens j k z = I .reads _ (block-there L S l j b k) ∙ I .blocks l j b k .opens .0 z .isFree
 
-    -- so the far section read free, and this event says something of it
-    of-far : says e (farSection L l i w) ≢ 0
+    -- so the far section read free, and this event gave it something
+    of-far : gaveSection L (farSection L l i w) (granted L s e) h ≢ 0
     unfolding passage.farSection farSignal
     of-far q =
         let was = sym (I .reads _ (far-there L S l i w b c)) ∙ far-free L S l i w b c s opens (I .lights) (beyond (lineIn L l) i w) (there w) up in
-        let still = reading-kept (granted L s e) h _ q in
+        let still = reads-kept (gaveSection L (farSection L l i w)) (granted L s e) h q in
         omega (arith, now)
 
-    -- so it says nothing of the block, by rule 1 another section
-    of-block : says e (block L l i) ≡ 0
+    -- so it gave nothing to the block, by rule 1 another section
+    of-block : gaveBlock L l i (granted L s e) h ≡ 0
     unfolding passage.farSection
-    of-block = says-other e _ (λ q. far-other L S l i w b c (beyond (lineIn L l) i w) (there w) (sym q ∙ says-of-one e _ of-far .1))
+    of-block = go (ℕ-discrete (gaveBlock L l i (granted L s e) h) 0)
+      where
+        go : Dec (gaveBlock L l i (granted L s e) h ≡ 0) → gaveBlock L l i (granted L s e) h ≡ 0
+        go (yes q) = q
+        go (no q) = absurd (far-other L S l i w b c (beyond (lineIn L l) i w) (there w) (one-section L _ _ (granted L s e) h q of-far))
 
     -- so the block was in stage 1 or 2 before
     entered-before : 2 ≤ stage s l i
-    entered-before = go (own-of L S s e l i b c)
+    entered-before = go (own-of L S s e h l i b c)
       where
-        go : OwnCase L e l i (stage s l i) (stage (done L s e) l i) → 2 ≤ stage s l i
-        go (byHand k q x) = absurd (omega arith)
+        go : OwnCase (On 7 e l) (gaveBlock L l i (granted L s e) h) (stage s l i) (stage (done L s e) l i) → 2 ≤ stage s l i
+        go (byHand u q x) = absurd (omega arith)
         go (unread n q x) = omega arith
-        go (frees k q was x) = absurd (omega arith)
-        go (shuts k x) = absurd (omega arith)
-        go (takes k q x y) = absurd (omega (arith, of-block))
+        go (frees n q was x) = absurd (omega arith)
+        go (shuts n q x) = absurd (omega arith)
+        go (takes n q x y) = absurd (omega (arith, of-block))
 
   -- so this is the drop of a passage
   dropped : stage (done L s e) l i ≡ 2 → direction (done L s e) l ≢ 0 → direction (end L s e) l ≡ direction (done L s e) l
       → farReading L (lit L s e) l i (direction (done L s e) l) ≡ 2 → farDropped L s (lit L s e) l i (direction (done L s e) l) ≡ true
       → Passage L l i (direction (done L s e) l) (granted L s e ∷ h)
-  unfolding Since drops farSignal panel lineShows
+  unfolding Since drops farSignal shown
   dropped z d same taken fell =
       let w : ℕ = direction (done L s e) l in
       let x : Beyond = beyond (lineIn L l) i w in
@@ -215,9 +224,9 @@ module _ (L : Layout) (S : Sound L) (s : State) (h : History) (I : Inv L s h) (e
       let down : farProceeds L (lit L s e) l i w ≡ false = not-true _ (and-right _ _ fell) in
       let ways : direction s l ≤ 2 = two-ways L s e pass l in
       inl (record {
-        entered = I .entered l i b c (entered-before w refl z d taken up);
+        entered = I .blocks l i b c .enters .0 (entered-before w refl z d taken up);
         stays = let quiet = of-block w refl z d taken up in (omega arith, omega arith);
-        secured = (same, d);
+        secured = (shows-line L (end L s e) l b ∙ same, d);
         taken = now w refl z d taken up;
         fromProceed = rw (I .seen) (far-showed L S s e l i w b x (there w) d ways up);
         toStop = far-stops L S s e l i w b x (there w) d ways refl same up down;
@@ -232,6 +241,6 @@ module _ (L : Layout) (S : Sound L) (s : State) (h : History) (I : Inv L s h) (e
 
       go : FarCase L s (lit L s e) l i (direction (done L s e) l) (stage (done L s e) l i) (stage (end L s e) l i)
           → (direction (done L s e) l ≢ 0) × Passage L l i (direction (done L s e) l) (granted L s e ∷ h)
-      go (keeps x f) = waits-on (sym x ∙ z) (f z)
+      go (keeps x f g) = waits-on (sym x ∙ z) (f z)
       go (proves x was d o p) = (d, dropped was d unmoved o p)
-      go (loses x was) = absurd (omega arith)
+      go (loses x was far) = absurd (omega arith)

@@ -1,11 +1,12 @@
--- What the state of the box and the history have to do with each other: it holds at the cold start, and a refused event keeps it.
+-- What the state of the box and the history have to do with each other. The state holds just what the history tells: of each section and point what it reads,
+-- of each block its stage and its bar, of each line its direction, of each route its phase, its steps and its seconds. It holds at the cold start.
 use Prim.Native.Nat.{ℕ, _+_, _<_, _≤_}
-use mathlib.Core.Path.{_≡_, refl, sym, _∙_}
-use mathlib.Core.Logic.{_≢_, inr}
+use mathlib.Core.Path.{_≡_, refl}
+use mathlib.Core.Logic.{_≢_, _↔_}
 use mathlib.Core.Bool.{true}
-use mathlib.Core.List.{[], _∷_}
+use mathlib.Core.List.{[]}
 use native.Mathlib.Omega.{arith}
-use Rattle.track.specs.Sizes.{mostSections, mostPlaces, mostRoutes}
+use Rattle.track.specs.Sizes.{mostSections, mostPoints, mostLines, mostPlaces, mostRoutes}
 use Rattle.tables.specs.Readings as readings
 use Rattle.tables.specs.Blocks.{place}
 use Rattle.signals.specs.Signals.{clear}
@@ -14,31 +15,53 @@ use Rattle.layout.specs.Layout.{lineIn, routeIn, conflict}
 use Rattle.layout_facts.specs.Plain.{Sound}
 use Rattle.interlocking.specs.declared.State.{State}
 use Rattle.interlocking.specs.State.{cold, inRange}
+use Rattle.panel.specs.Panel.{image}
 use Rattle.step_facts.proofs.Range.{cold-in-range}
-use Rattle.safety.specs.Shown.{panel}
-use Rattle.safety.specs.History.{Moment, History, nothing, gave, reading, shown, Since}
-use Rattle.safety.specs.Demand3.{Entered, Passage}
-use Rattle.safety.proofs.Entries.{phase, direction, stage, block-there, read-same}
-use Rattle.safety.proofs.Beyond.{far-there}
-use Rattle.safety.proofs.Told.{reading-kept, Opened, opened-on}
+use Rattle.panel.specs.Shown.{panel}
+use Rattle.safety.specs.History.{History, gaveBlock, reads, sectionReads, shown, Since}
+use Rattle.safety.specs.Locked.{Vacated, Cancelled, secondsSince, Locked}
+use Rattle.safety.specs.Cleared.{Entered, Passage, Opened}
+use Rattle.safety.specs.Secured.{Barred, Secured}
+use Rattle.safety.specs.Lights.{position, NotFallen}
+use Rattle.step_facts.proofs.Entries.{phase, direction, stage, barAt, pointAt, stepsOf, secondsOf, read-same}
+use Rattle.safety.proofs.Steps.{Steps}
 
 -- ---- the invariant
 
--- the codes are in range; what shows, and what sections read, is as the history tells it; no two conflicting routes are locked; a signal at
--- proceed has all that keeps it there; the line of a locked exit route is secured its way; an open block reads free and was cleared; one in
--- stage 1 or 2 was entered; one in stage 2 waits for the free reading that closes a passage in the secured direction
+-- block i of line l: open just where it reads free and was cleared; in stage 1 or 2 just where it was entered; in stage 2 just where it waits for the free
+-- reading that closes a passage in the secured direction
+pub record BlockTold (L : Layout) (s : State) (h : History) (l i : ℕ) : Type 0 where
+  pub opens : stage s l i ≡ 0 ↔ Opened L l i h
+  pub enters : 2 ≤ stage s l i ↔ Entered (gaveBlock L l i) h
+  pub passes : stage s l i ≡ 3 → (direction s l ≢ 0) × Passage L l i (direction s l) h
+  pub waits : (w : ℕ) → Passage L l i w h → (stage s l i ≡ 3) × (direction s l ≡ w)
+
+-- route r: locked just where it is told so; of a locked one, that it is cancelling, that its signal is at proceed, its steps and its seconds. After the third
+-- step it is not vacated, or else it would have gone
+pub record RouteTold (L : Layout) (s : State) (h : History) (r : ℕ) : Type 0 where
+  pub locks : phase s r ≢ 0 ↔ Locked L r h
+  pub cancels : phase s r ≢ 0 → (phase s r ≡ 3 ↔ Cancelled r h)
+  pub steps : phase s r ≢ 0 → Steps L r (stepsOf s r) h
+  pub stands : phase s r ≢ 0 → stepsOf s r ≡ 3 → ¬ Vacated L r h
+  pub seconds : phase s r ≡ 3 → secondsOf s r ≡ secondsSince r h
+
+-- the codes are in range; what shows, what sections and points read, what is barred, and what is held of blocks, routes and lines is as the history tells
+-- it; no two conflicting routes are locked; a signal at proceed has all that keeps it there; the line of a locked exit route is secured its way
 pub record Inv (L : Layout) (s : State) (h : History) : Type 0 where
   pub ranged : inRange s ≡ true
-  pub seen : shown L h ≡ panel L s
-  pub reads : (g : ℕ) → g < L .sections → readings.reading (s .section) g ≡ reading g h
+  pub seen : shown L h ≡ panel L (image L s)
+  pub reads : (g : ℕ) → g < L .sections → readings.reading (s .section) g ≡ sectionReads L g h
+  pub points : (p : ℕ) → p < L .points → pointAt s p ≡ position p h
+  pub bars : (l i : ℕ) → l < L .lines → i < lineIn L l .blocks → (barAt s l i ≢ 0 ↔ Barred l i h)
+  pub blocks : (l i : ℕ) → l < L .lines → i < lineIn L l .blocks → BlockTold L s h l i
+  pub routes : (r : ℕ) → r < L .routes → RouteTold L s h r
+  pub upright : (r : ℕ) → r < L .routes → phase s r ≢ 0 → phase s r ≢ 3 → (phase s r ≡ 1 ↔ NotFallen L r h)
+  pub lines : (l : ℕ) → l < L .lines → (w : ℕ) → w ≢ 0 → (direction s l ≡ w ↔ Secured L l w h)
   pub apart : (r q : ℕ) → r < L .routes → q < L .routes → conflict L r q ≡ true → phase s r ≢ 0 → phase s q ≢ 0 → ⊥
   pub lights : (r : ℕ) → r < L .routes → phase s r ≡ 1 → clear (L .line) (s .section) (s .point) (s .stage) (s .bar) (routeIn L r) ≡ true
   pub exits : (r : ℕ) → r < L .routes → routeIn L r .kind ≡ 2 → phase s r ≢ 0 → direction s (routeIn L r .line) ≡ routeIn L r .end + 1
-  pub opened : (l i : ℕ) → l < L .lines → i < lineIn L l .blocks → stage s l i ≡ 0 → Opened L l i h
-  pub entered : (l i : ℕ) → l < L .lines → i < lineIn L l .blocks → 2 ≤ stage s l i → Entered L l i h
-  pub passing : (l i : ℕ) → l < L .lines → i < lineIn L l .blocks → stage s l i ≡ 3 → (direction s l ≢ 0) × Passage L l i (direction s l) h
 
--- ---- at the cold start everything reads none, every route is idle and every block held in stage 0
+-- ---- at the cold start everything reads none, nothing is barred, every route is idle, every line neutral and every block held in stage 0
 
 module _ (L : Layout) (S : Sound L) where
   -- every route is idle
@@ -46,44 +69,62 @@ module _ (L : Layout) (S : Sound L) where
   unfolding cold
   cold-phase r b = read-same mostRoutes 0 0 r (omega (arith, S .ranges .routeCount))
 
+  -- every line is neutral
+  cold-direction : (l : ℕ) → l < L .lines → direction cold l ≡ 0
+  unfolding cold
+  cold-direction l b = read-same mostLines 0 0 l (omega (arith, S .ranges .lineCount))
+
   -- every block is held in stage 0
   cold-stage : (l i : ℕ) → l < L .lines → i < lineIn L l .blocks → stage cold l i ≡ 1
   unfolding cold place
   cold-stage l i b h = read-same mostPlaces 1 1 _ (omega (arith, S .ranges .lineCount, S .ranges .lines l b .blockCount))
 
+  -- and not barred
+  cold-bar : (l i : ℕ) → l < L .lines → i < lineIn L l .blocks → barAt cold l i ≡ 0
+  unfolding cold place
+  cold-bar l i b h = read-same mostPlaces 1 0 _ (omega (arith, S .ranges .lineCount, S .ranges .lines l b .blockCount))
+
+  -- so nothing is told of any block
+  cold-block : (l i : ℕ) → l < L .lines → i < lineIn L l .blocks → BlockTold L cold [] l i
+  unfolding reads Since
+  cold-block l i b c = record {
+    opens = (λ z. absurd (omega (arith, held)), λ o. absurd (let f = o .isFree in omega arith));
+    enters = (λ z. absurd (omega (arith, held)), λ x. absurd x);
+    passes = λ z. absurd (omega (arith, held));
+    waits = λ w p. absurd p;
+  }
+    where
+      held : stage cold l i ≡ 1
+      held = cold-stage l i b c
+
+  -- nor of any route
+  cold-route : (r : ℕ) → r < L .routes → RouteTold L cold [] r
+  unfolding Since
+  cold-route r b = record {
+    locks = (λ d. absurd (d idle), λ x. absurd x);
+    cancels = λ d. absurd (d idle);
+    steps = λ d. absurd (d idle);
+    stands = λ d. absurd (d idle);
+    seconds = λ z. absurd (omega (arith, idle));
+  }
+    where
+      idle : phase cold r ≡ 0
+      idle = cold-phase r b
+
   -- so nothing is asked of the history but that everything reads none
   pub cold-has : Inv L cold []
-  unfolding shown reading cold readings.reading
+  unfolding shown reads position Since cold readings.reading readings.pointReading
   cold-has = record {
     ranged = cold-in-range;
     seen = refl;
     reads = λ g b. read-same mostSections 3 3 g (omega (arith, S .ranges .sectionCount));
+    points = λ p b. read-same mostPoints 3 3 p (omega (arith, S .ranges .pointCount));
+    bars = λ l i b c. (λ d. absurd (d (cold-bar l i b c)), λ x. absurd x);
+    blocks = cold-block;
+    routes = cold-route;
+    upright = λ r b d. absurd (d (cold-phase r b));
+    lines = λ l b w d. (λ q. absurd (d (omega (arith, cold-direction l b))), λ x. absurd x);
     apart = λ r q b c t d f. d (cold-phase r b);
     lights = λ r b p. absurd (omega (arith, cold-phase r b));
     exits = λ r b k d. absurd (d (cold-phase r b));
-    opened = λ l i b h z. absurd (omega (arith, cold-stage l i b h));
-    entered = λ l i b h z. absurd (omega (arith, cold-stage l i b h));
-    passing = λ l i b h z. absurd (omega (arith, cold-stage l i b h));
-  }
-
--- ---- an event that gives no section anything and changes nothing keeps it
-
-module _ (L : Layout) (S : Sound L) (s : State) (h : History) (m : Moment) (I : Inv L s h) (quiet : (g : ℕ) → g < L .sections → gave m g ≡ nothing)
-    (same : m .shows ≡ panel L s) where
-  -- the invariant stays: blocks and far sections are sections of the layout, of which the event says nothing
-  pub refused : Inv L s (m ∷ h)
-  unfolding shown Since
-  refused = record {
-    ranged = I .ranged;
-    seen = same;
-    reads = λ g b. I .reads g b ∙ sym (reading-kept m h g (quiet g b));
-    apart = I .apart;
-    lights = I .lights;
-    exits = I .exits;
-    opened = λ l i b c z. let q = quiet _ (block-there L S l i b c) in opened-on L l i m h (omega arith) (omega arith) (I .opened l i b c z);
-    entered = λ l i b c z. let q = quiet _ (block-there L S l i b c) in inr ((omega arith, omega arith), I .entered l i b c z);
-    passing = λ l i b c z. let q = quiet _ (block-there L S l i b c) in
-        let p = I .passing l i b c z in
-        let x = quiet _ (far-there L S l i (direction s l) b c) in
-        (p .0, inr ((omega arith, omega arith, omega arith), p .1));
   }

@@ -1,51 +1,101 @@
--- Demand 3 lets trains pass: on branch T a signal does show proceed into the block, by a manual release and by a proved passage. What it refuses
--- is in WrongRuns.
+-- Demand 3 lets trains pass: a signal does show proceed into a block, by a manual release and by a proved passage, an exit signal and a block signal; one
+-- of two that lead into it; and a release clears the blocks of its own line. What it refuses is in WrongRuns.
 use Prim.Native.Nat.{ℕ}
 use mathlib.Core.Path.{_≡_, refl}
-use mathlib.Core.Logic.{inl, inr}
 use mathlib.Core.Bool.{false}
 use mathlib.Core.List.{List, [], _∷_, _++_}
-use lib.Dec.{lit<}
+use Rattle.laws.specs.Tests.{_or_}
 use Rattle.laws.proofs.Tests.{not-both}
-use Rattle.track.specs.Signal.{main}
-use Rattle.layout_facts.specs.BranchT.{branchT, layoutT}
-use Rattle.layout_facts.proofs.BranchT.{branchT-number}
+use Rattle.track.specs.Signal.{main, into}
+use Rattle.layout.specs.Load.{load}
+use Rattle.layout_facts.specs.BranchT.{layoutT}
 use Rattle.step_facts.specs.Run.{Event, event}
 use Rattle.safety.specs.Cases.{p1, p3, p4}
-use Rattle.safety.specs.History.{shown, Releases, Sometime, sinceSpell, untilSpell, history}
-use Rattle.safety.specs.Demand3.{Passage, Cleared, byPassage, byHand, Enters}
-use Rattle.safety.proofs.Demand3.{demand3}
-use Rattle.safety.proofs.Tested.{releasedTest, released-tested, lets-in}
+use Rattle.safety.specs.History.{History, gaveBlock, shown, Releases, Since, LeavesFree, history}
+use Rattle.safety.specs.Cleared.{Stops, Closes, Cleared}
+use Rattle.safety.specs.Demand3.{Enters, Guarded}
+use Rattle.safety.specs.OtherLayouts.{twoBlocks, twoLines, twoExits}
+use Rattle.safety.specs.WrongRuns.{readings, opened}
 use Rattle.safety.proofs.Computed.{runComputed}
+use Rattle.safety.proofs.Demand3.{demand3}
+use Rattle.safety.proofs.OtherLayouts.{others-load}
+use Rattle.safety.proofs.Tested.{passedTest, byHandTest, by-hand-means, passed-means, cleared-means}
+use Rattle.safety.proofs.TestedLights.{enters-means}
 
--- after P1 signal 0 does, from A to B: the line was released by hand
-pub after-release : Enters layoutT (shown layoutT (history layoutT p1)) (main 0) 0 0 1
+-- ---- branch T
+
+-- after P1 signal 0 does, from A to B
+pub after-release : Enters layoutT (history layoutT p1) (main 0) 0 0 1
 unfolding runComputed
-after-release = lets-in layoutT (history layoutT p1) 0 (lit< tt) refl
+after-release = enters-means layoutT (history layoutT p1) (main 0) 0 0 1 .0 refl
 
--- by the fifth event from the end, with the block free ever since
-pub released-by-hand : Sometime (Releases 0) (sinceSpell layoutT 0 0 (history layoutT p1))
-unfolding runComputed Sometime
-released-by-hand = inr (inr (inr (inr (inl (refl, refl, refl)))))
+-- the line was released by hand, with the block free ever since
+pub released-by-hand :
+    Since (λ m older. Releases 0 m × LeavesFree (gaveBlock layoutT 0 0) m older) (LeavesFree (gaveBlock layoutT 0 0)) (history layoutT p1)
+unfolding runComputed
+released-by-hand = by-hand-means layoutT 0 0 (history layoutT p1) .0 refl
 
 -- after P4 the line is secured and route 0 set again
 abbrev again : List Event
 again = p1 ++ (p3 ++ (p4 ++ (event 6 0 1 ∷ event 4 0 0 ∷ [])))
 
 -- and signal 0 shows proceed again
-pub after-passage : Enters layoutT (shown layoutT (history layoutT again)) (main 0) 0 0 1
+pub after-passage : Enters layoutT (history layoutT again) (main 0) 0 0 1
 unfolding runComputed
-after-passage = lets-in layoutT (history layoutT again) 0 (lit< tt) refl
+after-passage = enters-means layoutT (history layoutT again) (main 0) 0 0 1 .0 refl
 
--- none of the events after the train's passage is a manual release
-no-release-since : releasedTest 0 (sinceSpell layoutT 0 0 (history layoutT again)) ≡ false
+-- the free reading that ended the block's last spell closed a passage
+pub passage-closed : (w : ℕ) × Since (Closes layoutT 0 0 w) (LeavesFree (gaveBlock layoutT 0 0)) (history layoutT again)
 unfolding runComputed
-no-release-since = refl
+passage-closed = passed-means layoutT 0 0 (history layoutT again) .0 refl
 
--- there was no manual release since the train, so its passage was proved
-pub passage-closed : (w : ℕ) × Passage layoutT 0 0 w (untilSpell layoutT 0 0 (history layoutT again))
-passage-closed = go (demand3 branchT branchT-number again .guarded (main 0) 0 0 1 after-passage .cleared)
-  where
-    go : Cleared layoutT 0 0 (history layoutT again) → (w : ℕ) × Passage layoutT 0 0 w (untilSpell layoutT 0 0 (history layoutT again))
-    go (byPassage w p) = (w, p)
-    go (byHand r) = not-both (released-tested 0 _ r) no-release-since
+-- and there was no manual release since that spell
+no-release : byHandTest layoutT 0 0 (history layoutT again) ≡ false
+unfolding runComputed
+no-release = refl
+
+pub no-release-since :
+    ¬ Since (λ m older. Releases 0 m × LeavesFree (gaveBlock layoutT 0 0) m older) (LeavesFree (gaveBlock layoutT 0 0)) (history layoutT again)
+no-release-since x = not-both (by-hand-means layoutT 0 0 (history layoutT again) .1 x) no-release
+
+-- ---- two blocks
+
+-- with the line secured from A to B the block signal into the second block does
+pub by-block-signal : Enters (load twoBlocks .layout) (history (load twoBlocks .layout) opened) (into 0 1 1) 0 1 1
+unfolding runComputed
+by-block-signal = enters-means (load twoBlocks .layout) (history (load twoBlocks .layout) opened) (into 0 1 1) 0 1 1 .0 refl
+
+-- and has all that demand 3 asks
+pub block-signal-guarded : Guarded (load twoBlocks .layout) (history (load twoBlocks .layout) opened) (into 0 1 1) 0 1 1
+block-signal-guarded = demand3 twoBlocks (others-load .0) opened .guarded (into 0 1 1) 0 1 1 by-block-signal
+
+-- ---- two signals into one block
+
+-- both exit routes at A are ordered
+abbrev bothOrdered : History
+bothOrdered = history (load twoExits .layout) (opened ++ (event 4 0 0 ∷ event 4 1 0 ∷ []))
+
+-- one signal shows proceed into the block, and the other stays at stop
+pub one-of-two : Enters (load twoExits .layout) bothOrdered (main 0) 0 0 1 × Stops (shown (load twoExits .layout) bothOrdered) (main 3)
+unfolding runComputed
+one-of-two = (enters-means (load twoExits .layout) bothOrdered (main 0) 0 0 1 .0 refl, refl)
+
+-- ---- two lines
+
+-- all sections read free, and the second line is released by hand
+abbrev otherReleased : History
+otherReleased = history (load twoLines .layout) (readings ++ (event 7 1 1 ∷ []))
+
+-- its block is cleared
+pub its-own : Cleared (load twoLines .layout) 1 0 otherReleased
+unfolding runComputed
+its-own = cleared-means (load twoLines .layout) 1 0 otherReleased .0 refl
+
+-- and the block of the first line is not
+not-the-first : passedTest (load twoLines .layout) 0 0 otherReleased or byHandTest (load twoLines .layout) 0 0 otherReleased ≡ false
+unfolding runComputed
+not-the-first = refl
+
+-- so it was not cleared
+pub no-other : ¬ Cleared (load twoLines .layout) 0 0 otherReleased
+no-other c = not-both (cleared-means (load twoLines .layout) 0 0 otherReleased .1 c) not-the-first

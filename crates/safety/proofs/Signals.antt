@@ -1,54 +1,64 @@
--- What a block signal shows tells of the state, and the state tells what it shows. There is one each way, so its direction is one of two.
+-- What signals show tells of the state, and the state tells what they show. There is a block signal each way, so its direction is one of two.
 use Prim.Native.Nat.{ℕ, _<_, _≤_}
 use mathlib.Core.Path.{_≡_, sym, _∙_}
-use mathlib.Core.Logic.{_≢_}
+use mathlib.Core.Logic.{_≢_, _⊎_, inl, inr}
 use mathlib.Core.Bool.{true, false}
 use native.Mathlib.Decide.{ℕ-discrete}
 use native.Mathlib.Omega.{arith}
-use borrow.Author.Tests.{eqb-true, eq-eqb, ltb-true, lt-ltb}
-use lib.Dec.{eqb}
-use Rattle.laws.specs.Tests.{_or_}
-use Rattle.laws.proofs.Choice.{if-both}
-use Rattle.laws.proofs.Tests.{and-left, and-right, and-both, or-left, or-right}
-use Rattle.signals.specs.Signals.{enterable, blockProceeds}
-use Rattle.track.specs.Signal.{into}
+use borrow.Author.Tests.{eqb-true, ltb-true, lt-ltb}
+use Rattle.laws.proofs.Tests.{and-left, and-right, and-both}
+use Rattle.signals.specs.Signals.{enterable, mainProceeds, blockProceeds}
+use Rattle.track.specs.Signal.{main, into}
 use Rattle.signals.specs.BlockSignals.{hasSignal}
-use Rattle.signals.specs.Numbers.{shows}
 use Rattle.layout.specs.declared.Layout.{Layout}
 use Rattle.layout.specs.Layout.{lineIn}
 use Rattle.interlocking.specs.declared.State.{State}
-use Rattle.signals.proofs.Shows.{block-shows, block-stops}
-use Rattle.safety.specs.Shown.{signalShows}
-use Rattle.safety.proofs.Entries.{direction, chosen}
+use Rattle.panel.specs.Panel.{image}
+use Rattle.signals.proofs.Shows.{main-shows, main-stops, block-shows, block-stops}
+use Rattle.panel.specs.Shown.{panel}
+use Rattle.safety.specs.Cleared.{Proceeds, Stops}
+use Rattle.step_facts.proofs.Entries.{direction}
+use Rattle.panel.proofs.Image.{shows-main, shows-into, present-main, present-into}
 
 -- a direction that is not neutral is one of the two ways
-one-each-way : (w : ℕ) → w ≢ 0 → w ≤ 2 → eqb w 1 or eqb w 2 ≡ true
+pub one-each-way : (w : ℕ) → w ≢ 0 → w ≤ 2 → (w ≡ 1) ⊎ (w ≡ 2)
 one-each-way w z few = go (ℕ-discrete w 1)
   where
-    go : Dec (w ≡ 1) → eqb w 1 or eqb w 2 ≡ true
-    go (yes q) = or-left _ _ (eq-eqb w 1 q)
-    go (no q) = or-right _ _ (eq-eqb w 2 (omega arith))
+    go : Dec (w ≡ 1) → (w ≡ 1) ⊎ (w ≡ 2)
+    go (yes q) = inl q
+    go (no q) = inr (omega arith)
+
+module _ (L : Layout) (s : State) (x : ℕ) where
+  -- a main signal shows proceed where a route that starts at it is at proceed
+  pub main-lit : x < L .signals → mainProceeds (L .routes) (L .route) (s .phase) x ≡ true → Proceeds (panel L (image L s)) (main x)
+  main-lit b t = rw (shows-main L s x b) (ltb-true 20 _ (main-shows _ _ _ x ∙ t))
+
+  -- else it shows stop
+  pub main-stopped : x < L .signals → mainProceeds (L .routes) (L .route) (s .phase) x ≡ false → Stops (panel L (image L s)) (main x)
+  main-stopped b f = shows-main L s x b ∙ main-stops _ _ _ x f
+
+  -- and it shows proceed nowhere else
+  pub main-shown : Proceeds (panel L (image L s)) (main x) → mainProceeds (L .routes) (L .route) (s .phase) x ≡ true
+  main-shown p = sym (main-shows _ _ _ x) ∙ lt-ltb 20 _ (rw (shows-main L s x (present-main L (image L s) x p)) at p)
 
 module _ (L : Layout) (s : State) (l i w : ℕ) where
-  -- one that there is shows proceed where it is at proceed
-  pub into-lit : w ≢ 0 → w ≤ 2 → hasSignal (lineIn L l .blocks) i w ≡ true
-      → blockProceeds (L .line) (s .direction) (s .point) (s .stage) (s .bar) l i w ≡ true → 20 < signalShows L s (into l i w)
-  unfolding signalShows shows lineIn
-  into-lit z few u t = rw (chosen _ _ _ (one-each-way w z few)) (ltb-true 20 _ (block-shows _ _ _ _ _ l i w ∙ and-both _ _ u t))
+  -- a block signal that there is shows proceed where it is at proceed
+  pub into-lit : l < L .lines → i < lineIn L l .blocks → (w ≡ 1) ⊎ (w ≡ 2) → hasSignal (lineIn L l .blocks) i w ≡ true
+      → blockProceeds (L .line) (s .direction) (s .point) (s .stage) (s .bar) l i w ≡ true → Proceeds (panel L (image L s)) (into l i w)
+  unfolding lineIn
+  into-lit b c way u t = rw (shows-into L s l i w b c way) (ltb-true 20 _ (block-shows _ _ _ _ _ l i w ∙ and-both _ _ u t))
 
   -- it shows stop where the line is secured its way and no train may be let into its block
-  pub into-stops : w ≢ 0 → w ≤ 2 → hasSignal (lineIn L l .blocks) i w ≡ true → direction s l ≡ w
-      → enterable (L .line) (s .point) (s .stage) (s .bar) l i ≡ false → signalShows L s (into l i w) ≡ 20
-  unfolding signalShows shows lineIn
-  into-stops z few u d f = chosen _ _ 0 (one-each-way w z few) ∙ block-stops _ _ _ _ _ l i w d u f
+  pub into-stops : l < L .lines → i < lineIn L l .blocks → (w ≡ 1) ⊎ (w ≡ 2) → hasSignal (lineIn L l .blocks) i w ≡ true → direction s l ≡ w
+      → enterable (L .line) (s .point) (s .stage) (s .bar) l i ≡ false → Stops (panel L (image L s)) (into l i w)
+  unfolding lineIn
+  into-stops b c way u d f = shows-into L s l i w b c way ∙ block-stops _ _ _ _ _ l i w d u f
 
   -- it shows proceed only where there is one, the line is secured its way and a train may be let into its block
-  pub into-shown : 20 < signalShows L s (into l i w)
+  pub into-shown : Proceeds (panel L (image L s)) (into l i w)
       → (hasSignal (lineIn L l .blocks) i w ≡ true) × (direction s l ≡ w) × (enterable (L .line) (s .point) (s .stage) (s .bar) l i ≡ true)
-  unfolding signalShows shows blockProceeds lineIn
-  into-shown =
-      if-both R _ (λ v p. let t = sym (block-shows (L .line) (s .direction) (s .point) (s .stage) (s .bar) l i w) ∙ lt-ltb 20 _ p in
-      (and-left _ _ t, eqb-true _ w (and-left _ _ (and-right _ _ t)), and-right _ _ (and-right _ _ t))) (λ v p. absurd (omega arith))
-    where
-      R : ℕ → Type 0
-      R n = 20 < n → (hasSignal (lineIn L l .blocks) i w ≡ true) × (direction s l ≡ w) × (enterable (L .line) (s .point) (s .stage) (s .bar) l i ≡ true)
+  unfolding blockProceeds lineIn
+  into-shown p =
+      let (b, c, way) = present-into L (image L s) l i w p in
+      let t = sym (block-shows (L .line) (s .direction) (s .point) (s .stage) (s .bar) l i w) ∙ lt-ltb 20 _ (rw (shows-into L s l i w b c way) at p) in
+      (and-left _ _ t, eqb-true _ w (and-left _ _ (and-right _ _ t)), and-right _ _ (and-right _ _ t))

@@ -1,200 +1,223 @@
--- Tests on a history: each holds wherever what it tests does, so a test that fails refutes it.
-use Prim.Native.Nat.{ℕ, _+_, _<_}
+-- Tests on a history that hold just where what they test does: accepted orders, the passage of a block, and what cleared it. Where a test is cheap it
+-- stands first.
+use Prim.Native.Nat.{ℕ}
 use mathlib.Core.Path.{_≡_, refl, ap, _∙_}
-use mathlib.Core.Logic.{_≢_, inl, inr}
+use mathlib.Core.Logic.{_⊎_, _↔_, inl, inr, ⊎-elim, Iff·trans}
 use mathlib.Core.Bool.{Bool, true, false, not}
 use mathlib.Core.List.{[], _∷_}
-use borrow.Author.Tests.{eqb-true, eqb-false, eq-eqb, ne-eqb, lt-ltb, ltb-true, not-true}
 use lib.Dec.{eqb, ltb}
-use Rattle.laws.specs.Tests.{_and_, _or_, every, anyBelow}
-use Rattle.laws.proofs.Tests.{and-left, and-right, and-both, or-left, or-right, not-both, every-at, every-one, every-more, any-some}
-use Rattle.track.specs.Codes.{free, readsNone}
-use Rattle.track.specs.Signal.{Signal, main, into}
-use Rattle.track.proofs.OnlySection.{only-in}
+use Rattle.laws.specs.Tests.{_and_, _or_, every}
+use Rattle.laws.proofs.Tests.{or-cases, or-left, or-right, not-both}
+use Rattle.track.specs.Codes.{free, occupied, readsNone, neutral, releaseLine}
+use Rattle.signals.specs.Aspects.{stop}
 use Rattle.layout.specs.declared.Layout.{Layout}
-use Rattle.layout.specs.Layout.{lineIn, routeIn}
-use Rattle.layout_facts.specs.Plain.{InBlock, nearestBlock}
-use Rattle.safety.specs.Shown.{Panel}
-use Rattle.safety.specs.History.{Moment, History, gave, reading, gaveBlock, blockReads, shown, Releases, Sometime, Since, sinceSpell, untilSpell}
-use Rattle.safety.specs.Demand3.{farSection, farSignal, Entered, Drops, Passage, Cleared, byPassage, byHand, Enters}
-use Rattle.safety.proofs.Entries.{block}
-use Rattle.safety.specs.WrongRuns.{Asked, secured, alone, isFree, cleared, Met, Broken}
+use Rattle.layout_facts.proofs.Means.{eqb-means, ltb-means, not-means, and-means, or-means, lastly, _also_, _&_, every-means}
+use Rattle.safety.specs.History.{Moment, History, Given, gaveSection, gaveBlock, reads, sectionReads, blockReads, shown, Accepted, Releases, Came, Since, EndsSpell, LeavesFree}
+use Rattle.safety.specs.Cleared.{farSection, farSignal, Stays, Entered, Drops, Passage, Closes, Cleared, byPassage, byHand, Opened}
 
 -- ---- earlier and later
 
--- an event passed the one test, of it and of what was before it, and every later one the other
-abbrev sinceTest : (Moment → History → Bool) → (Moment → Bool) → History → Bool
+-- an event passed the one test, and every later one the other, each of it and of what was before it
+abbrev pub sinceTest : (Moment → History → Bool) → (Moment → History → Bool) → History → Bool
 sinceTest began kept [] = false
-sinceTest began kept (m ∷ h) = began m h or (kept m and sinceTest began kept h)
+sinceTest began kept (m ∷ h) = began m h or (kept m h and sinceTest began kept h)
 
--- where an event was so and every later one kept so, the test holds, by the tests of the two
-since-tested : {Began : Moment → History → Type 0} {Kept : Moment → Type 0} (began : Moment → History → Bool) (kept : Moment → Bool)
-    → ((m : Moment) (h : History) → Began m h → began m h ≡ true) → ((m : Moment) → Kept m → kept m ≡ true) → (h : History) → Since Began Kept h
-    → sinceTest began kept h ≡ true
+-- by what the two tests mean
+pub since-means : {Began Kept : Moment → History → Type 0} {began kept : Moment → History → Bool} → ((m : Moment) (h : History) → began m h ≡ true ↔ Began m h)
+    → ((m : Moment) (h : History) → kept m h ≡ true ↔ Kept m h) → (h : History) → sinceTest began kept h ≡ true ↔ Since Began Kept h
 unfolding Since
-since-tested began kept b k [] x = absurd x
-since-tested began kept b k (m ∷ h) (inl x) = or-left _ _ (b m h x)
-since-tested began kept b k (m ∷ h) (inr x) = or-right _ _ (and-both _ _ (k m (x .0)) (since-tested began kept b k h (x .1)))
+since-means b k [] = (λ t. not-both t refl, λ x. absurd x)
+since-means b k (m ∷ h) = or-means (b m h) (and-means (k m h) (since-means b k h))
+
+-- ---- events
+
+-- an order of kind k for object a was accepted
+abbrev pub acceptedTest : ℕ → ℕ → Moment → Bool
+acceptedTest k a m = every (eqb (m .number) 0 ∷ eqb (m .event .kind) k ∷ eqb (m .event .first) a ∷ [])
+
+-- its three numbers, one by one
+pub accepted-means : (k a : ℕ) (m : Moment) → acceptedTest k a m ≡ true ↔ Accepted k a m
+accepted-means k a m =
+    Iff·trans (every-means (eqb-means _ 0 also eqb-means _ k also lastly (eqb-means _ a))) (λ (n, (j, f)). (n, j, f), λ u. u .0 & u .1 & u .2)
+
+-- the event had these three numbers
+abbrev pub cameTest : ℕ → ℕ → ℕ → Moment → Bool
+cameTest k a b m = every (eqb (m .event .kind) k ∷ eqb (m .event .first) a ∷ eqb (m .event .second) b ∷ [])
+
+-- likewise
+pub came-means : (k a b : ℕ) (m : Moment) → cameTest k a b m ≡ true ↔ Came k a b m
+came-means k a b m =
+    Iff·trans (every-means (eqb-means _ k also eqb-means _ a also lastly (eqb-means _ b))) (λ (j, (f, g)). (j, f, g), λ u. u .0 & u .1 & u .2)
 
 -- ---- a passage
 
--- neither none nor free was given to block i of line l
-abbrev staysTest : Layout → ℕ → ℕ → Moment → Bool
-staysTest L l i m = not (eqb (gaveBlock L l i m) readsNone) and not (eqb (gaveBlock L l i m) free)
+-- neither none nor free was given
+abbrev staysTest : Given → Moment → History → Bool
+staysTest gave m h = not (eqb (gave m h) readsNone) and not (eqb (gave m h) free)
+
+-- one and the other
+stays-means : (gave : Given) (m : Moment) (h : History) → staysTest gave m h ≡ true ↔ Stays gave m h
+stays-means gave m h = and-means (not-means (eqb-means _ readsNone)) (not-means (eqb-means _ free))
 
 -- it was entered
-abbrev enteredTest : Layout → ℕ → ℕ → History → Bool
-enteredTest L l i h = sinceTest (λ m older. eqb (gaveBlock L l i m) 2) (staysTest L l i) h
+abbrev pub enteredTest : Given → History → Bool
+enteredTest gave h = sinceTest (λ m older. eqb (gave m older) occupied) (staysTest gave) h
+
+-- by the law of `Since`
+pub entered-means : (gave : Given) (h : History) → enteredTest gave h ≡ true ↔ Entered gave h
+entered-means gave = since-means (λ m h. eqb-means _ occupied) (stays-means gave)
 
 -- an event dropped the far signal of a block that was entered, and left its far section occupied
 abbrev dropsTest : Layout → ℕ → ℕ → ℕ → Moment → History → Bool
 dropsTest L l i w m older = every (
-    enteredTest L l i older
-    ∷ staysTest L l i m
-    ∷ eqb (m .shows .line l) w
-    ∷ not (eqb w 0)
-    ∷ eqb (reading (farSection L l i w) (m ∷ older)) 2
-    ∷ ltb 20 (shown L older .signal (farSignal L l i w))
-    ∷ eqb (m .shows .signal (farSignal L l i w)) 20
+    staysTest (gaveBlock L l i) m older
+    ∷ eqb (shown L (m ∷ older) .line l) w
+    ∷ not (eqb w neutral)
+    ∷ eqb (sectionReads L (farSection L l i w) (m ∷ older)) occupied
+    ∷ ltb stop (shown L older .signal (farSignal L l i w))
+    ∷ eqb (shown L (m ∷ older) .signal (farSignal L l i w)) stop
+    ∷ enteredTest (gaveBlock L l i) older
     ∷ [])
 
 -- a passage waits for its free reading
 abbrev passageTest : Layout → ℕ → ℕ → ℕ → History → Bool
-passageTest L l i w h = sinceTest (dropsTest L l i w) (λ m. staysTest L l i m and not (eqb (gave m (farSection L l i w)) 3)) h
-
--- line l showed a direction that passes a test
-abbrev wayTest : ℕ → (ℕ → Bool) → History → Bool
-wayTest l p [] = false
-wayTest l p (m ∷ h) = p (m .shows .line l) or wayTest l p h
-
--- a manual release of line l was accepted
-abbrev pub releasedTest : ℕ → History → Bool
-releasedTest l [] = false
-releasedTest l (m ∷ h) = (eqb (m .number) 0 and (eqb (m .event .kind) 7 and eqb (m .event .first) l)) or releasedTest l h
-
--- a block was cleared
-abbrev clearedTest : Layout → ℕ → ℕ → History → Bool
-clearedTest L l i h =
-    wayTest l (λ w. passageTest L l i w (untilSpell L l i h)) (untilSpell L l i h) or releasedTest l (sinceSpell L l i h)
-
--- an event that gave a block neither
-stays-tested : (L : Layout) (l i : ℕ) (m : Moment) → (gaveBlock L l i m ≢ readsNone) × (gaveBlock L l i m ≢ free) → staysTest L l i m ≡ true
-stays-tested L l i m k = and-both _ _ (ap not (ne-eqb _ readsNone (k .0))) (ap not (ne-eqb _ free (k .1)))
+passageTest L l i w h =
+    sinceTest (dropsTest L l i w) (λ m older. staysTest (gaveBlock L l i) m older and not (eqb (gaveSection L (farSection L l i w) m older) readsNone)) h
 
 module _ (L : Layout) (l i w : ℕ) where
-  -- the drop of a passage passes, part by part
-  drops-tested : (m : Moment) (h : History) → Drops L l i w m h → dropsTest L l i w m h ≡ true
-  drops-tested m h d =
-      every-more _ _ _ (entered h (d .entered)) (every-more _ _ _ (stays-tested L l i m (d .stays)) (every-more _ _ _ (eq-eqb _ w (d .secured .0))
-      (every-more _ _ _ (ap not (ne-eqb w 0 (d .secured .1))) (every-more _ _ _ (eq-eqb _ 2 (d .taken)) (every-more _ _ _ (lt-ltb 20 _ (d .fromProceed))
-      (every-one _ (eq-eqb _ 20 (d .toStop))))))))
-    where
-      entered : (h : History) → Entered L l i h → enteredTest L l i h ≡ true
-      entered = since-tested _ _ (λ m h q. eq-eqb _ 2 q) (stays-tested L l i)
+  -- part by part
+  drops-means : (m : Moment) (h : History) → dropsTest L l i w m h ≡ true ↔ Drops L l i w m h
+  drops-means m h =
+      Iff·trans
+      (every-means (stays-means (gaveBlock L l i) m h also eqb-means _ w also not-means (eqb-means w neutral) also eqb-means _ occupied also ltb-means stop _
+      also eqb-means _ stop also lastly (entered-means (gaveBlock L l i) h))) (
+        λ (stays, (way, (some, (taken, (up, (down, entered)))))).
+            record { entered = entered; stays = stays; secured = (way, some); taken = taken; fromProceed = up; toStop = down },
+        λ d. d .stays & d .secured .0 & d .secured .1 & d .taken & d .fromProceed & d .toStop & d .entered,
+      )
 
-  -- so does a passage
-  passage-tested : (h : History) → Passage L l i w h → passageTest L l i w h ≡ true
-  passage-tested =
-      since-tested _ _ drops-tested (λ m k. and-both _ _ (stays-tested L l i m (k .0, k .1)) (ap not (ne-eqb _ readsNone (k .2))))
+  -- and as a passage goes
+  passage-means : (h : History) → passageTest L l i w h ≡ true ↔ Passage L l i w h
+  passage-means = since-means drops-means (λ m h. and-means (stays-means (gaveBlock L l i) m h) (not-means (eqb-means _ readsNone)))
 
-  -- its direction was shown
-  way-tested : (p : ℕ → Bool) → p w ≡ true → (h : History) → Passage L l i w h → wayTest l p h ≡ true
+-- ---- a passage in some direction: one that the line showed
+
+-- line l showed a direction that passes a test
+abbrev wayTest : Layout → ℕ → (ℕ → Bool) → History → Bool
+wayTest L l p [] = false
+wayTest L l p (m ∷ h) = p (shown L (m ∷ h) .line l) or wayTest L l p h
+
+-- so there is one that passes
+some-way : (L : Layout) (l : ℕ) (p : ℕ → Bool) (h : History) → wayTest L l p h ≡ true → (w : ℕ) × (p w ≡ true)
+some-way L l p [] t = not-both t refl
+some-way L l p (m ∷ h) t = ⊎-elim (λ u. (_, u)) (some-way L l p h) (or-cases _ _ t)
+
+-- the direction of a passage was shown, in the event of its drop
+way-shown : (L : Layout) (l i w : ℕ) (p : ℕ → Bool) → p w ≡ true → (h : History) → Passage L l i w h → wayTest L l p h ≡ true
+unfolding Since
+way-shown L l i w p t [] x = absurd x
+way-shown L l i w p t (m ∷ h) (inl d) = or-left _ _ (ap p (d .secured .0) ∙ t)
+way-shown L l i w p t (m ∷ h) (inr k) = or-right _ _ (way-shown L l i w p t h (k .1))
+
+-- a passage waits, in some direction
+abbrev pub waitsTest : Layout → ℕ → ℕ → History → Bool
+waitsTest L l i h = wayTest L l (λ w. passageTest L l i w h) h
+
+-- the direction that passes the test has a passage, and that of a passage was shown
+pub waits-means : (L : Layout) (l i : ℕ) (h : History) → waitsTest L l i h ≡ true ↔ (w : ℕ) × Passage L l i w h
+waits-means L l i h = (
+  λ t. let (w, u) = some-way L l _ h t in (w, passage-means L l i w h .0 u),
+  λ (w, p). way-shown L l i w _ (passage-means L l i w h .1 p) h p,
+)
+
+-- ---- a block that was cleared
+
+-- the event ended a spell; after it the block reads free
+abbrev endsTest : Given → Moment → History → Bool
+endsTest gave m h = not (eqb (reads gave h) free) and eqb (reads gave (m ∷ h)) free
+
+-- after the event it reads free
+abbrev leavesTest : Given → Moment → History → Bool
+leavesTest gave m h = eqb (reads gave (m ∷ h)) free
+
+-- before and after
+ends-means : (gave : Given) (m : Moment) (h : History) → endsTest gave m h ≡ true ↔ EndsSpell gave m h
+ends-means gave m h = and-means (not-means (eqb-means _ free)) (eqb-means _ free)
+
+-- the event closed a passage in direction w
+abbrev pub closesTest : Layout → ℕ → ℕ → ℕ → Moment → History → Bool
+closesTest L l i w m older = endsTest (gaveBlock L l i) m older and passageTest L l i w older
+
+-- it ended a spell, and found a passage
+pub closes-means : (L : Layout) (l i w : ℕ) (m : Moment) (h : History) → closesTest L l i w m h ≡ true ↔ Closes L l i w m h
+closes-means L l i w m h =
+    Iff·trans (and-means (ends-means (gaveBlock L l i) m h) (passage-means L l i w h))
+    (λ (e, p). record { ends = e; passage = p }, λ c. (c .ends, c .passage))
+
+-- it closed one in some direction
+abbrev pub someClosesTest : Layout → ℕ → ℕ → Moment → History → Bool
+someClosesTest L l i m older = endsTest (gaveBlock L l i) m older and waitsTest L l i older
+
+-- likewise, whatever the direction
+pub some-closes-means : (L : Layout) (l i : ℕ) (m : Moment) (h : History) → someClosesTest L l i m h ≡ true ↔ (w : ℕ) × Closes L l i w m h
+some-closes-means L l i m h =
+    Iff·trans (and-means (ends-means (gaveBlock L l i) m h) (waits-means L l i h))
+    (λ (e, (w, p)). (w, record { ends = e; passage = p }), λ (w, c). (c .ends, (w, c .passage)))
+
+-- it was cleared by a passage; by hand
+abbrev pub passedTest : Layout → ℕ → ℕ → History → Bool
+passedTest L l i h = sinceTest (someClosesTest L l i) (leavesTest (gaveBlock L l i)) h
+
+-- it was cleared by hand
+abbrev pub byHandTest : Layout → ℕ → ℕ → History → Bool
+byHandTest L l i h =
+    sinceTest (λ m older. acceptedTest releaseLine l m and leavesTest (gaveBlock L l i) m older) (leavesTest (gaveBlock L l i)) h
+
+module _ (L : Layout) (l i : ℕ) where
+  -- one direction serves for all events since
+  some-closed : (h : History) → Since (λ m older. (w : ℕ) × Closes L l i w m older) (LeavesFree (gaveBlock L l i)) h
+      → (w : ℕ) × Since (Closes L l i w) (LeavesFree (gaveBlock L l i)) h
   unfolding Since
-  way-tested p t [] x = absurd x
-  way-tested p t (m ∷ h) (inl d) = or-left _ _ (ap p (d .secured .0) ∙ t)
-  way-tested p t (m ∷ h) (inr k) = or-right _ _ (way-tested p t h (k .1))
+  some-closed [] x = absurd x
+  some-closed (m ∷ h) (inl (w, c)) = (w, inl c)
+  some-closed (m ∷ h) (inr (f, x)) = let (w, y) = some-closed h x in (w, inr (f, y))
 
--- a release is found
-pub released-tested : (l : ℕ) (h : History) → Sometime (Releases l) h → releasedTest l h ≡ true
-unfolding Sometime
-released-tested l [] x = absurd x
-released-tested l (m ∷ h) (inl r) = or-left _ _ (and-both _ _ (eq-eqb _ 0 (r .0)) (and-both _ _ (eq-eqb _ 7 (r .1)) (eq-eqb _ l (r .2))))
-released-tested l (m ∷ h) (inr x) = or-right _ _ (released-tested l h x)
+  -- and the other way round
+  closed-some : (w : ℕ) (h : History) → Since (Closes L l i w) (LeavesFree (gaveBlock L l i)) h
+      → Since (λ m older. (w : ℕ) × Closes L l i w m older) (LeavesFree (gaveBlock L l i)) h
+  unfolding Since
+  closed-some w [] x = absurd x
+  closed-some w (m ∷ h) (inl c) = inl (w, c)
+  closed-some w (m ∷ h) (inr (f, x)) = inr (f, closed-some w h x)
 
--- a block that was cleared passes
-cleared-tested : (L : Layout) (l i : ℕ) (h : History) → Cleared L l i h → clearedTest L l i h ≡ true
-cleared-tested L l i h (byPassage w p) = or-left _ _ (way-tested L l i w _ (passage-tested L l i w _ p) _ p)
-cleared-tested L l i h (byHand r) = or-right _ _ (released-tested l _ r)
+  -- so for a passage
+  pub passed-means : (h : History) → passedTest L l i h ≡ true ↔ (w : ℕ) × Since (Closes L l i w) (LeavesFree (gaveBlock L l i)) h
+  passed-means h = Iff·trans (since-means (some-closes-means L l i) (λ m h. eqb-means _ free) h) (some-closed h, λ (w, x). closed-some w h x)
 
--- ---- what is broken
+  -- and by hand
+  pub by-hand-means : (h : History) → byHandTest L l i h ≡ true ↔ Since (λ m older. Releases l m × LeavesFree (gaveBlock L l i) m older) (LeavesFree (gaveBlock L l i)) h
+  by-hand-means = since-means (λ m h. and-means (accepted-means releaseLine l m) (eqb-means _ free)) (λ m h. eqb-means _ free)
 
--- the block that exit route r enters
-abbrev entry : Layout → ℕ → ℕ
-entry L r = nearestBlock L (routeIn L r .line) (routeIn L r .end)
+  -- one or the other
+  pub cleared-means : (h : History) → passedTest L l i h or byHandTest L l i h ≡ true ↔ Cleared L l i h
+  cleared-means h = Iff·trans (or-means (passed-means h) (by-hand-means h)) (to, from)
+    where
+      to : ((w : ℕ) × Since (Closes L l i w) (LeavesFree (gaveBlock L l i)) h)
+          ⊎ Since (λ m older. Releases l m × LeavesFree (gaveBlock L l i) m older) (LeavesFree (gaveBlock L l i)) h → Cleared L l i h
+      to (inl (w, p)) = byPassage w p
+      to (inr r) = byHand r
 
--- the signal of exit route r shows proceed into a block
-abbrev pub letsTest : Layout → Panel → ℕ → Bool
-letsTest L p r = every (
-    eqb (routeIn L r .kind) 2
-    ∷ not (eqb (p .route r) 0)
-    ∷ ltb 20 (p .signal (main (routeIn L r .entry)))
-    ∷ ltb (routeIn L r .line) (L .lines)
-    ∷ ltb (entry L r) (lineIn L (routeIn L r .line) .blocks)
-    ∷ [])
+      from : Cleared L l i h
+          → ((w : ℕ) × Since (Closes L l i w) (LeavesFree (gaveBlock L l i)) h)
+          ⊎ Since (λ m older. Releases l m × LeavesFree (gaveBlock L l i) m older) (LeavesFree (gaveBlock L l i)) h
+      from (byPassage w p) = inl (w, p)
+      from (byHand r) = inr r
 
--- and something that is asked is not so
-abbrev unmetTest : Asked → Layout → History → ℕ → Bool
-unmetTest secured L h r = not (eqb (shown L h .line (routeIn L r .line)) (routeIn L r .end + 1))
-unmetTest alone L h r =
-    anyBelow (L .routes) (λ q. letsTest L (shown L h) q
-    and (eqb (block L (routeIn L q .line) (entry L q)) (block L (routeIn L r .line) (entry L r)) and not (eqb (routeIn L q .entry) (routeIn L r .entry))))
-unmetTest isFree L h r = not (eqb (blockReads L (routeIn L r .line) (entry L r) h) 1)
-unmetTest cleared L h r = not (clearedTest L (routeIn L r .line) (entry L r) h)
+-- the block is to be open
+abbrev pub openedTest : Layout → ℕ → ℕ → History → Bool
+openedTest L l i h = eqb (blockReads L l i h) free and (passedTest L l i h or byHandTest L l i h)
 
--- both, of some exit route
-abbrev pub brokenTest : Asked → Layout → History → Bool
-brokenTest what L h = anyBelow (L .routes) (λ r. letsTest L (shown L h) r and unmetTest what L h r)
-
--- a main signal by its number
-signalNumber : Signal → ℕ
-signalNumber (main x) = x
-signalNumber (into l i w) = 0
-
-module _ (L : Layout) (h : History) where
-  -- the route leads into its block
-  pub lets-in : (r : ℕ) → r < L .routes → letsTest L (shown L h) r ≡ true
-      → Enters L (shown L h) (main (routeIn L r .entry)) (routeIn L r .line) (entry L r) (routeIn L r .end + 1)
-  lets-in r b t = record {
-    ofLine = ltb-true _ _ (every-at _ t 3);
-    ofBlock = ltb-true _ _ (every-at _ t 4);
-    leads = (
-      r,
-      record {
-        there = b;
-        isExit = eqb-true _ 2 (every-at _ t 0);
-        starts = refl;
-        locked = eqb-false _ 0 (not-true _ (every-at _ t 1));
-        ofLine = refl;
-        enters = refl;
-        way = refl;
-      },
-    );
-    proceeds = ltb-true 20 _ (every-at _ t 2);
-  }
-
-  -- and what the test says of it is not so
-  is-unmet : (what : Asked) (r : ℕ) → unmetTest what L h r ≡ true
-      → Met what L h (main (routeIn L r .entry)) (routeIn L r .line) (entry L r) (routeIn L r .end + 1) → ⊥
-  unfolding signalNumber InBlock
-  is-unmet secured r t q = eqb-false _ _ (not-true _ t) q
-  is-unmet alone r t only =
-      let (q, b, u) = any-some _ _ t in
-      let same = eqb-true (block L (routeIn L q .line) (entry L q)) (block L (routeIn L r .line) (entry L r)) (and-left _ _ (and-right _ _ u)) in
-      eqb-false _ _ (not-true _ (and-right _ _ (and-right _ _ u)))
-      (ap signalNumber (only (main (routeIn L q .entry)) _ _ _ (block L (routeIn L q .line) (entry L q)) (lets-in q b (and-left _ _ u)) (only-in (lineIn L (routeIn L q .line)) (entry L q))
-      (rw same (only-in (lineIn L (routeIn L r .line)) (entry L r)))))
-  is-unmet isFree r t q = eqb-false _ 1 (not-true _ t) q
-  is-unmet cleared r t q = not-both (cleared-tested L _ _ h q) (not-true _ t)
-
-  -- so the demand is broken
-  pub is-broken : (what : Asked) → brokenTest what L h ≡ true → Broken what L h
-  is-broken what t =
-      let (r, b, u) = any-some _ _ t in
-      record {
-        at = main (routeIn L r .entry);
-        line = routeIn L r .line;
-        number = entry L r;
-        way = routeIn L r .end + 1;
-        enters = lets-in r b (and-left _ _ u);
-        unmet = is-unmet what r (and-right _ _ u);
-      }
+-- it reads free, and was cleared
+pub opened-means : (L : Layout) (l i : ℕ) (h : History) → openedTest L l i h ≡ true ↔ Opened L l i h
+opened-means L l i h =
+    Iff·trans (and-means (eqb-means _ free) (cleared-means L l i h)) (λ (f, c). record { isFree = f; cleared = c }, λ o. (o .isFree, o .cleared))

@@ -1,99 +1,103 @@
--- A history that one more event was added to: what a section reads then, and what is told of a block.
-use Prim.Native.Nat.{ℕ, _≤_}
-use mathlib.Core.Path.{_≡_, refl, _∙_}
+-- A history that one more event was added to: what something reads then, and what is told of a block.
+use Prim.Native.Nat.{ℕ}
+use mathlib.Core.Path.{_≡_, refl, sym, _∙_}
 use mathlib.Core.Logic.{_≢_, inl, inr}
 use mathlib.Core.List.{[], _∷_}
 use native.Mathlib.Decide.{ℕ-discrete}
 use native.Mathlib.Omega.{arith}
 use borrow.Author.Tests.{eq-eqb, ne-eqb}
-use Rattle.laws.proofs.Choice.{if-both}
 use Rattle.layout.specs.declared.Layout.{Layout}
-use Rattle.step_facts.specs.Run.{Event}
 use Rattle.track.specs.Codes.{free, occupied, readsNone}
-use Rattle.safety.specs.History.{Moment, History, nothing, says, gave, reading, gaveBlock, blockReads, Releases, Sometime, Since, sinceSpell, untilSpell}
-use Rattle.safety.specs.Demand3.{Entered, Passage, Cleared, byPassage, byHand}
-use Rattle.safety.proofs.Entries.{chosen, passed-over, block}
+use Rattle.safety.specs.History.{Moment, History, Given, nothing, gaveBlock, reads, blockReads, Releases, Since, LeavesFree}
+use Rattle.safety.specs.Cleared.{Entered, Passage, Cleared, byPassage, byHand, Opened}
+use Rattle.laws.proofs.Choice.{chosen, passed-over}
+use Rattle.step_facts.proofs.Entries.{block}
+use Rattle.safety.proofs.Given.{gave-few}
 
 -- ---- readings
 
--- nothing, free, occupied or none
-says-few : (e : Event) (g : ℕ) → says e g ≤ 3
-unfolding says
-says-few e g = if-both Few _ (λ t. if-both Few _ (λ u. omega arith) (λ u. if-both Few _ (λ v. omega arith) (λ v. omega arith))) (λ f. omega arith)
-  where
-    Few : ℕ → Type 0
-    Few n = n ≤ 3
+module _ (gave : Given) (m : Moment) (h : History) where
+  -- an event that gives nothing leaves what it reads
+  pub reads-kept : gave m h ≡ nothing → reads gave (m ∷ h) ≡ reads gave h
+  unfolding reads
+  reads-kept q = chosen _ _ _ (eq-eqb _ 0 q)
 
-module _ (m : Moment) (h : History) (g : ℕ) where
-  -- an event that gives a section nothing leaves its reading
-  pub reading-kept : gave m g ≡ nothing → reading g (m ∷ h) ≡ reading g h
-  unfolding reading
-  reading-kept q = chosen _ _ _ (eq-eqb _ 0 q)
-
-  -- one that gives it something gives it that reading
-  pub reading-given : (v : ℕ) → gave m g ≡ v → v ≢ nothing → reading g (m ∷ h) ≡ v
-  unfolding reading
-  reading-given v q d = passed-over _ _ _ (ne-eqb (gave m g) 0 (omega arith)) ∙ q
+  -- one that gives something gives it that reading
+  pub reads-given : (v : ℕ) → gave m h ≡ v → v ≢ nothing → reads gave (m ∷ h) ≡ v
+  unfolding reads
+  reads-given v q d = passed-over _ _ _ (ne-eqb (gave m h) 0 (omega arith)) ∙ q
 
   -- one that gives it neither of the other readings leaves the one that it has
-  reading-stays : (v : ℕ) → (gave m g ≢ nothing → gave m g ≡ v) → v ≢ nothing → reading g h ≡ v → reading g (m ∷ h) ≡ v
-  reading-stays v f d r = go (ℕ-discrete (gave m g) 0)
+  pub reads-on : (v : ℕ) → (gave m h ≢ nothing → gave m h ≡ v) → v ≢ nothing → reads gave h ≡ v → reads gave (m ∷ h) ≡ v
+  reads-on v f d r = go (ℕ-discrete (gave m h) 0)
     where
-      go : Dec (gave m g ≡ 0) → reading g (m ∷ h) ≡ v
-      go (yes q) = reading-kept q ∙ r
-      go (no q) = reading-given v (f q) d
+      go : Dec (gave m h ≡ 0) → reads gave (m ∷ h) ≡ v
+      go (yes q) = reads-kept q ∙ r
+      go (no q) = reads-given v (f q) d
+
+  -- where it reads otherwise after the event, the event gave it what it reads
+  pub reads-anew : (v : ℕ) → reads gave (m ∷ h) ≡ v → reads gave h ≢ v → gave m h ≡ v
+  reads-anew v now was = go (ℕ-discrete (gave m h) 0)
+    where
+      go : Dec (gave m h ≡ 0) → gave m h ≡ v
+      go (yes q) = absurd (was (sym (reads-kept q) ∙ now))
+      go (no q) = sym (reads-given (gave m h) refl q) ∙ now
+
+  -- an event that leaves it reading something else than v did not give it v
+  pub not-given : (v : ℕ) → v ≢ nothing → reads gave (m ∷ h) ≢ v → gave m h ≢ v
+  not-given v z d q = d (reads-given v q z)
+
+  -- what does not read none, and is not given none, does not read none
+  pub not-none : gave m h ≢ readsNone → reads gave h ≢ readsNone → reads gave (m ∷ h) ≢ readsNone
+  not-none n d z = n (reads-anew readsNone z d)
 
 -- a block that was entered reads occupied
-pub entered-reads : (L : Layout) (l i : ℕ) (h : History) → Entered L l i h → blockReads L l i h ≡ occupied
+pub entered-reads : (L : Layout) (l i : ℕ) (h : History) → Entered (gaveBlock L l i) h → blockReads L l i h ≡ occupied
 unfolding Since
 entered-reads L l i [] x = absurd x
-entered-reads L l i (m ∷ h) (inl p) = reading-given m h (block L l i) 2 p (omega arith)
+entered-reads L l i (m ∷ h) (inl p) = reads-given (gaveBlock L l i) m h 2 p (omega arith)
 entered-reads L l i (m ∷ h) (inr k) =
-    reading-stays m h (block L l i) 2 (λ d. let few = says-few (m .event) (block L l i) in let n = k .0 .0 in let f = k .0 .1 in omega arith) (omega arith)
+    reads-on (gaveBlock L l i) m h 2 (λ d. let few = gave-few L (block L l i) m h in let n = k .0 .0 in let f = k .0 .1 in omega arith) (omega arith)
     (entered-reads L l i h (k .1))
-
--- while a block does not read free, its last spell of not reading free goes on
-in-spell : (L : Layout) (l i : ℕ) (h : History) → blockReads L l i h ≢ free → untilSpell L l i h ≡ h
-unfolding untilSpell
-in-spell L l i [] d = refl
-in-spell L l i (m ∷ h) d = passed-over _ _ _ (ne-eqb _ 1 d)
-
--- and no event came after it
-pub none-since : (L : Layout) (l i : ℕ) (h : History) → blockReads L l i h ≢ free → sinceSpell L l i h ≡ []
-unfolding sinceSpell
-none-since L l i [] d = refl
-none-since L l i (m ∷ h) d = passed-over _ _ _ (ne-eqb _ 1 d)
 
 -- ---- an open block: it reads free, and was cleared
 
--- what the invariant says of it
-pub record Opened (L : Layout) (l i : ℕ) (h : History) : Type 0 where
-  pub isFree : blockReads L l i h ≡ free
-  pub cleared : Cleared L l i h
+-- what was left free and is left free since reads free
+free-since : {Began : Moment → History → Type 0} (gave : Given) → ((m : Moment) (h : History) → Began m h → LeavesFree gave m h) → (h : History)
+    → Since Began (LeavesFree gave) h → reads gave h ≡ free
+unfolding Since
+free-since gave began [] x = absurd x
+free-since gave began (m ∷ h) (inl x) = began m h x
+free-since gave began (m ∷ h) (inr x) = x .0
+
+-- so a block that was cleared reads free
+pub cleared-free : (L : Layout) (l i : ℕ) (h : History) → Cleared L l i h → blockReads L l i h ≡ free
+cleared-free L l i h (byPassage w p) = free-since (gaveBlock L l i) (λ m h x. x .ends .1) h p
+cleared-free L l i h (byHand r) = free-since (gaveBlock L l i) (λ m h x. x .1) h r
 
 module _ (L : Layout) (l i : ℕ) (m : Moment) (h : History) where
   -- by one more event that leaves it free
-  pub opened-on : gaveBlock L l i m ≢ readsNone → gaveBlock L l i m ≢ occupied → Opened L l i h → Opened L l i (m ∷ h)
-  unfolding sinceSpell untilSpell Sometime
+  pub opened-on : gaveBlock L l i m h ≢ readsNone → gaveBlock L l i m h ≢ occupied → Opened L l i h → Opened L l i (m ∷ h)
+  unfolding Since
   opened-on n o c = record { isFree = now; cleared = go (c .cleared) }
     where
       now : blockReads L l i (m ∷ h) ≡ 1
-      now = reading-stays m h (block L l i) 1 (λ d. let few = says-few (m .event) (block L l i) in omega arith) (omega arith) (c .isFree)
+      now = reads-on (gaveBlock L l i) m h 1 (λ d. let few = gave-few L (block L l i) m h in omega arith) (omega arith) (c .isFree)
 
       go : Cleared L l i h → Cleared L l i (m ∷ h)
-      go (byPassage w p) = byPassage w (rw (chosen _ _ _ (eq-eqb _ 1 now)) p)
-      go (byHand r) = byHand (rw (chosen _ _ _ (eq-eqb _ 1 now)) (inr r))
+      go (byPassage w p) = byPassage w (inr (now, p))
+      go (byHand r) = byHand (inr (now, r))
 
   -- by a manual release of its line, that finds it free
-  pub opened-by-hand : Releases l m → gaveBlock L l i m ≡ nothing → blockReads L l i h ≡ free → Opened L l i (m ∷ h)
-  unfolding sinceSpell Sometime
+  pub opened-by-hand : Releases l m → gaveBlock L l i m h ≡ nothing → blockReads L l i h ≡ free → Opened L l i (m ∷ h)
+  unfolding Since
   opened-by-hand r q f =
-      let now : blockReads L l i (m ∷ h) ≡ 1 = reading-kept m h (block L l i) q ∙ f in
-      record { isFree = now; cleared = byHand (rw (chosen _ _ _ (eq-eqb _ 1 now)) (inl r)) }
+      let now : blockReads L l i (m ∷ h) ≡ 1 = reads-kept (gaveBlock L l i) m h q ∙ f in
+      record { isFree = now; cleared = byHand (inl (r, now)) }
 
   -- by the free reading that closes a passage
-  pub opened-by-passage : (w : ℕ) → gaveBlock L l i m ≡ free → blockReads L l i h ≢ free → Passage L l i w h → Opened L l i (m ∷ h)
-  unfolding untilSpell
+  pub opened-by-passage : (w : ℕ) → gaveBlock L l i m h ≡ free → blockReads L l i h ≢ free → Passage L l i w h → Opened L l i (m ∷ h)
+  unfolding Since
   opened-by-passage w q d p =
-      let now : blockReads L l i (m ∷ h) ≡ 1 = reading-given m h (block L l i) 1 q (omega arith) in
-      record { isFree = now; cleared = byPassage w (rw (chosen _ _ _ (eq-eqb _ 1 now), in-spell L l i h d) p) }
+      let now : blockReads L l i (m ∷ h) ≡ 1 = reads-given (gaveBlock L l i) m h 1 q (omega arith) in
+      record { isFree = now; cleared = byPassage w (inl (record { ends = (d, now); passage = p })) }

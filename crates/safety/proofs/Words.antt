@@ -1,52 +1,77 @@
--- The words of the statement mean what they say: a history is cut at the end of a block's last spell of not reading free.
+-- The words of the statement mean what they say: what `Since` cuts a history into, and what a passage that cleared a block says of its last spell.
 use Prim.Native.Nat.{ℕ}
-use mathlib.Core.Path.{_≡_, refl, sym, ap, _∙_}
-use mathlib.Core.Logic.{_≢_}
+use mathlib.Core.Path.{_≡_, refl, sym, ap, subst}
+use mathlib.Core.Logic.{_≢_, _↔_, inl, inr}
 use mathlib.Core.List.{[], _∷_, _++_}
-use native.Mathlib.Decide.{ℕ-discrete}
-use native.Mathlib.Omega.{arith}
-use borrow.Author.Tests.{eqb-false, eq-eqb, ne-eqb}
-use Rattle.laws.proofs.Choice.{if-both}
 use Rattle.track.specs.Codes.{free}
 use Rattle.layout.specs.declared.Layout.{Layout}
-use Rattle.safety.specs.History.{Moment, History, reading, gaveBlock, blockReads, sinceSpell, untilSpell}
-use Rattle.safety.proofs.Entries.{block, chosen, passed-over}
-use Rattle.safety.proofs.Told.{reading-kept, reading-given, none-since}
+use Rattle.safety.specs.History.{Moment, History, gaveBlock, blockReads, Since, LeavesFree}
+use Rattle.safety.specs.Cleared.{Passage, Closes}
 
--- the two parts are the whole
-pub spell-parts : (L : Layout) (l i : ℕ) (h : History) → sinceSpell L l i h ++ untilSpell L l i h ≡ h
-unfolding sinceSpell untilSpell
-spell-parts L l i [] = refl
-spell-parts L l i (m ∷ h) = go (ℕ-discrete (blockReads L l i (m ∷ h)) 1) (spell-parts L l i h)
-  where
-    go : Dec (blockReads L l i (m ∷ h) ≡ 1) → sinceSpell L l i h ++ untilSpell L l i h ≡ h → sinceSpell L l i (m ∷ h) ++ untilSpell L l i (m ∷ h) ≡ m ∷ h
-    go (yes f) rest = rw (chosen _ _ _ (eq-eqb _ 1 f), chosen _ _ _ (eq-eqb _ 1 f)) (ap (λ (t : History). m ∷ t) rest)
-    go (no d) rest = rw (passed-over _ _ _ (ne-eqb _ 1 d), passed-over _ _ _ (ne-eqb _ 1 d))
+-- each of the later events, with what was before it down to the oldest, is as Kept says
+abbrev pub EachLater : (Moment → History → Type 0) → History → History → Type 0
+EachLater Kept [] older = Unit {0}
+EachLater Kept (m ∷ later) older = Kept m (later ++ older) × EachLater Kept later older
 
--- at the cold start no block reads free
-cold-none : (L : Layout) (l i : ℕ) → blockReads L l i [] ≢ free
-unfolding reading
-cold-none L l i = omega arith
+-- a history cut at an event that was as Began says, with every later one as Kept says
+pub record Cut (Began Kept : Moment → History → Type 0) (h : History) : Type 0 where
+  pub later : History
+  pub event : Moment
+  pub older : History
+  pub parts : h ≡ later ++ (event ∷ older)
+  pub began : Began event older
+  pub kept : EachLater Kept later (event ∷ older)
 
--- at the end of the older part the block does not read free
-pub spell-not-free : (L : Layout) (l i : ℕ) (h : History) → blockReads L l i (untilSpell L l i h) ≢ free
-unfolding untilSpell
-spell-not-free L l i [] = cold-none L l i
-spell-not-free L l i (m ∷ h) = if-both (λ (t : History). blockReads L l i t ≢ 1) _ (λ f. spell-not-free L l i h) (λ f. eqb-false _ 1 f)
+module _ (Began Kept : Moment → History → Type 0) where
+  -- the event is the last one, or it is one of the history before
+  to-cut : (h : History) → Since Began Kept h → Cut Began Kept h
+  unfolding Since
+  to-cut [] x = absurd x
+  to-cut (m ∷ h) (inl b) = record { later = []; event = m; older = h; parts = refl; began = b; kept = tt }
+  to-cut (m ∷ h) (inr (k, x)) =
+      let c = to-cut h x in
+      record {
+        later = m ∷ c .later;
+        event = c .event;
+        older = c .older;
+        parts = ap (λ (t : History). m ∷ t) (c .parts);
+        began = c .began;
+        kept = (subst (Kept m) (c .parts) k, c .kept);
+      }
 
--- and if it reads free now, the oldest event since then is the free reading that ended the spell
-pub spell-ended : (L : Layout) (l i : ℕ) (h : History) → blockReads L l i h ≡ free → (later : History) × (m : Moment) × (sinceSpell L l i h ≡ later ++ (m ∷ [])) × (gaveBlock L l i m ≡ free)
-unfolding sinceSpell
-spell-ended L l i [] f = absurd (cold-none L l i f)
-spell-ended L l i (m ∷ h) f = rw (chosen _ _ _ (eq-eqb _ 1 f)) (go (ℕ-discrete (blockReads L l i h) 1) (spell-ended L l i h))
-  where
-    Ended : History → Type 0
-    Ended t = (later : History) × (n : Moment) × (t ≡ later ++ (n ∷ [])) × (gaveBlock L l i n ≡ 1)
+  -- from the event on, later event by later event
+  from-parts : (later : History) (m : Moment) (older : History) → Began m older → EachLater Kept later (m ∷ older) → Since Began Kept (later ++ (m ∷ older))
+  unfolding Since
+  from-parts [] m older b k = inl b
+  from-parts (n ∷ later) m older b (k, ks) = inr (k, from-parts later m older b ks)
 
-    gave-free : blockReads L l i h ≢ 1 → Dec (gaveBlock L l i m ≡ 0) → gaveBlock L l i m ≡ 1
-    gave-free d (yes q) = absurd (d (sym (reading-kept m h (block L l i) q) ∙ f))
-    gave-free d (no q) = sym (reading-given m h (block L l i) (gaveBlock L l i m) refl q) ∙ f
+  -- so `Since` is said of just the histories that can be cut so
+  pub since-words : (h : History) → Since Began Kept h ↔ Cut Began Kept h
+  since-words h = (to-cut h, λ c. subst (Since Began Kept) (sym (c .parts)) (from-parts (c .later) (c .event) (c .older) (c .began) (c .kept)))
 
-    go : Dec (blockReads L l i h ≡ 1) → (blockReads L l i h ≡ 1 → Ended (sinceSpell L l i h)) → Ended (m ∷ sinceSpell L l i h)
-    go (yes q) rest = let (later, n, parts, gives) = rest q in (m ∷ later, n, ap (λ (t : History). m ∷ t) parts, gives)
-    go (no d) rest = ([], m, ap (λ (t : History). m ∷ t) (none-since L l i h d), gave-free d (ℕ-discrete (gaveBlock L l i m) 0))
+-- the end of a block's last spell of not reading free: the block did not read free before the event, and reads free after it and ever since; and what the
+-- event found was a passage
+pub record LastSpell (L : Layout) (l i w : ℕ) (h : History) : Type 0 where
+  pub later : History
+  pub event : Moment
+  pub older : History
+  pub parts : h ≡ later ++ (event ∷ older)
+  pub notFree : blockReads L l i older ≢ free
+  pub freed : blockReads L l i (event ∷ older) ≡ free
+  pub freeSince : EachLater (LeavesFree (gaveBlock L l i)) later (event ∷ older)
+  pub passage : Passage L l i w older
+
+-- so of a block that a passage cleared
+pub passage-words : (L : Layout) (l i w : ℕ) (h : History) → Since (Closes L l i w) (LeavesFree (gaveBlock L l i)) h → LastSpell L l i w h
+passage-words L l i w h x =
+    let c = since-words (Closes L l i w) (LeavesFree (gaveBlock L l i)) h .0 x in
+    record {
+      later = c .later;
+      event = c .event;
+      older = c .older;
+      parts = c .parts;
+      notFree = c .began .ends .0;
+      freed = c .began .ends .1;
+      freeSince = c .kept;
+      passage = c .began .passage;
+    }

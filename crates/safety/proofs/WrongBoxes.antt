@@ -8,7 +8,7 @@ use Rattle.passage.specs.Passage.{ownStage, farStage}
 use Rattle.layout.specs.declared.Layout.{Layout}
 use Rattle.layout.specs.Layout.{lineIn}
 use Rattle.reasons.specs.declared.Refusal.{Refusal}
-use Rattle.refusals.specs.Orders.{setRefusal, manualRefusal}
+use Rattle.refusals.specs.Orders.{throwRefusal, setRefusal, secureRefusal, manualRefusal}
 use Rattle.line_block.specs.FarSections.{farMoved, farStageAt, farStages}
 use Rattle.line_block.specs.LineRelease.{directionAfter, directionsAfter}
 use Rattle.interlocking.specs.declared.State.{State}
@@ -16,13 +16,17 @@ use Rattle.interlocking.specs.State.{tablesOf, withSections}
 use Rattle.interlocking.specs.Own.{ownStageAt, ownSection}
 use Rattle.interlocking.specs.Settle.{signals, farSections, routes, lineRelease, settle}
 use Rattle.interlocking.specs.declared.Answer.{Answer}
-use Rattle.interlocking.specs.Rows.{sectionRow, setRow, manualRow, rowOf}
+use Rattle.interlocking.specs.Rows.{sectionRow, throwRow, setRow, secureRow, manualRow, rowOf}
 use Rattle.interlocking.specs.Step.{rowRefusal, stepInRun, refusal, own, after}
+use Rattle.signals.specs.BlockSignals.{blockShows}
+use Rattle.panel.specs.Panel.{blockBytes, lineBytes, image}
 use Rattle.step_facts.proofs.Step.{step-done, step-refused}
 use Rattle.step_facts.specs.Run.{Event, boxInRun}
-use Rattle.safety.specs.WrongBoxes.{stepBy, refuses, does, refuseBy, readBy, moveBy, secured, endBy}
-use Rattle.safety.specs.FarInState.{farReading, farDropped}
-use Rattle.safety.proofs.Entries.{ends}
+use Rattle.safety.specs.WrongBoxes.{stepBy, refuses, does, readBy, moveBy, secured, endBy}
+use Rattle.safety.specs.WrongOrders.{refuseBy}
+use Rattle.safety.specs.WrongPanels.{imageBy, itsWay}
+use Rattle.step_facts.specs.FarInState.{farReading, farDropped}
+use Rattle.step_facts.proofs.Entries.{ends}
 
 -- one part after the other
 pub own-parts : (L : Layout) (s : State) (e : Event) → stepBy refuses does signals farSections routes lineRelease L s e ≡ boxInRun L s e
@@ -31,13 +35,17 @@ own-parts L s e =
     if-both (λ (r : Answer). r ≡ boxInRun L s e) (eqb (refuses L s e .number) 0)
     (λ t. sym (step-done _ L s (e .kind) (e .first) (e .second) (eqb-true _ 0 t))) (λ f. sym (step-refused _ L s (e .kind) (e .first) (e .second) (eqb-false _ 0 f)))
 
--- what is refused of a route that is set and of a manual release
+-- what is refused of a throw, of a route that is set, of a line that is secured and of a manual release
 pub own-refusals : (L : Layout) (s : State) (e : Event)
-    → (refuseBy 4 (λ L s r. setRefusal L (tablesOf s) r) L s e ≡ refuses L s e)
+    → (refuseBy 3 (λ L s p. throwRefusal L (tablesOf s) p) L s e ≡ refuses L s e)
+    × (refuseBy 4 (λ L s r. setRefusal L (tablesOf s) r) L s e ≡ refuses L s e)
+    × (refuseBy 6 (λ L s l. secureRefusal L (tablesOf s) l) L s e ≡ refuses L s e)
     × (refuseBy 7 (λ L s l. manualRefusal L (tablesOf s) l) L s e ≡ refuses L s e)
-unfolding refusal rowRefusal rowOf setRow manualRow if_then_else_
+unfolding refusal rowRefusal rowOf throwRow setRow secureRow manualRow if_then_else_
 own-refusals L s e = (
+  if-both (λ (r : Refusal). r ≡ refuses L s e) (eqb (e .kind) 3) (λ t. rw (eqb-true (e .kind) 3 t)) (λ f. refl),
   if-both (λ (r : Refusal). r ≡ refuses L s e) (eqb (e .kind) 4) (λ t. rw (eqb-true (e .kind) 4 t)) (λ f. refl),
+  if-both (λ (r : Refusal). r ≡ refuses L s e) (eqb (e .kind) 6) (λ t. rw (eqb-true (e .kind) 6 t)) (λ f. refl),
   if-both (λ (r : Refusal). r ≡ refuses L s e) (eqb (e .kind) 7) (λ t. rw (eqb-true (e .kind) 7 t)) (λ f. refl),
 )
 
@@ -56,3 +64,8 @@ own-far L before s = refl
 pub own-release : (L : Layout) (before s : State) → endBy ends L before s ≡ lineRelease L before s
 unfolding lineRelease directionsAfter directionAfter lineIn
 own-release L before s = refl
+
+-- the panel image
+pub own-image : (L : Layout) (s : State) → imageBy itsWay L s ≡ image L s
+unfolding image lineBytes blockBytes blockShows
+own-image L s = refl

@@ -14,7 +14,7 @@ use Rattle.step_facts.specs.Run.{box, answers}
 use Rattle.safety.specs.Cases.{p1, same}
 use Rattle.safety.specs.WrongBoxes10.{refusesOrders, answersZero, neverMoves, firstOnly, granted, said, panelAfter, unlikeAt, p1to4, rejected}
 use Rattle.safety.proofs.Computed.{runComputed}
-use Rattle.safety.proofs.WrongRuns.{same-itself}
+use Rattle.safety.proofs.Cases.{same-itself}
 
 -- computed
 pub section-10-rejects : every rejected ≡ true

@@ -1,6 +1,6 @@
 -- Boxes that are wrong in one thing, for demand 3 to refuse: the step of a run with one of its parts done another way, as an error that looks reasonable
 -- would (section 9), or with one guard left out. `proofs/WrongBoxes` proves that with the step's own parts they are the step of a run, so each differs from
--- it in that alone; `WrongRuns` has a run of each that shows it.
+-- it in that alone; `WrongRuns` has a run of each that shows it. `WrongOrders` has the boxes that are wrong in what they refuse of an order.
 use Prim.Native.Nat.{ℕ, _*_, _/_, _%_}
 use mathlib.Core.Bool.{Bool, true, false, not}
 use mathlib.Core.List.{[], _∷_}
@@ -9,31 +9,26 @@ use lib.ListN.{replicate}
 use Rattle.laws.specs.Choice.{if_then_else_}
 use Rattle.laws.specs.Tests.{_and_, every, allBelow, anyBelow}
 use Rattle.laws.specs.Tables.{each, put}
-use Rattle.track.specs.Codes.{free, occupied, readsNone, exitRoute, neutral, aToB, openBlock, stage0, stage1, stage2, atProceed, atStop, readSection, setRoute, cancelRoute, releaseLine, unbarBlock}
+use Rattle.track.specs.Codes.{free, occupied, readsNone, exitRoute, neutral, aToB, openBlock, stage0, stage1, stage2, atProceed, atStop, readSection, cancelRoute, releaseLine, unbarBlock}
 use Rattle.track.specs.Sizes.{mostSections, mostBlocks, mostPlaces, mostTrainRoutes}
 use Rattle.track.specs.Objects.{line, route}
-use Rattle.track.specs.Blocks.{lineSections}
-use Rattle.tables.specs.Readings.{recorded}
+use Rattle.tables.specs.Readings.{recorded, allFree}
 use Rattle.tables.specs.Blocks.{isOpen, unbarred}
 use Rattle.passage.specs.Passage.{ownStage, farStage}
 use Rattle.tables.specs.declared.Gives.{Gives}
 use Rattle.layout.specs.declared.Layout.{Layout}
 use Rattle.reasons.specs.declared.Refusal.{Refusal}
 use Rattle.reasons.specs.Refusal.{refusedIf, firstOf}
-use Rattle.tables.specs.Locks.{direction, locked, lockedExit}
-use Rattle.reasons.specs.Reasons.{notFree, exitLocked}
-use Rattle.refusals.specs.Orders.{routeRefusal}
-use Rattle.refusals.specs.Events.{numbersRefusal}
+use Rattle.tables.specs.Locks.{direction, phase, lockedExit}
 use Rattle.line_block.specs.LineRelease.{lastBlock, passable, wasInStage2, directionAfter}
 use Rattle.interlocking.specs.declared.State.{State}
 use Rattle.interlocking.specs.declared.Answer.{Answer}
-use Rattle.interlocking.specs.State.{cold, tablesOf, withSections, withRoutes, withLines}
+use Rattle.interlocking.specs.State.{cold, withSections, withRoutes, withLines}
 use Rattle.interlocking.specs.Own.{ownGiven}
 use Rattle.interlocking.specs.Settle.{signals, farSections, routes, lineRelease}
-use Rattle.interlocking.specs.Rows.{Row, rowOf}
 use Rattle.interlocking.specs.Step.{askedInRun, refusal, own, gives}
 use Rattle.step_facts.specs.Run.{Event}
-use Rattle.safety.specs.FarInState.{farReading, farProceeds, farDropped}
+use Rattle.step_facts.specs.FarInState.{farReading, farProceeds, farDropped}
 
 -- ---- a step from its parts: what is refused; what the event does itself; then signals, far sections, routes, line release (section 5)
 
@@ -66,29 +61,6 @@ does L s e = own L s (e .kind) (e .first) (e .second)
 abbrev pub refusesNone : Box
 refusesNone = stepBy (λ L s e. firstOf (refusedIf (eqb (e .kind) readSection and eqb (e .second) 0) 3 0 ∷ refuses L s e ∷ [])) does signals farSections routes lineRelease
 
--- what is refused, where an order of kind k is refused by this
-abbrev pub refuseBy : ℕ → (Layout → State → ℕ → Refusal) → Layout → State → Event → Refusal
-refuseBy k refuse L s e =
-    let row : Row = rowOf L s k (e .first) (e .second) in
-    if eqb (e .kind) k then firstOf (numbersRefusal (askedInRun L) (row .missing) (e .first) (row .wrong) ∷ refuse L s (e .first) ∷ []) else refuses L s e
-
--- the box that refuses so
-abbrev refusesBy : ℕ → (Layout → State → ℕ → Refusal) → Box
-refusesBy k refuse = stepBy (refuseBy k refuse) does signals farSections routes lineRelease
-
--- section 3: 17 is not asked of a manual release
-abbrev pub releasesLocked : Box
-releasesLocked = refusesBy releaseLine (λ L s l. notFree (s .section) (lineSections (line (L .line) l)))
-
--- section 3: 7 and 8 are not asked of it
-abbrev pub releasesTaken : Box
-releasesTaken = refusesBy releaseLine (λ L s l. exitLocked L (s .phase) l)
-
--- section 3: 5 is not asked of a route that is set
-abbrev pub asksNoConflict : Box
-asksNoConflict =
-    refusesBy setRoute (λ L s r. firstOf (refusedIf (locked (s .phase) r) 4 r ∷ routeRefusal (L .line) (tablesOf s) (route (L .route) r) ∷ []))
-
 -- ---- a block's own reading
 
 -- what a reading gives
@@ -103,7 +75,7 @@ readBy stage L s e =
     else does L s e
 
 -- the box that reads so
-abbrev readsBy : (ℕ → ℕ → ℕ) → Box
+abbrev pub readsBy : (ℕ → ℕ → ℕ) → Box
 readsBy stage = stepBy refuses (readBy stage) signals farSections routes lineRelease
 
 -- section 9: a block opens because it reads free again
@@ -113,6 +85,14 @@ opensFree = readsBy (λ v was. if eqb v free then openBlock else ownStage v was)
 -- section 5: none of the block is passed over, so that a passage is counted with a none between
 abbrev pub passesNone : Box
 passesNone = readsBy (λ v was. if eqb v readsNone then was else ownStage v was)
+
+-- none is taken as occupied
+abbrev pub takesNone : Box
+takesNone = readsBy (λ v was. ownStage (if eqb v readsNone then occupied else v) was)
+
+-- free leaves stage 1 as it is
+abbrev pub keepsStage1 : Box
+keepsStage1 = readsBy (λ v was. if eqb v free and eqb was stage1 then stage1 else ownStage v was)
 
 -- ---- far sections (section 5)
 
@@ -158,7 +138,11 @@ movesInNeutral =
     movesBy (λ s l. if eqb (secured s l) neutral then aToB else secured s l)
     (λ L before s l i w was. farStage (farReading L s l i w) (farDropped L before s l i w) was)
 
--- ---- signals and seconds
+-- ---- signals and manual release
+
+-- section 4: a signal never falls
+abbrev pub neverFalls : Box
+neverFalls = stepBy refuses does (λ L s. s) farSections routes lineRelease
 
 -- every fallen exit signal is at proceed again
 abbrev raised : Layout → State → State
@@ -169,6 +153,18 @@ raised L s =
 abbrev pub bringsBack : Box
 bringsBack = stepBy refuses (λ L s e. if eqb (e .kind) unbarBlock then raised L (does L s e) else does L s e) signals farSections routes lineRelease
 
+-- section 3: a manual release opens the blocks of every line
+abbrev pub releasesAll : Box
+releasesAll =
+    stepBy refuses (λ L s e. if eqb (e .kind) releaseLine then withLines (does L s e) (does L s e .direction) (replicate mostPlaces openBlock) else does L s e)
+    signals farSections routes lineRelease
+
+-- ---- letting a route go (section 6)
+
+-- cancel is granted, and the signal stays as it is
+abbrev pub neverCancels : Box
+neverCancels = stepBy refuses (λ L s e. if eqb (e .kind) cancelRoute then s else does L s e) signals farSections routes lineRelease
+
 -- route r has waited one second
 abbrev counted : State → ℕ → State
 counted s r = withRoutes s (s .phase) (s .steps) (put mostTrainRoutes (s .seconds) r 1)
@@ -176,6 +172,23 @@ counted s r = withRoutes s (s .phase) (s .steps) (put mostTrainRoutes (s .second
 -- section 9: the cancel wait ends at 89: the cancel counts as a second
 abbrev pub waits89 : Box
 waits89 = stepBy refuses (λ L s e. if eqb (e .kind) cancelRoute then counted (does L s e) (e .first) else does L s e) signals farSections routes lineRelease
+
+-- the second step is not asked: a route that has done the first goes on as from the second
+abbrev pub asksNoSecond : Box
+asksNoSecond =
+    stepBy refuses does signals farSections
+    (λ L s g. routes L (withRoutes s (s .phase) (each (L .routes) (λ r was. if eqb was 1 then 2 else was) (s .steps)) (s .seconds)) g) lineRelease
+
+-- the overlap of route r reads free
+abbrev overlapFree : Layout → State → ℕ → Bool
+overlapFree L s r = allFree (s .section) (route (L .route) r .overlaps) (route (L .route) r .overlap)
+
+-- a route whose overlap does not read free is not let go
+abbrev pub keepsOverlap : Box
+keepsOverlap =
+    stepBy refuses does signals farSections
+    (λ L s g. withRoutes s (each (L .routes) (λ r was. if overlapFree L s r then phase (routes L s g .phase) r else was) (s .phase)) (routes L s g .steps) (routes L s g .seconds))
+    lineRelease
 
 -- ---- line release (section 5)
 

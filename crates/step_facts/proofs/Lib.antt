@@ -4,3 +4,8 @@ pub mod Settle
 pub mod Refusals
 pub mod Step
 pub mod Run
+pub mod Entries
+pub mod Passed
+pub mod Within
+pub mod Granted
+pub mod FarCases

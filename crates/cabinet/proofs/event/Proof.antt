@@ -54,6 +54,7 @@ use Rattle.interlocking.proofs.State.step as stp
 use Rattle.interlocking.proofs.State.step.Symbol as stp-def
 use Rattle.interlocking.proofs.State.step.Symbol.{name as #interlocking·State·step}
 use Rattle.interlocking.proofs.State.step.Met as stp-thm
+use Rattle.cabinet.specs.Calls.{records, giveEvent, afterCall, ofEvent, tells}
 use Rattle.cabinet.specs.Cabinet.{reply}
 use Rattle.cabinet.specs.declared.Reply.{Reply}
 use Rattle.cabinet.proofs.Reply as P
@@ -92,10 +93,16 @@ told r = record { number = r .number; detail = r .detail }
 told-is : (r : Answer) (vs : List Val) → Is N.the-row r vs → Is P.the-row (told r) (valP (told r) ∷ [])
 told-is r vs is = let are = LL.owed N.the-type N′.the-laws r vs is in LL.owes P.the-type P′.the-laws (told r) (are .0, (are .1 .0, tt))
 
--- the reply to the answer that the step gives
-told-of : {a r : Answer} → r ≡ a → told r ≡ reply a
-unfolding reply
-told-of e = ap told e
+module _ (l : Layout) (h : State) (k m n : ℕ) {r : Answer} where
+  -- the reply to the answer that the step gives
+  told-of : r ≡ step l h k m n → told r ≡ reply (tells (records l h) (giveEvent k m n))
+  unfolding reply tells ofEvent
+  told-of e = ap told e
+
+  -- the records with its next state
+  left-of : r ≡ step l h k m n → records l (r .next) ≡ afterCall (records l h) (giveEvent k m n)
+  unfolding afterCall
+  left-of e = ap (λ (a : Answer). records l (a .next)) e
 
 module _ {M : Type 1} (𝓤 : URA M) (H : Heap 𝓤) (A : Atoms 𝓤) (at-mem : Memory → SProp 𝓤) (run : Routine → Fun 𝓤) where
   -- the contract that the proof cites
@@ -129,7 +136,7 @@ module _ {M : Type 1} (𝓤 : URA M) (H : Heap 𝓤) (A : Atoms 𝓤) (W : Given
   exits r vs is e =
       qed W (‵ (fobs γ (S.the-row .coded .code (r .next))) ∷ ‵ (fbor κ (Body (mem S.the-row) b o γ)) ∷ ‵ (flft κ q) ∷ []) ∵
       suffices ! _ (ends-at 𝓤 H A event.ended stayed (event.clauses 𝓤 H A at-mem run) W (((κ, tt), (q, tt), tt, x, at), tt) (valP (told r)) (told r) (r .next, (tt, (tt, (tt, (tt, tt))))) (tt, (tt, (tt, (tt, (tt, tt)))))) $
-      says ! (told-of e, ap (λ (a : Answer). a .next) e) $ nothing ! $ move ! (3 ∷ 0 ∷ []) $ join ! $
+      says ! (told-of l h k m n e, left-of l h k m n e) $ nothing ! $ move ! (3 ∷ 0 ∷ []) $ join ! $
       -- the token; then what is had of the parameters, from the last to the first; then the result
       frame ! $ feqI ! (List Val) (vptr b o ∷ []) (vptr b o ∷ []) refl $ fjoin3 ! $ nothing ! $
       owned ! u32 (Is u32) (uint-makes 𝓤 H A W w32) n _ (refl, n-fits) $ fjoin ! $

@@ -41,9 +41,9 @@ use denote.Exit.{yes}
 use Rattle.layout.specs.declared.Layout.{Layout}
 use Rattle.layout.proofs.Layout as L
 use Rattle.layout.proofs.Layout.Laws as L′
-use Rattle.interlocking.specs.Step.{step}
 use Rattle.interlocking.specs.declared.State.{State}
 use Rattle.interlocking.proofs.State as S
+use Rattle.cabinet.specs.Calls.{records, giveEvent, afterCall, tells}
 use Rattle.cabinet.specs.Cabinet.{reply}
 use Rattle.cabinet.specs.declared.Reply.{Reply}
 use Rattle.cabinet.proofs.Reply as P
@@ -94,7 +94,7 @@ module _ {M : Type 1} (𝓤 : URA M) (H : Heap 𝓤) (A : Atoms 𝓤) (W : Given
 
   -- what `event` says of its reply and of the last state, and what is said here
   abbrev Said : Reply → State → Type 0
-  Said r z = (r ≡ reply (step l h k m n)) × (z ≡ step l h k m n .next)
+  Said r z = (r ≡ reply (tells (records l h) (giveEvent k m n))) × (records l z ≡ afterCall (records l h) (giveEvent k m n))
 
   -- what is to hold at the end
   abbrev Post : Val → SProp 𝓤

@@ -54,6 +54,8 @@ use Rattle.panel.proofs.panel as pan
 use Rattle.panel.proofs.panel.Symbol as pan-def
 use Rattle.panel.proofs.panel.Symbol.{name as #panel·panel}
 use Rattle.panel.proofs.panel.Met as pan-thm
+use Rattle.cabinet.specs.Calls.{records, drawPanel, ofPanel, tells}
+use Rattle.cabinet.specs.Cabinet.{drawnReply}
 use Rattle.cabinet.proofs.Values.{valS, valL}
 use Rattle.cabinet.proofs.hiruketawha_panel.Key.{name as #cabinet·hiruketawha-panel}
 use Rattle.cabinet.proofs.hiruketawha_panel as entry
@@ -98,9 +100,14 @@ module _ {M : Type 1} (𝓤 : URA M) (H : Heap 𝓤) (A : Atoms 𝓤) (W : Given
   abbrev Own : Fml
   Own = MutSlice (named 2) κ″ u8 .own s (v ∷ [])
 
-  -- what `panel` says of its answer and of the last bytes, and what is said here
+  -- what `panel` says of its answer and of the last bytes
   abbrev Said : Drawn → List ℕ → Type 0
   Said r zs = (r ≡ answer l h (length ys)) × (zs ≡ drawn l h ys)
+
+  -- what is said here: the same, as the call tells it
+  told-of : {r : Drawn} {zs : List ℕ} → Said r zs → (r ≡ drawnReply (tells (records l h) (drawPanel ys))) × (zs ≡ tells (records l h) (drawPanel ys) .buffer)
+  unfolding drawnReply tells ofPanel
+  told-of e = e
 
   -- what is to hold at the end
   abbrev Post : Val → SProp 𝓤
@@ -114,7 +121,7 @@ module _ {M : Type 1} (𝓤 : URA M) (H : Heap 𝓤) (A : Atoms 𝓤) (W : Given
       qed W (‵ (D.the-row .own r (w ∷ [])) ∷ (‵ (flft κ″ q″) ⊛ ‵ ftrue) ∷ ‵ (finally u8 γ″ zs) ∷ ‵ (flft κ′ q′) ∷ ‵ (fshr-bor κ′ (λ p. partAt L.the-row p l b′ o′)) ∷ ‵ (flft κ q) ∷ ‵ (fshr-bor κ (λ p. partAt S.the-row p h b o))
       ∷ ‵ (fres γ (S.the-row .coded .code h)) ∷ ‵ (fres γ′ (L.the-row .coded .code l)) ∷ []) ∵
       suffices ! _ (ends-at 𝓤 H A entry.ended stayed (entry.clauses 𝓤 H A at-mem run) W (((κ, (κ′, (κ″, tt))), (q, (q′, (q″, tt))), tt, x, at), tt) w r (tt, (tt, (zs, tt))) (tt, (tt, (len, tt)))) $
-      says ! e $
+      says ! (told-of e) $
       -- the tokens
       move ! (3 ∷ 1 ∷ []) $ join ! $ move ! (4 ∷ 0 ∷ []) $ join ! $ frame ! $
       -- the last bytes, the layout's reference, the state's; the result

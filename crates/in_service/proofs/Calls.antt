@@ -1,0 +1,147 @@
+-- After any calls what is demanded holds of what they told: their log is the history of the run that the records are in.
+use Prim.Native.Nat.{ℕ, _≤_}
+use mathlib.Core.Path.{_≡_, refl, sym, ap, _∙_, subst}
+use mathlib.Core.Bool.{Bool, true, false}
+use mathlib.Core.Logic.{_⊎_, inl, inr}
+use mathlib.Core.List.{List, [], _∷_, _++_}
+use lib.Dec.{eqb}
+use lib.ListN.{length, take}
+use Rattle.laws.specs.Choice.{if_then_else_}
+use Rattle.laws.specs.Tests.{_and_}
+use Rattle.layout.specs.declared.Layout.{Layout}
+use Rattle.layout.specs.Layout.{noLayout}
+use Rattle.layout.specs.Load.{load}
+use Rattle.layout.specs.Sound.{sound}
+use Rattle.layout_facts.proofs.Loaded.{loaded-sound}
+use Rattle.interlocking.specs.declared.State.{State}
+use Rattle.interlocking.specs.State.{cold, inRange}
+use Rattle.interlocking.specs.Step.{step}
+use Rattle.panel.specs.Panel.{image, answer, drawnWhere, drawn}
+use Rattle.panel.specs.Panel as panels
+use Rattle.step_facts.specs.Run.{Event, event, box, fromCold}
+use Rattle.step_facts.proofs.Step.{step-in-range}
+use Rattle.step_facts.proofs.Run.{cold-run-in-range}
+use Rattle.event_file.proofs.Shown.{drawn-whole}
+use Rattle.cabinet.specs.Calls.{Records, records, Call, powerOn, loadFile, giveEvent, drawPanel, afterLoad, afterCall, recordsAfter, Told, ofEvent, ofPanel, tells}
+use Rattle.cabinet.specs.Runs.{eventsSince, OfFile, Waits}
+use Rattle.cabinet.proofs.Runs.{in-run, waits}
+use Rattle.safety.specs.History.{Moment, History, Throughout, moment, goesOn, history}
+use Rattle.safety.specs.Grants.{AcceptedJust}
+use Rattle.safety.proofs.Passing.{on-with}
+use Rattle.safety.proofs.Grants.{accepts-exactly}
+use Rattle.in_service.specs.Demands.{lastImage, Demanded}
+use Rattle.in_service.specs.Calls.{drawnThen, logOf, EveryCall}
+use Rattle.in_service.proofs.Demands.{last-shown, run-demanded, Unserved, none-demanded}
+
+-- so many of the first elements as the first list has are that list
+take-first : (xs ys : List ℕ) → take (length xs) (xs ++ ys) ≡ xs
+take-first [] ys = refl
+take-first (x ∷ xs) ys = ap (λ zs. x ∷ zs) (take-first xs ys)
+
+-- one event more at the end of a run
+history-on : (L : Layout) (es : List Event) (e : Event) → history L (es ++ (e ∷ [])) ≡ moment L e (box L (fromCold L es) e) ∷ history L es
+unfolding history fromCold goesOn
+history-on L es e = on-with L (box L) cold [] es (e ∷ [])
+
+module _ (buffer : List ℕ) where
+  -- ---- no layout: every event got 18, and nothing was drawn
+
+  -- a layout file: accepted, the log begins anew; refused, it goes on
+  file-waits : (bytes : List ℕ) (cs : List Call) → (recordsAfter cs .layout ≡ noLayout → Throughout Unserved (logOf buffer cs))
+      → (t : Bool) → eqb (load bytes .number) 0 ≡ t → afterLoad (recordsAfter cs) (load bytes) .layout ≡ noLayout
+      → Throughout Unserved (if eqb (load bytes .number) 0 then [] else logOf buffer cs)
+  unfolding Throughout afterLoad if_then_else_
+  file-waits bytes cs rest true q e = rw q tt
+  file-waits bytes cs rest false q e = rw q (rest (rw q at e))
+
+  -- records that wait draw nothing
+  none-drawn : (r : Records) → Waits r → drawnThen buffer r ≡ []
+  unfolding drawnThen
+  none-drawn r w = rw (w .panels buffer)
+
+  log-waits : (cs : List Call) → recordsAfter cs .layout ≡ noLayout → Throughout Unserved (logOf buffer cs)
+  unfolding logOf Throughout recordsAfter afterCall
+  log-waits [] e = tt
+  log-waits (powerOn ∷ cs) e = tt
+  log-waits (loadFile bytes ∷ cs) e = file-waits bytes cs (log-waits cs) (eqb (load bytes .number) 0) refl e
+  log-waits (giveEvent k a b ∷ cs) e =
+      ((ap (λ (t : Told). t .number) (waits cs e .events k a b), none-drawn _ (waits (giveEvent k a b ∷ cs) e)), log-waits cs e)
+  log-waits (drawPanel other ∷ cs) e = log-waits cs e
+
+  -- ---- on a sound layout the log is the history of the run
+
+  module _ (enough : 512 ≤ length buffer) where
+    -- the image that is drawn then is the state's, whole
+    drawn-then : (L : Layout) (s : State) → sound L ≡ true → inRange s ≡ true → drawnThen buffer (records L s) ≡ image L s
+    unfolding drawnThen tells ofPanel drawn drawnWhere answer if_then_else_
+    drawn-then L s ok ranged = rw (← drawn-whole L s ok ranged (length buffer) enough) (take-first (image L s) _)
+
+    -- what a call for an event tells, and the image that is drawn then, are the moment
+    told-moment : (L : Layout) (s : State) (k a b : ℕ) → sound L ≡ true → inRange s ≡ true
+        → _≡_ {A = Moment} (record {
+          event = event k a b;
+          number = tells (records L s) (giveEvent k a b) .number;
+          detail = tells (records L s) (giveEvent k a b) .detail;
+          image = drawnThen buffer (afterCall (records L s) (giveEvent k a b));
+        }) (moment L (event k a b) (box L s (event k a b)))
+    unfolding tells ofEvent afterCall moment box
+    told-moment L s k a b ok ranged = rw (drawn-then L (step L s k a b .next) ok (step-in-range L s k a b ranged))
+
+    -- each call by what it is; a layout file that is accepted begins both anew, and one that is refused changes neither
+    file-told : (bytes : List ℕ) (cs : List Call)
+        → (sound (recordsAfter cs .layout) ≡ true → logOf buffer cs ≡ history (recordsAfter cs .layout) (eventsSince cs))
+        → (t : Bool) → eqb (load bytes .number) 0 ≡ t → sound (recordsAfter (loadFile bytes ∷ cs) .layout) ≡ true
+        → logOf buffer (loadFile bytes ∷ cs) ≡ history (recordsAfter (loadFile bytes ∷ cs) .layout) (eventsSince (loadFile bytes ∷ cs))
+    unfolding recordsAfter afterCall afterLoad logOf eventsSince history goesOn if_then_else_
+    file-told bytes cs rest true q ok = rw q
+    file-told bytes cs rest false q ok = rw q (rest (rw q at ok))
+
+    log-told : (cs : List Call) → sound (recordsAfter cs .layout) ≡ true → logOf buffer cs ≡ history (recordsAfter cs .layout) (eventsSince cs)
+    unfolding recordsAfter afterCall logOf eventsSince history goesOn
+    log-told [] ok = refl
+    log-told (powerOn ∷ cs) ok = refl
+    log-told (loadFile bytes ∷ cs) ok = file-told bytes cs (log-told cs) (eqb (load bytes .number) 0) refl ok
+    log-told (giveEvent k a b ∷ cs) ok =
+        let L : Layout = recordsAfter cs .layout in
+        let s : State = recordsAfter cs .state in
+        let same : s ≡ fromCold L (eventsSince cs) = in-run cs .state in
+        let ranged : inRange s ≡ true = rw same (cold-run-in-range L (eventsSince cs)) in
+        ap (λ (m : Moment). m ∷ logOf buffer cs) (told-moment L s k a b ok ranged)
+        ∙ ap (λ (h : History). moment L (event k a b) (box L s (event k a b)) ∷ h) (log-told cs ok)
+        ∙ ap (λ (t : State). moment L (event k a b) (box L t (event k a b)) ∷ history L (eventsSince cs)) same
+        ∙ sym (history-on L (eventsSince cs) (event k a b))
+    log-told (drawPanel other ∷ cs) ok = log-told cs ok
+
+    -- ---- so what is demanded holds of the log
+
+    -- an accepted layout is sound
+    is-sound : (cs : List Call) → OfFile (recordsAfter cs .layout) → sound (recordsAfter cs .layout) ≡ true
+    is-sound cs A = subst (λ (L : Layout). sound L ≡ true) (A .its) (loaded-sound (A .file) (A .done))
+
+    -- with no layout, or on an accepted one
+    demanded : (cs : List Call) → (recordsAfter cs .layout ≡ noLayout) ⊎ OfFile (recordsAfter cs .layout)
+        → Demanded (recordsAfter cs .layout) (logOf buffer cs)
+    demanded cs (inl e) = subst (λ (L : Layout). Demanded L (logOf buffer cs)) (sym e) (none-demanded (logOf buffer cs) (log-waits cs e))
+    demanded cs (inr A) =
+        let run = subst (λ (L : Layout). Demanded L (history L (eventsSince cs))) (A .its) (run-demanded (A .file) (A .done) (eventsSince cs)) in
+        subst (λ (h : History). Demanded (recordsAfter cs .layout) h) (sym (log-told cs (is-sound cs A))) run
+
+    -- each event was accepted just where there was what it asks
+    accepts : (cs : List Call) → OfFile (recordsAfter cs .layout) → Throughout (AcceptedJust (recordsAfter cs .layout)) (logOf buffer cs)
+    accepts cs A =
+        let run = subst (λ (L : Layout). Throughout (AcceptedJust L) (history L (eventsSince cs))) (A .its) (accepts-exactly (A .file) (A .done) (eventsSince cs)) in
+        subst (λ (h : History). Throughout (AcceptedJust (recordsAfter cs .layout)) h) (sym (log-told cs (is-sound cs A))) run
+
+    -- what is drawn now is the state's image, and that showed last
+    now : (cs : List Call) → OfFile (recordsAfter cs .layout)
+        → drawnThen buffer (recordsAfter cs) ≡ lastImage (recordsAfter cs .layout) (logOf buffer cs)
+    now cs A =
+        let L : Layout = recordsAfter cs .layout in
+        let same : recordsAfter cs .state ≡ fromCold L (eventsSince cs) = in-run cs .state in
+        let ranged : inRange (recordsAfter cs .state) ≡ true = rw same (cold-run-in-range L (eventsSince cs)) in
+        drawn-then L (recordsAfter cs .state) (is-sound cs A) ranged ∙ ap (image L) same ∙ sym (last-shown L (eventsSince cs))
+        ∙ ap (lastImage L) (sym (log-told cs (is-sound cs A)))
+
+pub every-call : EveryCall
+every-call buffer enough cs =
+    record { demanded = demanded buffer enough cs (in-run cs .layout); accepts = accepts buffer enough cs; now = now buffer enough cs }

@@ -1,0 +1,148 @@
+-- What is demanded holds of every run on an accepted layout, and of everything where there is no layout.
+use Prim.Native.Nat.{ℕ, _<_}
+use mathlib.Core.Path.{_≡_, refl, sym, ap, _∙_}
+use mathlib.Core.List.{List, [], _∷_}
+use native.Mathlib.Omega.{arith}
+use borrow.Author.Tests.{ltb-true}
+use lib.ListN.{length}
+use Rattle.laws.specs.Tables.{tableFrom, table}
+use Rattle.laws.proofs.Choice.{passed-over}
+use Rattle.laws.proofs.Tests.{and-right, fails-from}
+use Rattle.track.specs.Signal.{main}
+use Rattle.layout.specs.declared.Layout.{Layout}
+use Rattle.layout.specs.Layout.{noLayout}
+use Rattle.layout.specs.Load.{load}
+use Rattle.interlocking.specs.declared.State.{State}
+use Rattle.interlocking.specs.State.{cold}
+use Rattle.panel.specs.Panel.{join, blocks, image, panelLength}
+use Rattle.step_facts.specs.Run.{Event, box, stateAfter, fromCold}
+use Rattle.step_facts.proofs.Step.{refusal-keeps}
+use Rattle.panel.proofs.Image.{present-main}
+use Rattle.safety.specs.History.{Moment, History, gaveSection, shown, Throughout, moment, goesOn, history}
+use Rattle.safety.specs.Demand3.{Safe}
+use Rattle.safety.specs.Exact.{Exact}
+use Rattle.safety.specs.Only.{ExactLog}
+use Rattle.safety.specs.Stories.{NoStory}
+use Rattle.safety.proofs.Demand3.{demand3}
+use Rattle.safety.proofs.Exact.{shows-exactly}
+use Rattle.safety.proofs.Only.{logs-exactly}
+use Rattle.safety.proofs.Stories.{stories-kept}
+use Rattle.in_service.specs.Demands.{lastImage, RefusedKeeps, Demanded}
+
+-- ---- a run
+
+-- a refused event leaves the state, and so its image
+refused-keeps : (L : Layout) (s : State) (h : History) (e : Event) → lastImage L h ≡ image L s → RefusedKeeps L (moment L e (box L s e)) h
+unfolding moment box
+refused-keeps L s h e seen d = ap (image L) (refusal-keeps L s (e .kind) (e .first) (e .second) d) ∙ sym seen
+
+-- so do all of a run
+refusals-on : (L : Layout) (s : State) (h : History) → lastImage L h ≡ image L s → Throughout (RefusedKeeps L) h → (es : List Event)
+    → Throughout (RefusedKeeps L) (goesOn L (box L) s h es)
+unfolding goesOn Throughout lastImage moment
+refusals-on L s h seen t [] = t
+refusals-on L s h seen t (e ∷ es) = refusals-on L (box L s e .next) (moment L e (box L s e) ∷ h) refl (refused-keeps L s h e seen, t) es
+
+-- and the image that showed last is the state's
+last-on : (L : Layout) (s : State) (h : History) → lastImage L h ≡ image L s → (es : List Event)
+    → lastImage L (goesOn L (box L) s h es) ≡ image L (stateAfter (box L) s es)
+unfolding goesOn stateAfter lastImage moment
+last-on L s h seen [] = seen
+last-on L s h seen (e ∷ es) = last-on L (box L s e .next) (moment L e (box L s e) ∷ h) refl es
+
+pub last-shown : (L : Layout) (es : List Event) → lastImage L (history L es) ≡ image L (fromCold L es)
+unfolding history fromCold lastImage
+last-shown L es = last-on L cold [] refl es
+
+-- by the theorems
+pub run-demanded : (bytes : List ℕ) → load bytes .number ≡ 0 → (es : List Event) → Demanded (load bytes .layout) (history (load bytes .layout) es)
+unfolding history lastImage Throughout
+run-demanded bytes ok es = record {
+  safe = demand3 bytes ok es;
+  exact = shows-exactly bytes ok es;
+  exactLog = logs-exactly bytes ok es;
+  stories = stories-kept bytes ok es;
+  refusals = refusals-on (load bytes .layout) cold [] refl tt es;
+}
+
+-- ---- no layout: there are no routes, signals, lines and sections of which anything could be untrue, and every event was refused
+
+-- nothing shows proceed
+none-safe : (h : History) → Safe noLayout h
+unfolding noLayout shown
+none-safe h = record {
+  apart = λ r q b. absurd (omega arith);
+  exits = λ r b. absurd (omega arith);
+  directions = λ l w b. absurd (omega arith);
+  backed = λ x p. absurd (let b = none-there x h p in omega arith);
+  guarded = λ x l i w E. absurd (let b = E .ofLine in omega arith);
+}
+  where
+    none-there : (x : ℕ) (h : History) → 20 < shown noLayout h .signal (main x) → x < noLayout .signals
+    none-there x [] p = present-main noLayout _ x p
+    none-there x (m ∷ h) p = present-main noLayout _ x p
+
+-- nothing shows
+none-exact : (h : History) → Exact noLayout h
+unfolding noLayout
+none-exact h = record {
+  sections = λ g b. absurd (omega arith);
+  points = λ p b. absurd (omega arith);
+  blocks = λ l i b. absurd (omega arith);
+  lines = λ l b. absurd (omega arith);
+  routes = λ r b. absurd (omega arith);
+  mains = λ x b. absurd (omega arith);
+  blockSignals = λ l i w b. absurd (omega arith);
+}
+
+-- nothing is given
+none-given : (g : ℕ) (m : Moment) (h : History) → gaveSection noLayout g m h ≡ 0
+unfolding gaveSection noLayout
+none-given g m h = passed-over _ _ 0 (fails-from _ (λ t. let b : g < 0 = ltb-true g 0 (and-right _ _ (and-right _ _ t)) in absurd (omega arith)))
+
+-- every event was refused, and nothing was drawn
+abbrev pub Unserved : Moment → History → Type 0
+Unserved m older = (m .number ≡ 18) × (m .image ≡ [])
+
+-- and nothing is thrown
+none-stories : (h : History) → Throughout Unserved h → Throughout (NoStory noLayout) h
+unfolding Throughout noLayout
+none-stories [] t = tt
+none-stories (m ∷ h) t = (
+  record {
+    throws = λ p u. absurd (let z = u .0 in let y = t .0 .0 in omega arith);
+    falls = λ g d f. absurd (d (none-given g m h));
+    opens = λ l i b. absurd (omega arith);
+  },
+  none-stories h (t .1),
+)
+
+-- the layout with no objects has no byte
+none-length : 0 ≡ panelLength noLayout
+unfolding panelLength blocks noLayout
+none-length = refl
+
+-- so every image is whole
+none-log : (h : History) → Throughout Unserved h → ExactLog noLayout h
+unfolding Throughout
+none-log [] t = record { whole = tt; exact = tt }
+none-log (m ∷ h) t =
+    let rest = none-log h (t .1) in record { whole = (none-whole (t .0 .1), rest .whole); exact = (none-exact (m ∷ h), rest .exact) }
+  where
+    none-whole : m .image ≡ [] → length (m .image) ≡ panelLength noLayout
+    none-whole q = rw q none-length
+
+-- at the cold start too
+none-cold : [] ≡ image noLayout cold
+unfolding image table tableFrom join noLayout
+none-cold = refl
+
+-- and none changes: all are empty
+none-keeps : (h : History) → Throughout Unserved h → Throughout (RefusedKeeps noLayout) h
+unfolding Throughout lastImage
+none-keeps [] t = tt
+none-keeps (m ∷ []) t = (λ d. t .0 .1 ∙ none-cold, tt)
+none-keeps (m ∷ n ∷ h) t = (λ d. t .0 .1 ∙ sym (t .1 .0 .1), none-keeps (n ∷ h) (t .1))
+
+pub none-demanded : (h : History) → Throughout Unserved h → Demanded noLayout h
+none-demanded h t = record { safe = none-safe h; exact = none-exact h; exactLog = none-log h t; stories = none-stories h t; refusals = none-keeps h t }

@@ -1,0 +1,44 @@
+-- What the event program prints is the log of the run of the file's events, and what is demanded holds of it.
+use Prim.Native.Nat.{suc, _+_}
+use mathlib.Core.Path.{_≡_, sym, ap, _∙_}
+use mathlib.Core.List.{List, [], _∷_, _++_, append-assoc, append-nil}
+use lib.ListN.{length}
+use Rattle.layout.specs.declared.Layout.{Layout}
+use Rattle.layout.specs.Load.{load}
+use Rattle.interlocking.specs.declared.State.{State}
+use Rattle.interlocking.specs.State.{cold}
+use Rattle.panel.specs.Panel.{image}
+use Rattle.step_facts.specs.Run.{Event, box, answers}
+use Rattle.event_file.specs.List.{opening}
+use Rattle.event_file.specs.Events.{ToldLine, eventsOf, endingOf, linesOf, told, toldOf}
+use Rattle.event_file.proofs.Printed.{short-prints}
+use Rattle.safety.specs.History.{History, moment, goesOn, history}
+use Rattle.safety.proofs.Grants.{accepts-exactly}
+use Rattle.in_service.specs.Files.{linesTold, EveryFile}
+use Rattle.in_service.proofs.Demands.{run-demanded}
+
+-- the lines of a history that goes on: those that were there, and one for each answer
+lines-on : (L : Layout) (s : State) (h : History) (es : List Event)
+    → linesTold (goesOn L (box L) s h es) ≡ linesTold h ++ toldOf suc (image L) (length h) (answers (box L) s es)
+unfolding goesOn answers toldOf linesTold told moment
+lines-on L s h [] = sym (append-nil (linesTold h))
+lines-on L s h (e ∷ es) = lines-on L (box L s e .next) (moment L e (box L s e) ∷ h) es ∙ one-more
+  where
+    rest : List ToldLine
+    rest = toldOf suc (image L) (suc (length h)) (answers (box L) (box L s e .next) es)
+
+    one-more : linesTold (moment L e (box L s e) ∷ h) ++ rest ≡ linesTold h ++ (told (image L) (suc (length h)) (box L s e) ∷ rest)
+    one-more = append-assoc (linesTold h) (told (image L) (suc (length h)) (box L s e) ∷ []) rest
+
+-- so those of a run from the cold start are its answers, one after the other
+lines-run : (L : Layout) (es : List Event) → linesTold (history L es) ≡ toldOf suc (image L) 0 (answers (box L) cold es)
+unfolding history linesTold
+lines-run L es = lines-on L cold [] es
+
+pub every-file : EveryFile
+every-file panel layoutFile file ok few = record {
+  lines = short-prints panel layoutFile file ok few
+      ∙ ap (λ (ts : List ToldLine). opening panel (load layoutFile .layout) ++ (linesOf panel ts ++ endingOf file)) (sym (lines-run (load layoutFile .layout) (eventsOf file)));
+  demanded = run-demanded layoutFile ok (eventsOf file);
+  accepts = accepts-exactly layoutFile ok (eventsOf file);
+}

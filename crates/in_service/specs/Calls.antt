@@ -1,0 +1,41 @@
+-- Every call that a controller can make (cabinet/specs/Calls): what is demanded holds after any sequence of them, with any arguments, from power-on, told from
+-- what the calls told.
+use Prim.Native.Nat.{ℕ, _≤_}
+use mathlib.Core.Path.{_≡_}
+use mathlib.Core.List.{List, [], _∷_}
+use lib.Dec.{eqb}
+use lib.ListN.{length, take}
+use Rattle.laws.specs.Choice.{if_then_else_}
+use Rattle.layout.specs.Load.{load}
+use Rattle.step_facts.specs.Run.{event}
+use Rattle.cabinet.specs.Calls.{Records, Call, powerOn, loadFile, giveEvent, drawPanel, recordsAfter, Told, tells}
+use Rattle.cabinet.specs.Runs.{OfFile}
+use Rattle.safety.specs.History.{History, Throughout}
+use Rattle.safety.specs.Grants.{AcceptedJust}
+use Rattle.in_service.specs.Demands.{lastImage, Demanded}
+
+-- the panel image that a call draws then into this buffer, whatever it holds: so many of its bytes as the call says
+unfoldable pub drawnThen : List ℕ → Records → List ℕ
+drawnThen buffer r = let t : Told = tells r (drawPanel buffer) in take (t .detail) (t .buffer)
+
+-- the log of a controller that asks for the panel image after each event, newest first: of each event its numbers, what the call told, and the image. It
+-- begins anew with power-on, and with a layout file that was accepted
+unfoldable pub logOf : List ℕ → List Call → History
+logOf buffer [] = []
+logOf buffer (powerOn ∷ cs) = []
+logOf buffer (loadFile bytes ∷ cs) = if eqb (load bytes .number) 0 then [] else logOf buffer cs
+logOf buffer (giveEvent k a b ∷ cs) =
+    let t : Told = tells (recordsAfter cs) (giveEvent k a b) in
+    record { event = event k a b; number = t .number; detail = t .detail; image = drawnThen buffer (recordsAfter (giveEvent k a b ∷ cs)) } ∷ logOf buffer cs
+logOf buffer (drawPanel other ∷ cs) = logOf buffer cs
+
+-- after the calls cs what is demanded holds of the log; and where a layout is in use, each event was accepted just where there was what it asks, and the
+-- panel image that is drawn now is the one that showed last
+pub record InService (buffer : List ℕ) (cs : List Call) : Type 0 where
+  pub demanded : Demanded (recordsAfter cs .layout) (logOf buffer cs)
+  pub accepts : OfFile (recordsAfter cs .layout) → Throughout (AcceptedJust (recordsAfter cs .layout)) (logOf buffer cs)
+  pub now : OfFile (recordsAfter cs .layout) → drawnThen buffer (recordsAfter cs) ≡ lastImage (recordsAfter cs .layout) (logOf buffer cs)
+
+-- after any calls, with or without a layout, whatever buffer of 512 bytes or more is lent for the images
+abbrev pub EveryCall : Type 0
+EveryCall = (buffer : List ℕ) → 512 ≤ length buffer → (cs : List Call) → InService buffer cs

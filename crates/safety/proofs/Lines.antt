@@ -1,0 +1,219 @@
+-- The direction of a line is the one in which the history tells that it is secured (section 5).
+use Prim.Native.Nat.{ℕ, _<_, _≤_}
+use mathlib.Core.Path.{_≡_, refl, sym, ap, _∙_}
+use mathlib.Core.Logic.{_≢_, _⊎_, _↔_, inl, inr}
+use mathlib.Core.Bool.{true}
+use mathlib.Core.List.{_∷_}
+use native.Mathlib.Decide.{ℕ-discrete}
+use native.Mathlib.Omega.{arith}
+use borrow.Author.Tests.{eqb-true, eqb-false, eq-eqb, ne-eqb, not-true}
+use Rattle.laws.specs.Tests.{_and_}
+use Rattle.laws.proofs.Tests.{and-left, and-right, and-both, not-both, fails-not, every-at, every-one, every-more, all-at, all-from, any-none, any-fails}
+use Rattle.track.specs.Sizes.{mostLines}
+use Rattle.tables.specs.Blocks.{isOpen, unbarred}
+use Rattle.tables.specs.Locks.{locked, lockedExitBy, lockedExit}
+use Rattle.line_block.specs.LineRelease.{passable, wasInStage2, endsBy, directionAfter, directionsAfter}
+use Rattle.line_block.specs.LineRelease as release
+use Rattle.layout.specs.declared.Layout.{Layout}
+use Rattle.layout.specs.Layout.{lineIn, routeIn}
+use Rattle.layout.specs.Sound.{sound}
+use Rattle.layout_facts.specs.Plain.{nearestBlock, Sound}
+use Rattle.layout_facts.proofs.Uses.{nearest-there}
+use Rattle.interlocking.specs.declared.State.{State}
+use Rattle.interlocking.specs.State.{inRange, withRoutes, withLines}
+use Rattle.interlocking.specs.Own.{ownSecure, ownManual}
+use Rattle.interlocking.specs.Settle.{signals, farSections, routesBy, routes, lineRelease, settle}
+use Rattle.interlocking.specs.Step.{refusal, after}
+use Rattle.step_facts.specs.Run.{Event}
+use Rattle.safety.specs.History.{Moment, History, gaveSection, gaveBlock, Since}
+use Rattle.safety.specs.Locked.{Locked}
+use Rattle.safety.specs.Cleared.{Opened}
+use Rattle.safety.specs.Secured.{Barred, lastBlock, LineEnds, StaysSecured, Secured}
+use Rattle.laws.proofs.Choice.{chosen, passed-over}
+use Rattle.step_facts.proofs.Entries.{phase, direction, stage, barAt, ends, read-each, put-here}
+use Rattle.step_facts.proofs.Passed.{secure-neutral}
+use Rattle.step_facts.proofs.Within.{On, done, moved, end, Done, reads, sets, cancels, secures, opens, leaves, is-done, direction-same, released}
+use Rattle.safety.proofs.Given.{granted}
+use Rattle.safety.proofs.Told.{reads-kept, entered-reads}
+use Rattle.safety.proofs.Invariant.{Inv}
+use Rattle.safety.proofs.Blocks.{on}
+use Rattle.safety.proofs.Held.{opens-told}
+
+-- the last block in travel is there
+last-there : (L : Layout) → Sound L → (l w : ℕ) → l < L .lines → lastBlock L l w < lineIn L l .blocks
+last-there L S l w b = nearest-there L S l _ b
+
+-- ---- the direction within one event
+
+module _ (L : Layout) (few : L .lines ≤ mostLines) (s : State) (e : Event) (l : ℕ) (b : l < L .lines) where
+  -- the line that is released by hand is neutral, as far as the event itself goes
+  by-hand : On 7 e l → direction (done L s e) l ≡ 0
+  unfolding ownManual withLines
+  by-hand u = go (is-done L s e)
+    where
+      go : {t : State} → Done L s e t → direction t l ≡ 0
+      go (reads k) = absurd (let v = u .0 in omega arith)
+      go (sets k) = absurd (let v = u .0 in omega arith)
+      go (cancels k) = absurd (let v = u .0 in omega arith)
+      go (secures k) = absurd (let v = u .0 in omega arith)
+      go (opens k) = put-here mostLines 0 (s .direction) _ 0 l (omega arith) (sym (u .1))
+      go (leaves f v) = absurd (f .4 (u .0))
+
+  -- the line that is secured has the direction that was ordered
+  by-order : On 6 e l → direction (done L s e) l ≡ e .second
+  unfolding ownSecure withLines
+  by-order u = go (is-done L s e)
+    where
+      go : {t : State} → Done L s e t → direction t l ≡ e .second
+      go (reads k) = absurd (let v = u .0 in omega arith)
+      go (sets k) = absurd (let v = u .0 in omega arith)
+      go (cancels k) = absurd (let v = u .0 in omega arith)
+      go (secures k) = put-here mostLines 0 (s .direction) _ _ l (omega arith) (sym (u .1))
+      go (opens k) = absurd (let v = u .0 in omega arith)
+      go (leaves f v) = absurd (f .3 (u .0))
+
+  -- and then the line release
+  direction-end : direction (end L s e) l ≡ directionAfter (ends L s (moved L s e)) l (direction (done L s e) l)
+  unfolding after settle lineRelease directionsAfter withLines routes routesBy withRoutes farSections signals directionAfter lineIn
+  direction-end = read-each mostLines 0 (L .lines) _ (done L s e .direction) l (omega arith) b
+
+  -- a line that is not neutral at the end is as the event itself left it
+  kept : direction (end L s e) l ≢ 0 → direction (end L s e) l ≡ direction (done L s e) l
+  kept d = go (released L few s e l b)
+    where
+      go : (direction (end L s e) l ≡ direction (done L s e) l)
+          ⊎ ((direction (end L s e) l ≡ 0) × (ends L s (moved L s e) l (direction (done L s e) l) ≡ true))
+          → direction (end L s e) l ≡ direction (done L s e) l
+      go (inl q) = q
+      go (inr t) = absurd (d (t .0))
+
+-- ---- an accepted event
+
+module _ (L : Layout) (S : Sound L) (s : State) (h : History) (I : Inv L s h) (e : Event)
+    (pass : refusal (sound L and inRange s) L s (e .kind) (e .first) (e .second) .number ≡ 0)
+    (locks : (r : ℕ) → r < L .routes → (phase (end L s e) r ≢ 0 ↔ Locked L r (granted L s e ∷ h))) (l : ℕ) (b : l < L .lines)
+    (bars : (i : ℕ) → i < lineIn L l .blocks → (barAt (end L s e) l i ≢ 0 ↔ Barred l i (granted L s e ∷ h))) where
+  few : L .lines ≤ mostLines
+  few = S .ranges .lineCount
+
+  -- the line release comes only where the history tells: the last block in travel was in stage 2, so it was entered and did not read free, and is open
+  ends-told : (w : ℕ) → direction s l ≡ w → ends L s (moved L s e) l w ≡ true → LineEnds L l w (granted L s e) h
+  unfolding endsBy wasInStage2 passable isOpen unbarred lockedExit lockedExitBy locked release.lastBlock nearestBlock lineIn routeIn after settle lineRelease withLines
+  ends-told w way t = record {
+    closes = record {
+      ends = (λ q. omega (arith, entered-reads L l last h (I .blocks l last b c .enters .0 (omega (arith, was)))), opened last c .isFree);
+      passage = rw way at (I .blocks l last b c .passes was .1);
+    };
+    allOpen = opened;
+    noExit = λ r k x q y. not-both (and-both _ _ (fails-not _ (ne-eqb (phase (end L s e) r) 0 (locks r k .1 y))) (and-both _ _ (eq-eqb _ 2 x) (eq-eqb _ l q)))
+        (any-none _ _ (not-true _ (every-at _ t 2)) r k);
+    noBar = λ j k x. bars j k .1 x (eqb-true _ 0 (and-right _ _ (all-at _ _ (every-at _ t 1) j k)));
+  }
+    where
+      last : ℕ
+      last = lastBlock L l w
+
+      c : last < lineIn L l .blocks
+      c = last-there L S l w b
+
+      was : stage s l last ≡ 3
+      was = eqb-true _ 3 (every-at _ t 0)
+
+      opened : (j : ℕ) → j < lineIn L l .blocks → Opened L l j (granted L s e ∷ h)
+      opened j k = opens-told L S s h I e pass l j b k .0 (eqb-true _ 0 (and-left _ _ (all-at _ _ (every-at _ t 1) j k)))
+
+  -- and where the history tells it, it comes
+  ends-from : (w : ℕ) → LineEnds L l w (granted L s e) h → ends L s (moved L s e) l w ≡ true
+  unfolding endsBy wasInStage2 passable isOpen unbarred lockedExit lockedExitBy locked release.lastBlock nearestBlock lineIn routeIn after settle lineRelease withLines
+  ends-from w E =
+      every-more _ _ _ (eq-eqb _ 3 (I .blocks l _ b (last-there L S l w b) .waits w (E .closes .passage) .0))
+      (every-more _ _ _ (all-from _ _ (λ j k. and-both _ _ (eq-eqb _ 0 (opens-told L S s h I e pass l j b k .1 (E .allOpen j k))) (eq-eqb _ 0 (clear j k (ℕ-discrete (barAt (end L s e) l j) 0)))))
+      (every-one _ (fails-not _ (any-fails _ _ (λ r k t.
+      let u = and-right _ _ t in
+      E .noExit r k (eqb-true _ 2 (and-left _ _ u)) (eqb-true _ l (and-right _ _ u)) (locks r k .0 (eqb-false _ 0 (not-true _ (and-left _ _ t)))))))))
+    where
+      clear : (j : ℕ) → j < lineIn L l .blocks → Dec (barAt (end L s e) l j ≡ 0) → barAt (end L s e) l j ≡ 0
+      clear j k (yes z) = z
+      clear j k (no d) = absurd (E .noBar j k (bars j k .0 d))
+
+  -- a line that was neutral has no block in stage 2, so no line release comes
+  not-ending : (w : ℕ) → direction s l ≡ 0 → ends L s (moved L s e) l w ≡ true → ⊥
+  unfolding endsBy wasInStage2 release.lastBlock nearestBlock lineIn
+  not-ending w z t = I .blocks l (lastBlock L l w) b (last-there L S l w b) .passes (eqb-true _ 3 (every-at _ t 0)) .0 z
+
+  -- a line that the event neither secures nor releases by hand
+  unmoved : ¬ On 6 e l → ¬ On 7 e l → direction (done L s e) l ≡ direction s l
+  unmoved = direction-same L few s e l b
+
+  -- a line with a direction was secured so: by this event, or before and it stayed
+  secured-then : (w : ℕ) → w ≢ 0 → direction (end L s e) l ≡ w → Secured L l w (granted L s e ∷ h)
+  unfolding Since directionAfter
+  secured-then w d q = go (on 6 e l)
+    where
+      own : direction (done L s e) l ≡ w
+      own = sym (kept L few s e l b (omega arith)) ∙ q
+
+      hand : ¬ On 7 e l
+      hand u = d (sym own ∙ by-hand L few s e l b u)
+
+      go : Dec (On 6 e l) → Secured L l w (granted L s e ∷ h)
+      go (yes u) = inl ((refl, u .0, u .1), sym (by-order L few s e l b u) ∙ own)
+      go (no n) =
+          let was : direction s l ≡ w = sym (unmoved n hand) ∙ own in
+          inr (
+            record {
+              noOrder = λ u. n (u .1, u .2);
+              noRelease = λ u. hand (u .1, u .2);
+              noEnd = λ E. d (sym q ∙ direction-end L few s e l b ∙ passed-over _ _ _ (ne-eqb (direction (done L s e) l) 0 (omega (arith, own))) ∙ chosen _ _ _ (rw own (ends-from w E)));
+            },
+            I .lines l b w d .0 was,
+          )
+
+  -- and one that was secured so has that direction
+  secures-then : (w : ℕ) → w ≢ 0 → Secured L l w (granted L s e ∷ h) → direction (end L s e) l ≡ w
+  unfolding Since
+  secures-then w d (inl u) = go (released L few s e l b)
+    where
+      ordered : On 6 e l
+      ordered = (u .0 .1, u .0 .2)
+
+      go : (direction (end L s e) l ≡ direction (done L s e) l)
+          ⊎ ((direction (end L s e) l ≡ 0) × (ends L s (moved L s e) l (direction (done L s e) l) ≡ true))
+          → direction (end L s e) l ≡ w
+      go (inl q) = q ∙ by-order L few s e l b ordered ∙ u .1
+      go (inr t) = absurd (not-ending _ (ap (direction s) (sym (ordered .1)) ∙ secure-neutral L s e pass (ordered .0)) (t .1))
+  secures-then w d (inr u) = go (released L few s e l b)
+    where
+      was : direction s l ≡ w
+      was = I .lines l b w d .1 (u .1)
+
+      own : direction (done L s e) l ≡ w
+      own = unmoved (λ v. u .0 .noOrder (refl, v .0, v .1)) (λ v. u .0 .noRelease (refl, v .0, v .1)) ∙ was
+
+      go : (direction (end L s e) l ≡ direction (done L s e) l)
+          ⊎ ((direction (end L s e) l ≡ 0) × (ends L s (moved L s e) l (direction (done L s e) l) ≡ true))
+          → direction (end L s e) l ≡ w
+      go (inl q) = q ∙ own
+      go (inr t) = absurd (u .0 .noEnd (ends-told w was (rw own at (t .1))))
+
+  -- so the direction is the one told
+  pub line-accepted : (w : ℕ) → w ≢ 0 → (direction (end L s e) l ≡ w ↔ Secured L l w (granted L s e ∷ h))
+  line-accepted w d = (secured-then w d, secures-then w d)
+
+-- ---- an event that gives nothing and is no accepted order
+
+pub line-refused : (L : Layout) → Sound L → (s : State) (h : History) (m : Moment) → Inv L s h → ((g : ℕ) → gaveSection L g m h ≡ 0) → m .number ≢ 0
+    → (l : ℕ) → l < L .lines → (w : ℕ) → w ≢ 0 → (direction s l ≡ w ↔ Secured L l w (m ∷ h))
+unfolding Since
+line-refused L S s h m I quiet d l b w z = (λ q. inr (stays, I .lines l b w z .0 q), back)
+  where
+    stays : StaysSecured L l w m h
+    stays = record {
+      noOrder = λ u. d (u .0);
+      noRelease = λ u. d (u .0);
+      noEnd = λ E. E .closes .ends .0 (sym (reads-kept (gaveBlock L l (lastBlock L l w)) m h (quiet _)) ∙ E .closes .ends .1);
+    }
+
+    back : Secured L l w (m ∷ h) → direction s l ≡ w
+    back (inl u) = absurd (d (u .0 .0))
+    back (inr u) = I .lines l b w z .1 (u .1)

@@ -1,0 +1,124 @@
+-- Which events are accepted (section 3), told from the history: of each kind all that there must be, in the order of the paper's refusals. The number of
+-- the refusal that each line lifts stands above it. On an accepted layout, in a run, nothing is refused by 18.
+--
+-- Read as `Demand3` says; h is what was before the event, a and b are its two numbers.
+use Prim.Native.Nat.{ℕ, _<_, _≤_}
+use mathlib.Core.Path.{_≡_}
+use mathlib.Core.Logic.{_≢_, _⊎_, _↔_}
+use mathlib.Core.Bool.{true}
+use mathlib.Core.List.{List}
+use Rattle.track.specs.Codes.{free, left, right, exitRoute, neutral, aToB, bToA, leaving, readSection, readPoint, throwPoint, setRoute, cancelRoute, secureLine, releaseLine, barBlock, unbarBlock, oneSecond}
+use Rattle.layout.specs.declared.Layout.{Layout}
+use Rattle.layout.specs.Layout.{lineIn, routeIn, conflict}
+use Rattle.layout.specs.Load.{load}
+use Rattle.step_facts.specs.Run.{Event}
+use Rattle.safety.specs.History.{Moment, History, blockReads, Throughout, history}
+use Rattle.safety.specs.Locked.{Cancelled, Locked}
+use Rattle.safety.specs.Cleared.{Opened}
+use Rattle.safety.specs.Secured.{Barred, Secured}
+use Rattle.safety.specs.Lights.{LinePlaced, Clear}
+use Rattle.safety.specs.Stories.{BladesFree}
+
+-- line l is neutral: it is secured in neither direction
+abbrev pub Neutral : Layout → ℕ → History → Type 0
+Neutral L l h = (w : ℕ) → w ≢ neutral → ¬ Secured L l w h
+
+-- ---- orders
+
+-- throw point a to position b
+pub record MayThrow (L : Layout) (a b : ℕ) (h : History) : Type 0 where
+  -- 2
+  pub there : a < L .points
+  -- 3
+  pub position : (b ≡ left) ⊎ (b ≡ right)
+  -- 15, 16, 7/8 for the point's own section
+  pub blades : BladesFree L a h
+
+-- set route a
+pub record MaySet (L : Layout) (a b : ℕ) (h : History) : Type 0 where
+  -- 2
+  pub there : a < L .routes
+  -- 3
+  pub unused : b ≡ 0
+  -- 4
+  pub idle : ¬ Locked L a h
+  -- 5
+  pub apart : (r : ℕ) → r < L .routes → conflict L a r ≡ true → ¬ Locked L r h
+  -- 6, 7/8 over path and overlap; an exit route 6 for the line's points, 11, 10 for the block it enters: all that keeps its signal at proceed
+  pub clear : Clear L a h
+  -- 9, of an exit route
+  pub secured : routeIn L a .kind ≡ exitRoute → Secured L (routeIn L a .line) (leaving (routeIn L a .end)) h
+
+-- cancel route a
+pub record MayCancel (L : Layout) (a b : ℕ) (h : History) : Type 0 where
+  -- 2
+  pub there : a < L .routes
+  -- 3
+  pub unused : b ≡ 0
+  -- 13
+  pub locked : Locked L a h
+  -- 14
+  pub standing : ¬ Cancelled a h
+
+-- secure line a in direction b
+pub record MaySecure (L : Layout) (a b : ℕ) (h : History) : Type 0 where
+  -- 2
+  pub there : a < L .lines
+  -- 3
+  pub direction : (b ≡ aToB) ⊎ (b ≡ bToA)
+  -- 12
+  pub isNeutral : Neutral L a h
+  -- 11
+  pub unbarred : (i : ℕ) → i < lineIn L a .blocks → ¬ Barred a i h
+  -- 6 for the line's points
+  pub placed : LinePlaced L a h
+  -- 10
+  pub allOpen : (i : ℕ) → i < lineIn L a .blocks → Opened L a i h
+
+-- release line a by hand, on ground b
+pub record MayRelease (L : Layout) (a b : ℕ) (h : History) : Type 0 where
+  -- 2
+  pub there : a < L .lines
+  -- 3
+  pub ground : (1 ≤ b) × (b ≤ 3)
+  -- 17
+  pub noExit : (r : ℕ) → r < L .routes → routeIn L r .kind ≡ exitRoute → routeIn L r .line ≡ a → ¬ Locked L r h
+  -- 7/8 over the line's blocks
+  pub isFree : (i : ℕ) → i < lineIn L a .blocks → blockReads L a i h ≡ free
+
+-- ---- events
+
+-- there is block b of line a
+pub record BlockThere (L : Layout) (a b : ℕ) : Type 0 where
+  -- 2
+  pub line : a < L .lines
+  -- 3
+  pub block : b < lineIn L a .blocks
+
+-- the event is of a kind that section 3's table has, and there is what it asks. Every other kind, 1, is never granted
+pub data Grants (L : Layout) (e : Event) (h : History) : Type 0 where
+  -- readings, with any code: 2
+  section : e .kind ≡ readSection → e .first < L .sections → Grants L e h
+  point : e .kind ≡ readPoint → e .first < L .points → Grants L e h
+  -- orders
+  throw : e .kind ≡ throwPoint → MayThrow L (e .first) (e .second) h → Grants L e h
+  set : e .kind ≡ setRoute → MaySet L (e .first) (e .second) h → Grants L e h
+  cancel : e .kind ≡ cancelRoute → MayCancel L (e .first) (e .second) h → Grants L e h
+  secure : e .kind ≡ secureLine → MaySecure L (e .first) (e .second) h → Grants L e h
+  release : e .kind ≡ releaseLine → MayRelease L (e .first) (e .second) h → Grants L e h
+  -- "bar and unbar are accepted also when nothing changes"
+  bar : e .kind ≡ barBlock → BlockThere L (e .first) (e .second) → Grants L e h
+  unbar : e .kind ≡ unbarBlock → BlockThere L (e .first) (e .second) → Grants L e h
+  -- a second: 3, for both numbers
+  second : e .kind ≡ oneSecond → (e .first ≡ 0) × (e .second ≡ 0) → Grants L e h
+
+-- ---- what is proved
+
+-- an event is accepted just where there is what it asks
+abbrev pub AcceptedJust : Layout → Moment → History → Type 0
+AcceptedJust L m h = m .number ≡ 0 ↔ Grants L (m .event) h
+
+-- on every layout file that loads with 0, each event of every list of events from the cold start
+abbrev pub AcceptsExactly : Type 0
+AcceptsExactly =
+    (bytes : List ℕ) → load bytes .number ≡ 0 → (es : List Event) → Throughout (AcceptedJust (load bytes .layout)) (history (load bytes .layout) es)

@@ -1,0 +1,24 @@
+-- Boxes that accept what is not granted, or refuse what is: a run of each that does so in its last event. No clause of demand 3 speaks of them.
+use mathlib.Core.List.{[], _∷_, _++_}
+use Rattle.layout.specs.declared.Layout.{Layout}
+use Rattle.layout.specs.Load.{load}
+use Rattle.step_facts.specs.Run.{event}
+use Rattle.safety.specs.History.{History}
+use Rattle.safety.specs.Grants.{AcceptedJust}
+use Rattle.safety.specs.OtherLayouts.{withOverlap}
+use Rattle.safety.specs.WrongOrders.{asksNoOverlap}
+use Rattle.safety.specs.WrongBoxes10.{refusesOrders}
+use Rattle.safety.specs.WrongRuns.{readings, Run, onT, coldRun}
+
+-- the last event was accepted, or refused, and should not have been
+abbrev pub MisjudgedLast : Layout → History → Type 0
+MisjudgedLast L [] = ⊥
+MisjudgedLast L (m ∷ h) = ¬ AcceptedJust L m h
+
+-- set route: 7 and 8 are not asked of the overlap. It is occupied
+abbrev pub overTheOverlap : Run
+overTheOverlap = coldRun asksNoOverlap (load withOverlap .layout) (readings ++ (event 1 4 2 ∷ event 4 1 0 ∷ []))
+
+-- section 10: every order is refused. A block is barred
+abbrev pub noBar : Run
+noBar = onT refusesOrders (event 8 0 0 ∷ [])

@@ -1,0 +1,10 @@
+pub mod Calm
+pub mod WayOut
+pub mod NoDeadEnd
+pub mod OrdersGranted
+pub mod Resting
+pub mod SetProceeds
+pub mod Turns
+pub mod WayToProceed
+pub mod EveryRouteProceeds
+pub mod NeedsAgreement

@@ -1,0 +1,151 @@
+-- What is granted of the orders that lead a route to proceed: throw, secure and set, from what the reasons to refuse them ask.
+use Prim.Native.Nat.{ℕ, _+_, _<_}
+use mathlib.Core.Path.{_≡_, refl, sym, ap, _∙_}
+use mathlib.Core.Logic.{_⊎_, ⊎-elim}
+use mathlib.Core.Bool.{Bool, true, false, not}
+use mathlib.Core.List.{List}
+use native.Mathlib.Omega.{arith}
+use borrow.Author.Tests.{eqb-true, eq-eqb, lt-leb, not-true}
+use lib.ListN.{getD}
+use Rattle.laws.specs.Choice.{if_then_else_}
+use Rattle.laws.specs.Tests.{_and_}
+use Rattle.laws.proofs.Arrays.{read-at}
+use Rattle.laws.proofs.Choice.{if-both}
+use Rattle.laws.proofs.Tests.{and-left, and-right, or-cases, not-both, fails-from, any-some, any-fails}
+use Rattle.sets.specs.Sets.{mergedSet, setOf, holds}
+use Rattle.sets.proofs.Sets.{holds-none, holds-union, holds-joined, holds-setOf}
+use Rattle.track.specs.declared.Line.{Line}
+use Rattle.track.specs.Lists.{between}
+use Rattle.track.specs.Sizes.{mostSections, mostPoints}
+use Rattle.tables.specs.Readings.{reading, pointReading}
+use Rattle.tables.specs.Blocks.{isOpen, unbarred}
+use Rattle.tables.specs.Locks.{locked}
+use Rattle.layout.specs.declared.Layout.{Layout}
+use Rattle.layout.specs.Layout.{lineIn, routeIn}
+use Rattle.layout.specs.Sound.{sound}
+use Rattle.layout_facts.specs.Plain.{ownSection, nearestBlock, linePoint, linePosition, path, overlap, routePoint, routePosition, Sound}
+use Rattle.reasons.specs.declared.Refusal.{Refusal}
+use Rattle.reasons.specs.Refusal.{refused, noRefusal, found}
+use Rattle.reasons.specs.Searches.{misplaced, routeLocks, lineLocks, failing}
+use Rattle.reasons.specs.Reasons.{notPlaced, conflicting, byRoute, byLine, blockBarred, blockHeld}
+use Rattle.refusals.specs.Orders.{throwRefusal, exitRefusal, routeRefusal, setRefusal, secureRefusal}
+use Rattle.interlocking.specs.declared.State.{State}
+use Rattle.interlocking.specs.State.{inRange, tablesOf}
+use Rattle.interlocking.specs.Rows.{throwRow, setRow, secureRow, rowOf}
+use Rattle.interlocking.specs.Step.{refusal}
+use Rattle.way_out.specs.WayOut.{AtRest}
+use Rattle.step_facts.proofs.Entries.{phase, direction}
+use Rattle.step_facts.proofs.Granted.{first-none, last-none, when-none, found-none, all-free, granted}
+
+-- ---- what is asked of sections, points and blocks
+
+-- the sections g 0, .., g (n - 1) read free
+abbrev pub AllFree : ℕ → (ℕ → ℕ) → State → Type 0
+AllFree n g s = (j : ℕ) → j < n → reading (s .section) (g j) ≡ 1
+
+-- the points p 0, .., p (n - 1) read their positions
+abbrev pub AllPlaced : ℕ → (ℕ → ℕ) → (ℕ → ℕ) → State → Type 0
+AllPlaced n p w s = (j : ℕ) → j < n → pointReading (s .point) (p j) ≡ w j
+
+-- so do the points of line l, and those of route r
+abbrev pub LinePlaced : Layout → ℕ → State → Type 0
+LinePlaced L l s = AllPlaced (lineIn L l .points) (linePoint L l) (linePosition L l) s
+
+abbrev pub RoutePlaced : Layout → ℕ → State → Type 0
+RoutePlaced L r s = AllPlaced (routeIn L r .points) (routePoint L r) (routePosition L r) s
+
+-- the first n blocks of line l are not barred
+abbrev pub AllUnbarred : ℕ → ℕ → State → Type 0
+AllUnbarred l n s = (i : ℕ) → i < n → unbarred (s .bar) l i ≡ true
+
+-- 6 is not given where each point listed reads its position
+placed-none : (points : List ℕ) (n : ℕ) (ps ws : List ℕ) → ((j : ℕ) → j < n → pointReading points (getD ps j 0) ≡ getD ws j 0)
+    → notPlaced points n ps ws .number ≡ 0
+unfolding notPlaced misplaced
+placed-none points n ps ws h =
+    found-none 6 _ _ (λ p c. any-fails _ _ (λ j b t.
+    not-both (eq-eqb _ _ (ap (pointReading points) (sym (eqb-true _ p (and-left _ _ t))) ∙ h j b)) (not-true _ (and-right _ _ t))))
+
+-- 10 and 11 are not given where each block of the line passes their test
+passing-none : (number : ℕ) (test : ℕ → Bool) (b : Line) → ((i : ℕ) → i < b .blocks → test i ≡ true) → found number mostSections (failing test b) .number ≡ 0
+unfolding failing
+passing-none number test b h = found-none number _ _ (λ g c. any-fails _ _ (λ i k t. not-both (h i k) (not-true _ (and-right _ _ t))))
+
+-- ---- throw and secure
+
+module _ (L : Layout) (s : State) (ok : sound L ≡ true) (ranged : inRange s ≡ true) where
+  -- one of two positions, or of two directions, is no wrong second number
+  one-of-two : (w : ℕ) → (w ≡ 1) ⊎ (w ≡ 2) → not (between 1 2 w) ≡ false
+  unfolding between _and_
+  one-of-two w = ⊎-elim (λ q. rw q) (λ q. rw q)
+
+  -- throw a point, where no route is locked, no line secured and the point's own section reads free
+  pub throw-granted : Sound L → (p w : ℕ) → p < L .points → (w ≡ 1) ⊎ (w ≡ 2) → AtRest L s → reading (s .section) (ownSection L p) ≡ 1
+      → refusal (sound L and inRange s) L s 3 p w .number ≡ 0
+  unfolding rowOf throwRow if_then_else_ throwRefusal byRoute byLine routeLocks lineLocks locked ownSection
+  throw-granted S p w b position rest free =
+      granted L s ok ranged 3 p w (lt-leb _ p b) (one-of-two w position)
+      (first-none _ _ _ (found-none 15 _ _ (λ r c. fails-from _ (λ t. not-both (eq-eqb _ 0 (rest .routes r c)) (not-true _ (and-left _ _ t)))))
+      (first-none _ _ _ (found-none 16 _ _ (λ l c. fails-from _ (λ t. not-both (eq-eqb _ 0 (rest .lines l c)) (not-true _ (and-left _ _ t)))))
+      (last-none _ (all-free (s .section) _ (λ g c t.
+      ⊎-elim (λ z. not-both z (holds-none g)) (λ q. ap (reading (s .section)) (sym (eqb-true _ g q) ∙ read-at mostPoints 0 _ p (omega (arith, S .ranges .pointCount))) ∙ free)
+      (or-cases _ _ (sym (holds-joined 0 _ g c) ∙ t)))))))
+
+  -- secure a neutral line whose blocks are open and not barred and whose points read their positions
+  pub secure-granted : (l w : ℕ) → l < L .lines → (w ≡ 1) ⊎ (w ≡ 2) → AtRest L s → AllUnbarred l (lineIn L l .blocks) s → LinePlaced L l s
+      → refusal (sound L and inRange s) L s 6 l w .number ≡ 0
+  unfolding rowOf secureRow if_then_else_ secureRefusal blockBarred blockHeld linePoint linePosition lineIn
+  secure-granted l w b way rest bars placed =
+      granted L s ok ranged 6 l w (lt-leb _ l b) (one-of-two w way)
+      (first-none _ _ _ (when-none _ 12 _ (ap not (eq-eqb _ 0 (rest .lines l b))))
+      (first-none _ _ _ (passing-none 11 _ _ bars)
+      (first-none _ _ _ (placed-none _ _ _ _ placed) (last-none _ (passing-none 10 _ _ (λ i h. rest .blocks l i b h))))))
+
+-- ---- set a route
+
+-- what an exit route asks of its line: it is secured the route's way, the block that the route enters is open and not barred, its points read their
+-- positions
+pub record LineReady (L : Layout) (r : ℕ) (s : State) : Type 0 where
+  pub secured : direction s (routeIn L r .line) ≡ routeIn L r .end + 1
+  pub opened : isOpen (s .stage) (routeIn L r .line) (nearestBlock L (routeIn L r .line) (routeIn L r .end)) ≡ true
+  pub noBar : unbarred (s .bar) (routeIn L r .line) (nearestBlock L (routeIn L r .line) (routeIn L r .end)) ≡ true
+  pub placed : LinePlaced L (routeIn L r .line) s
+
+-- what a route is set by: no route is locked, path and overlap read free, its points read their positions; an exit route has what it asks of its line
+pub record Prepared (L : Layout) (r : ℕ) (s : State) : Type 0 where
+  pub idle : (q : ℕ) → q < L .routes → phase s q ≡ 0
+  pub path : AllFree (routeIn L r .paths) (path L r) s
+  pub overlap : AllFree (routeIn L r .overlaps) (overlap L r) s
+  pub placed : RoutePlaced L r s
+  pub line : routeIn L r .kind ≡ 2 → LineReady L r s
+
+module _ (L : Layout) (s : State) (ok : sound L ≡ true) (ranged : inRange s ≡ true) (r : ℕ) (b : r < L .routes) (P : Prepared L r s) where
+  -- 9, 6, 11, 10 are not given of an exit route
+  exit-none : LineReady L r s → exitRefusal (L .line) (tablesOf s) (routeIn L r) .number ≡ 0
+  unfolding exitRefusal linePoint linePosition nearestBlock lineIn
+  exit-none line =
+      first-none _ _ _ (when-none _ 9 _ (ap not (eq-eqb _ _ (line .secured))))
+      (first-none _ _ _ (placed-none _ _ _ _ (line .placed))
+      (first-none _ _ _ (when-none _ 11 _ (ap not (line .noBar))) (last-none _ (when-none _ 10 _ (ap not (line .opened))))))
+
+  -- a section of path or overlap reads free
+  listed-free : (g : ℕ) → g < mostSections
+      → holds (mergedSet (setOf (routeIn L r .paths) (routeIn L r .path)) (setOf (routeIn L r .overlaps) (routeIn L r .overlap))) g ≡ true
+      → reading (s .section) g ≡ 1
+  unfolding path overlap
+  listed-free g c t = ⊎-elim (among _ _ (P .path)) (among _ _ (P .overlap)) (or-cases _ _ (sym (holds-union _ _ g) ∙ t))
+    where
+      among : (n : ℕ) (xs : List ℕ) → ((j : ℕ) → j < n → reading (s .section) (getD xs j 0) ≡ 1) → holds (setOf n xs) g ≡ true → reading (s .section) g ≡ 1
+      among n xs h u =
+          let (j, k, q) = any-some _ _ (sym (holds-setOf n xs g c) ∙ u) in
+          ap (reading (s .section)) (sym (eqb-true _ g q)) ∙ h j k
+
+  -- it is set
+  pub set-granted : refusal (sound L and inRange s) L s 4 r 0 .number ≡ 0
+  unfolding rowOf setRow if_then_else_ setRefusal conflicting locked routeRefusal noRefusal refused routePoint routePosition routeIn
+  set-granted =
+      granted L s ok ranged 4 r 0 (lt-leb _ r b) refl
+      (first-none _ _ _ (when-none _ 4 r (ap not (eq-eqb _ 0 (P .idle r b))))
+      (first-none _ _ _ (found-none 5 _ _ (λ q c. fails-from _ (λ t. not-both (eq-eqb _ 0 (P .idle q c)) (not-true _ (and-left _ _ t)))))
+      (last-none _ (first-none _ _ _ (placed-none _ _ _ _ (P .placed)) (first-none _ _ _ (all-free (s .section) _ listed-free)
+      (last-none _ (if-both (λ (x : Refusal). x .number ≡ 0) _ (λ t. exit-none (P .line (eqb-true _ 2 t))) (λ f. refl))))))))

@@ -1,0 +1,134 @@
+-- From rest, the events that lead a route to proceed are granted one by one, and it is there when they are over.
+use Prim.Native.Nat.{ℕ, _+_, _<_, _≤_}
+use mathlib.Core.Path.{_≡_, ap}
+use mathlib.Core.Logic.{inr}
+use mathlib.Core.Bool.{true}
+use mathlib.Core.List.{[], _∷_, _++_}
+use native.Mathlib.Omega.{arith}
+use borrow.Author.Tests.{eqb-true, eqb-false}
+use Rattle.laws.proofs.Choice.{if-both}
+use Rattle.signals.specs.MainSignals.{proceedShown, mainShows}
+use Rattle.layout.specs.declared.Layout.{Layout}
+use Rattle.layout.specs.Layout.{lineIn, routeIn}
+use Rattle.layout.specs.Sound.{sound}
+use Rattle.layout_facts.specs.Plain.{path, overlap, routePosition, LineRanges, RouteRanges, Sound}
+use Rattle.layout_facts.proofs.Order.{one-of}
+use Rattle.layout_facts.proofs.Uses.{entered-block}
+use Rattle.interlocking.specs.declared.State.{State}
+use Rattle.interlocking.specs.State.{inRange}
+use Rattle.step_facts.specs.Run.{Event, event}
+use Rattle.way_out.specs.WayOut.{AtRest}
+use Rattle.way_out.specs.WayToProceed.{clearing, securing, lineFor, PointsAgree}
+use Rattle.step_facts.proofs.Entries.{phase}
+use Rattle.step_facts.proofs.Within.{end}
+use Rattle.way_out.proofs.Calm.{idle-on}
+use Rattle.way_out.proofs.WayOut.{Goes, stop, goes, after-that}
+use Rattle.way_out.proofs.OrdersGranted.{AllFree, LinePlaced, RoutePlaced, AllUnbarred, secure-granted, Prepared, set-granted}
+use Rattle.way_out.proofs.Resting.{open-stays, secure-else, Lasting, both-last, rest-lasts, free-lasts, bars-last, points-last, secured-on}
+use Rattle.way_out.proofs.SetProceeds.{set-on, set-shows}
+use Rattle.way_out.proofs.Turns.{unbar-turn, free-turn, place-turn}
+
+-- at rest, path and overlap of route r read free
+abbrev Vacant : Layout → ℕ → State → Type 0
+Vacant L r s = (AtRest L s × AllFree (routeIn L r .paths) (path L r) s) × AllFree (routeIn L r .overlaps) (overlap L r) s
+
+-- and its points read their positions
+abbrev Ready : Layout → ℕ → State → Type 0
+Ready L r s = Vacant L r s × RoutePlaced L r s
+
+-- route r is locked with its signal at proceed, which shows what the route says
+abbrev pub AtProceed : Layout → ℕ → State → Type 0
+AtProceed L r s = (phase s r ≡ 1) × (mainShows (L .routes) (L .route) (s .phase) (routeIn L r .entry) ≡ proceedShown (routeIn L r))
+
+module _ (L : Layout) (ok : sound L ≡ true) (S : Sound L) (r : ℕ) (b : r < L .routes) where
+  -- ---- what every route asks
+
+  -- its sections and points are there
+  own : RouteRanges L r
+  own = S .ranges .routes r b
+
+  -- what reads free lasts, with rest
+  vacant-lasts : Lasting L r (Vacant L r)
+  vacant-lasts = both-last (both-last (rest-lasts L S r) (free-lasts L S r _ _ (own .paths))) (free-lasts L S r _ _ (own .overlaps))
+
+  -- from rest the sections read free and the points come in position: no two of them are one
+  clear-all : (s : State) → inRange s ≡ true → AtRest L s → Goes L s (clearing L r) (Ready L r)
+  unfolding clearing
+  clear-all s ranged rest =
+      after-that (free-turn L ok S r (AtRest L) (rest-lasts L S r) _ _ (own .paths) s ranged rest)
+      (λ t in-range q. after-that (free-turn L ok S r _ (both-last (rest-lasts L S r) (free-lasts L S r _ _ (own .paths))) _ _ (own .overlaps) t in-range q)
+      (λ t in-range q. place-turn L ok S r (Vacant L r) vacant-lasts _ _ _ (own .points) (own .positions) (λ i j. S .rule3 .routePoints r i j b)
+      (λ j c i d z. ap (routePosition L r) (S .rule3 .routePoints r i j b d c z)) (λ t q. q .0 .0) t in-range q))
+
+  -- ---- what an exit route asks besides
+
+  module _ (exit : routeIn L r .kind ≡ 2) where
+    -- its line
+    abbrev l : ℕ
+    l = routeIn L r .line
+
+    -- is there, and its end is one of two
+    line-there : (l < L .lines) × (routeIn L r .end ≤ 1)
+    line-there = own .line (inr exit)
+
+    -- the line secured, the route has all that it is set by
+    secured-prepared : (s : State) → Ready L r s → AllUnbarred l (lineIn L l .blocks) s → LinePlaced L l s → Prepared L r (end L s (event 6 l (routeIn L r .end + 1)))
+    secured-prepared s q bars placed =
+        let e : Event = event 6 l (routeIn L r .end + 1) in
+        let rest : AtRest L s = q .0 .0 .0 in
+        let here = entered-block L S r b exit in
+        let same = secure-else L s l (routeIn L r .end + 1) in
+        record {
+          idle = λ a c. idle-on L S s e a c (omega arith) (omega arith) (rest .routes a c);
+          path = rw (same .0) (q .0 .0 .1);
+          overlap = rw (same .0) (q .0 .1);
+          placed = rw (same .1) (q .1);
+          line = λ k. record {
+            secured = secured-on L S s l (line-there .0) rest (routeIn L r .end + 1);
+            opened = open-stays L S s e (omega arith) (omega arith) l _ (line-there .0) here (rest .blocks l _ (line-there .0) here);
+            noBar = rw (same .2) (bars _ here);
+            placed = rw (same .1) placed;
+          };
+        }
+
+    -- line and route do not ask one point in two positions: the bars are cleared, the line's points come in position, those of the route stay, and the
+    -- line is secured
+    secure-all : PointsAgree L r → (s : State) → inRange s ≡ true → Ready L r s → Goes L s (securing L l (routeIn L r .end + 1)) (Prepared L r)
+    unfolding securing
+    secure-all agree s ranged q =
+        after-that (unbar-turn L ok S r (Ready L r) ready-lasts l (line-there .0) s ranged q)
+        (λ t in-range q. after-that (place-turn L ok S r _ (both-last ready-lasts (bars-last L S r l (line-there .0))) _ _ _ (lines .points) (lines .positions)
+        (λ i j. S .rule3 .linePoints l i j (line-there .0)) (λ k d j c z. agree j k c d z) (λ t q. q .0 .0 .0 .0) t in-range q)
+        (λ t in-range q. goes L ok S _ t (event 6 l (routeIn L r .end + 1)) []
+        (secure-granted L t ok in-range l _ (line-there .0) (one-of _ 1 2 (omega (arith, line-there .1))) (q .0 .0 .0 .0 .0) (q .0 .1) (q .1)) in-range
+        (λ u at still. stop L _ u still (rw at (secured-prepared t (q .0 .0) (q .0 .1) (q .1))))))
+      where
+        lines : LineRanges L l
+        lines = S .ranges .lines l (line-there .0)
+
+        ready-lasts : Lasting L r (Ready L r)
+        ready-lasts = both-last vacant-lasts (points-last L S r b)
+
+  -- ---- all of it
+
+  -- the line, where the route is an exit route; any other has what it is set by
+  line-all : (routeIn L r .kind ≡ 2 → PointsAgree L r) → (s : State) → inRange s ≡ true → Ready L r s → Goes L s (lineFor L r) (Prepared L r)
+  unfolding lineFor
+  line-all agree s ranged q =
+      if-both (λ es. Goes L s es (Prepared L r)) _ (λ t. let exit = eqb-true _ 2 t in secure-all exit (agree exit) s ranged q)
+      (λ f. stop L _ s ranged record {
+        idle = q .0 .0 .0 .routes;
+        path = q .0 .0 .1;
+        overlap = q .0 .1;
+        placed = q .1;
+        line = λ exit. absurd (eqb-false _ 2 f exit);
+      })
+
+  -- from rest the signal comes to proceed
+  pub comes-to-proceed : (routeIn L r .kind ≡ 2 → PointsAgree L r) → (s : State) → inRange s ≡ true → AtRest L s
+      → Goes L s (clearing L r ++ (lineFor L r ++ (event 4 r 0 ∷ []))) (AtProceed L r)
+  comes-to-proceed agree s ranged rest =
+      after-that (clear-all s ranged rest)
+      (λ t in-range q. after-that (line-all agree t in-range q)
+      (λ t in-range P. goes L ok S _ t (event 4 r 0) [] (set-granted L t ok in-range r b P) in-range
+      (λ u at still. stop L _ u still (rw at (set-on L S r b t P, set-shows L S r b t P)))))

@@ -1,0 +1,2 @@
+pub mod WayOut
+pub mod WayToProceed

@@ -1,0 +1,76 @@
+-- No dead end: a way out of every state that a run can reach. Beside the demands of document 01.
+use Prim.Native.Nat.{ℕ, zero, suc, _+_, _*_, _<_, _≤_}
+use mathlib.Core.Path.{_≡_}
+use mathlib.Core.Bool.{Bool, true, not}
+use mathlib.Core.List.{List, [], _∷_, _++_}
+use lib.Dec.{eqb}
+use lib.ListN.{length, replicate}
+use Rattle.laws.specs.Choice.{if_then_else_}
+use Rattle.laws.specs.Tests.{_and_}
+use Rattle.track.specs.Codes.{free, neutral, idle, cancelling, readSection, cancelRoute, releaseLine, oneSecond}
+use Rattle.track.specs.Blocks.{onlySection}
+use Rattle.tables.specs.Blocks.{isOpen}
+use Rattle.tables.specs.Locks.{direction, phase, locked}
+use Rattle.layout.specs.declared.Layout.{Layout}
+use Rattle.layout.specs.Layout.{lineIn}
+use Rattle.layout.specs.Load.{load}
+use Rattle.interlocking.specs.declared.State.{State}
+use Rattle.interlocking.specs.Step.{step}
+use Rattle.step_facts.specs.Run.{Event, event, box, stateAfter, fromCold}
+
+-- ---- the way out
+
+-- route r is locked and not cancelling
+unfoldable pub standing : State → ℕ → Bool
+standing s r = locked (s .phase) r and not (eqb (phase (s .phase) r) cancelling)
+
+-- cancel each of the first n routes that is locked and not cancelling when its turn comes
+unfoldable pub cancels : Layout → ℕ → State → List Event
+cancels L zero s = []
+cancels L (suc r) s = if standing s r then event cancelRoute r 0 ∷ cancels L r (step L s cancelRoute r 0 .next) else cancels L r s
+
+-- ninety seconds
+unfoldable pub ninetySeconds : List Event
+ninetySeconds = replicate 90 (event oneSecond 0 0)
+
+-- the first i blocks of line l read free: a reading of the one section of each
+unfoldable pub readFree : Layout → ℕ → ℕ → List Event
+readFree L l zero = []
+readFree L l (suc i) = event readSection (onlySection (lineIn L l) i) free ∷ readFree L l i
+
+-- all blocks of the first n lines do
+unfoldable pub allReadFree : Layout → ℕ → List Event
+allReadFree L zero = []
+allReadFree L (suc l) = readFree L l (lineIn L l .blocks) ++ allReadFree L l
+
+-- release each of the first n lines by hand; the ground given is 1, and the box takes any (section 3)
+unfoldable pub releases : ℕ → List Event
+releases zero = []
+releases (suc l) = event releaseLine l 1 ∷ releases l
+
+-- one after the other
+unfoldable pub wayOut : Layout → State → List Event
+wayOut L s = cancels L (L .routes) s ++ (ninetySeconds ++ (allReadFree L (L .lines) ++ releases (L .lines)))
+
+-- ---- what is said of it
+
+-- each event of a list is granted, answered by 0, when its turn comes
+unfoldable pub Granted : Layout → State → List Event → Type 0
+Granted L s [] = Unit {0}
+Granted L s (e ∷ es) = (step L s (e .kind) (e .first) (e .second) .number ≡ 0) × Granted L (step L s (e .kind) (e .first) (e .second) .next) es
+
+-- every route is idle, every line neutral, every block open
+pub record AtRest (L : Layout) (s : State) : Type 0 where
+  pub routes : (r : ℕ) → r < L .routes → phase (s .phase) r ≡ idle
+  pub lines : (l : ℕ) → l < L .lines → direction (s .direction) l ≡ neutral
+  pub blocks : (l i : ℕ) → l < L .lines → i < lineIn L l .blocks → isOpen (s .stage) l i ≡ true
+
+-- the way out is granted, no longer than the layout allows, and ends at rest
+pub record WayOut (L : Layout) (s : State) : Type 0 where
+  pub granted : Granted L s (wayOut L s)
+  pub short : length (wayOut L s) ≤ L .routes + 90 + 9 * L .lines
+  pub rest : AtRest L (stateAfter (box L) s (wayOut L s))
+
+-- from every state that a run can reach on an accepted layout
+abbrev pub NoDeadEnd : Type 0
+NoDeadEnd = (bytes : List ℕ) → load bytes .number ≡ 0 → (es : List Event) → WayOut (load bytes .layout) (fromCold (load bytes .layout) es)

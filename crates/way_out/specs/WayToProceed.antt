@@ -1,0 +1,97 @@
+-- Every route can be set with its signal at proceed: a way to it from every state that a run can reach. Beside the demands of document 01.
+use Prim.Native.Nat.{ℕ, _+_, _*_, _<_, _≤_}
+use mathlib.Core.Path.{_≡_}
+use mathlib.Core.List.{List, [], _∷_, _++_}
+use lib.Dec.{eqb}
+use lib.ListN.{length}
+use Rattle.laws.specs.Choice.{if_then_else_}
+use Rattle.laws.specs.Tables.{table}
+use Rattle.track.specs.Codes.{free, exitRoute, leaving, readSection, readPoint, throwPoint, setRoute, secureLine, unbarBlock}
+use Rattle.track.specs.Signal.{main}
+use Rattle.signals.specs.MainSignals.{proceedShown}
+use Rattle.layout.specs.declared.Layout.{Layout}
+use Rattle.layout.specs.Layout.{lineIn, routeIn}
+use Rattle.layout.specs.Load.{load}
+use Rattle.layout_facts.specs.Plain.{ownSection, linePoint, linePosition, path, overlap, routePoint, routePosition}
+use Rattle.interlocking.specs.declared.State.{State}
+use Rattle.interlocking.specs.Step.{step}
+use Rattle.step_facts.specs.Run.{Event, event, box, stateAfter, fromCold}
+use Rattle.panel.specs.Panel.{image}
+use Rattle.panel.specs.Shown.{showsLocked, Panel, panel}
+use Rattle.way_out.specs.WayOut.{wayOut, Granted}
+
+-- ---- the events of the way, by their kind
+
+-- unbar the n blocks of line l
+unfoldable pub unbars : ℕ → ℕ → List Event
+unbars l n = table n (λ i. event unbarBlock l i)
+
+-- the sections g 0, .., g (n - 1) read free
+unfoldable pub readsFree : ℕ → (ℕ → ℕ) → List Event
+readsFree n g = table n (λ j. event readSection (g j) free)
+
+-- throw the points p 0, .., p (n - 1), each to its position
+unfoldable pub throws : ℕ → (ℕ → ℕ) → (ℕ → ℕ) → List Event
+throws n p w = table n (λ j. event throwPoint (p j) (w j))
+
+-- they read those positions
+unfoldable pub readsPlaced : ℕ → (ℕ → ℕ) → (ℕ → ℕ) → List Event
+readsPlaced n p w = table n (λ j. event readPoint (p j) (w j))
+
+-- ---- the way
+
+-- n points in position: the section in which each stands reads free, each is thrown, each reads its position
+unfoldable pub placing : Layout → ℕ → (ℕ → ℕ) → (ℕ → ℕ) → List Event
+placing L n p w = readsFree n (λ j. ownSection L (p j)) ++ (throws n p w ++ readsPlaced n p w)
+
+-- what every route asks (section 3, set route: 6, 7/8): path and overlap read free, its points in position
+unfoldable pub clearing : Layout → ℕ → List Event
+clearing L r =
+    readsFree (routeIn L r .paths) (path L r)
+    ++ (readsFree (routeIn L r .overlaps) (overlap L r)
+    ++ placing L (routeIn L r .points) (routePoint L r) (routePosition L r))
+
+-- line l is secured in direction w (section 3, secure: 11, 6): no bar on it, its points in position
+unfoldable pub securing : Layout → ℕ → ℕ → List Event
+securing L l w =
+    unbars l (lineIn L l .blocks)
+    ++ (placing L (lineIn L l .points) (linePoint L l) (linePosition L l)
+    ++ (event secureLine l w ∷ []))
+
+-- what an exit route asks besides (section 3, set route: 9, 6, 11, 10): its line secured its way; the other kinds ask nothing of a line
+unfoldable pub lineFor : Layout → ℕ → List Event
+lineFor L r = if eqb (routeIn L r .kind) exitRoute then securing L (routeIn L r .line) (leaving (routeIn L r .end)) else []
+
+-- the way out of the state, then what the route asks, then it is set
+unfoldable pub wayToProceed : Layout → State → ℕ → List Event
+wayToProceed L s r = wayOut L s ++ (clearing L r ++ (lineFor L r ++ (event setRoute r 0 ∷ [])))
+
+-- ---- what is said of it
+
+-- the points of route r and those of its line do not ask one point in two positions
+abbrev pub PointsAgree : Layout → ℕ → Type 0
+PointsAgree L r =
+    (j k : ℕ) → j < routeIn L r .points → k < lineIn L (routeIn L r .line) .points → routePoint L r j ≡ linePoint L (routeIn L r .line) k
+    → routePosition L r j ≡ linePosition L (routeIn L r .line) k
+
+-- what the panel shows after a list of events
+abbrev pub shownAfter : Layout → State → List Event → Panel
+shownAfter L s es = panel L (image L (stateAfter (box L) s es))
+
+-- the way is granted, no longer than the layout allows, and ends with the route shown locked and its signal at proceed: 21 (diverging) or 22
+pub record WayToProceed (L : Layout) (s : State) (r : ℕ) : Type 0 where
+  pub granted : Granted L s (wayToProceed L s r)
+  pub short : length (wayToProceed L s r) ≤ L .routes + 9 * L .lines + 160
+  pub locks : shownAfter L s (wayToProceed L s r) .route r ≡ showsLocked
+  pub shows : shownAfter L s (wayToProceed L s r) .signal (main (routeIn L r .entry)) ≡ proceedShown (routeIn L r)
+
+-- from every state that a run can reach on an accepted layout, for every route; of an exit route the points and those of its line agree
+abbrev pub EveryRouteProceeds : Type 0
+EveryRouteProceeds =
+    (bytes : List ℕ) → load bytes .number ≡ 0 → (es : List Event) (r : ℕ) → r < load bytes .layout .routes
+    → (routeIn (load bytes .layout) r .kind ≡ exitRoute → PointsAgree (load bytes .layout) r)
+    → WayToProceed (load bytes .layout) (fromCold (load bytes .layout) es) r
+
+-- and the points must agree: where they do not, no state of any layout grants the exit route
+abbrev pub SetNeedsAgreement : Type 0
+SetNeedsAgreement = (L : Layout) (s : State) (r : ℕ) → routeIn L r .kind ≡ exitRoute → step L s setRoute r 0 .number ≡ 0 → PointsAgree L r
