@@ -43,8 +43,8 @@ module _ (L : Layout) (s : State) (h : sound L ≡ true) (e : inRange s ≡ true
   unfolding shownInRun shown
   shown-same = ap (λ (d : Drawn). shownBy d (image L s)) (run-answer-same L s h e 512)
 
-  -- 512 bytes are enough, so the answer is 0 with the image's length
-  pub drawn-whole : (room : ℕ) → 512 ≤ room → record { number = 0; length = length (image L s) } ≡ answer L s room
+  -- 376 bytes are enough, so the answer is 0 with the image's length
+  pub drawn-whole : (room : ℕ) → 376 ≤ room → record { number = 0; length = length (image L s) } ≡ answer L s room
   unfolding answer answerWhere _and_
   drawn-whole room enough =
       if-false _ _ _ _ (rw (h, e)) (if-ge room (length (image L s)) _ _ _ (omega (arith, length-image L s, length-most L (sound-says L h .ranges))) refl)

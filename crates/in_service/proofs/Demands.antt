@@ -12,6 +12,8 @@ use Rattle.track.specs.Signal.{main}
 use Rattle.layout.specs.declared.Layout.{Layout}
 use Rattle.layout.specs.Layout.{noLayout}
 use Rattle.layout.specs.Load.{load}
+use Rattle.layout_facts.proofs.Sound.{sound-says}
+use Rattle.layout_facts.proofs.Loaded.{loaded-sound}
 use Rattle.interlocking.specs.declared.State.{State}
 use Rattle.interlocking.specs.State.{cold}
 use Rattle.panel.specs.Panel.{join, blocks, image, panelLength}
@@ -23,7 +25,9 @@ use Rattle.safety.specs.Demand3.{Safe}
 use Rattle.safety.specs.Exact.{Exact}
 use Rattle.safety.specs.Only.{ExactLog}
 use Rattle.safety.specs.Stories.{NoStory}
-use Rattle.safety.proofs.Demand3.{demand3}
+use Rattle.safety.proofs.Kept.{kept}
+use Rattle.safety.proofs.EveryEvent.{in-every-event}
+use Rattle.safety.proofs.Demand3.{safe, demand3}
 use Rattle.safety.proofs.Exact.{shows-exactly}
 use Rattle.safety.proofs.Only.{logs-exactly}
 use Rattle.safety.proofs.Stories.{stories-kept}
@@ -59,6 +63,7 @@ pub run-demanded : (bytes : List ℕ) → load bytes .number ≡ 0 → (es : Lis
 unfolding history lastImage Throughout
 run-demanded bytes ok es = record {
   safe = demand3 bytes ok es;
+  safeLog = let sounds = loaded-sound bytes ok in let S = sound-says _ sounds in in-every-event _ sounds _ (λ s h I e. safe _ S _ _ (kept _ sounds S s h I e)) es;
   exact = shows-exactly bytes ok es;
   exactLog = logs-exactly bytes ok es;
   stories = stories-kept bytes ok es;
@@ -81,6 +86,12 @@ none-safe h = record {
     none-there : (x : ℕ) (h : History) → 20 < shown noLayout h .signal (main x) → x < noLayout .signals
     none-there x [] p = present-main noLayout _ x p
     none-there x (m ∷ h) p = present-main noLayout _ x p
+
+-- nor did after any event
+none-safe-log : (h : History) → Throughout (λ m older. Safe noLayout (m ∷ older)) h
+unfolding Throughout
+none-safe-log [] = tt
+none-safe-log (m ∷ h) = (none-safe (m ∷ h), none-safe-log h)
 
 -- nothing shows
 none-exact : (h : History) → Exact noLayout h
@@ -145,4 +156,4 @@ none-keeps (m ∷ []) t = (λ d. t .0 .1 ∙ none-cold, tt)
 none-keeps (m ∷ n ∷ h) t = (λ d. t .0 .1 ∙ sym (t .1 .0 .1), none-keeps (n ∷ h) (t .1))
 
 pub none-demanded : (h : History) → Throughout Unserved h → Demanded noLayout h
-none-demanded h t = record { safe = none-safe h; exact = none-exact h; exactLog = none-log h t; stories = none-stories h t; refusals = none-keeps h t }
+none-demanded h t = record { safe = none-safe h; safeLog = none-safe-log h; exact = none-exact h; exactLog = none-log h t; stories = none-stories h t; refusals = none-keeps h t }

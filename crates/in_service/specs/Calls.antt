@@ -36,6 +36,6 @@ pub record InService (buffer : List ℕ) (cs : List Call) : Type 0 where
   pub accepts : OfFile (recordsAfter cs .layout) → Throughout (AcceptedJust (recordsAfter cs .layout)) (logOf buffer cs)
   pub now : OfFile (recordsAfter cs .layout) → drawnThen buffer (recordsAfter cs) ≡ lastImage (recordsAfter cs .layout) (logOf buffer cs)
 
--- after any calls, with or without a layout, whatever buffer of 512 bytes or more is lent for the images
+-- after any calls, with or without a layout, whatever buffer is lent for the images that has room for the longest, 376 bytes
 abbrev pub EveryCall : Type 0
-EveryCall = (buffer : List ℕ) → 512 ≤ length buffer → (cs : List Call) → InService buffer cs
+EveryCall = (buffer : List ℕ) → 376 ≤ length buffer → (cs : List Call) → InService buffer cs

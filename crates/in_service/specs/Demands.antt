@@ -21,10 +21,11 @@ lastImage L (m ∷ h) = m .image
 abbrev pub RefusedKeeps : Layout → Moment → History → Type 0
 RefusedKeeps L m older = m .number ≢ 0 → m .image ≡ lastImage L older
 
--- the log is safe (demand 3), now and so after each of its events; all that shows is what it tells, now and after each event, with every byte of the
+-- the log is safe (demand 3), now and after each of its events; all that shows is what it tells, now and after each event, with every byte of the
 -- image there; the customer's stories do not come true in it; and what was refused changed nothing that shows
 pub record Demanded (L : Layout) (h : History) : Type 0 where
   pub safe : Safe L h
+  pub safeLog : Throughout (λ m older. Safe L (m ∷ older)) h
   pub exact : Exact L h
   pub exactLog : ExactLog L h
   pub stories : Throughout (NoStory L) h

@@ -107,7 +107,7 @@ since-map f g (m ∷ h) (inr x) = inr (g m h (x .0), since-map f g h (x .1))
 -- by a passage in some direction, or by hand
 opened-since : (L : Layout) (l i : ℕ) (h : History) → Cleared L l i h → OpenedSince L l i h
 opened-since L l i h (byPassage w p) = since-map (λ m h x. inl (w, x)) (λ m h free. free) h p
-opened-since L l i h (byHand r) = since-map (λ m h x. inr (x .0)) (λ m h free. free) h r
+opened-since L l i h (byHand r) = since-map (λ m h x. inr x) (λ m h free. free) h r
 
 -- ---- in every event of every run
 

@@ -16,7 +16,7 @@ use Rattle.signals.specs.Aspects.{stop}
 use Rattle.layout.specs.declared.Layout.{Layout}
 use Rattle.layout.specs.Layout.{lineIn, routeIn}
 use Rattle.layout_facts.specs.Plain.{InBlock, ownSection, path, overlap, routePoint, linePoint}
-use Rattle.layout_facts.proofs.Means.{eqb-means, not-means, or-means}
+use Rattle.layout_facts.proofs.Means.{eqb-means, not-means, and-means, or-means}
 use Rattle.safety.specs.History.{Moment, History, nothing, gaveSection, sectionReads, blockReads, shown}
 use Rattle.safety.specs.Stories.{BladesFree, ThrowsFree, Lists, Falls, OpenedSince, OpensCleared, NoStory}
 use Rattle.safety.specs.WrongRuns.{told, Each}
@@ -103,12 +103,12 @@ module _ (L : Layout) (m : Moment) (h : History) where
   -- block i of line l was opened by a passage or by hand, and has read free since
   abbrev sinceFreeTest : ℕ → ℕ → Bool
   sinceFreeTest l i =
-      sinceTest (λ n older. someClosesTest L l i n older or acceptedTest releaseLine l n) (λ n older. eqb (blockReads L l i (n ∷ older)) free) (m ∷ h)
+      sinceTest (λ n older. someClosesTest L l i n older or (acceptedTest releaseLine l n and eqb (blockReads L l i (n ∷ older)) free)) (λ n older. eqb (blockReads L l i (n ∷ older)) free) (m ∷ h)
 
   -- by the law of `Since`
   since-free-means : (l i : ℕ) → sinceFreeTest l i ≡ true ↔ OpenedSince L l i (m ∷ h)
   since-free-means l i =
-      since-means (λ n older. or-means (some-closes-means L l i n older) (accepted-means releaseLine l n)) (λ n older. eqb-means _ free) (m ∷ h)
+      since-means (λ n older. or-means (some-closes-means L l i n older) (and-means (accepted-means releaseLine l n) (eqb-means _ free))) (λ n older. eqb-means _ free) (m ∷ h)
 
   -- it shows open, and was not
   abbrev opensTest : Bool

@@ -2,7 +2,7 @@
 -- block only if the line is secured its way, no other signal shows proceed into it, it reads free, and the free reading that ended its last spell of
 -- not reading free (the cold start counts as one) closed a proved passage, or a manual release of its line was accepted since that spell. And besides: a
 -- main signal shows proceed only for a locked route that starts at it and has all that keeps it there; the line of a locked exit route is secured its
--- way. Told from the history: the events, their answers, and the bytes that showed.
+-- way, and a line shows a direction only where it is secured so. Told from the history: the events, their answers, and the bytes that showed.
 --
 -- Read `≡` as is, `≢` as is not, `×` as and, `⊎` as or, `→` as then, `↔` as just where, `¬` as not, `⊥` as never; `(r : ℕ) × ..` as there is a number r
 -- such that; `λ m older. ..` as of the event m and what was older than it. L is the layout, h a history, m a moment, p what shows, x and y signals, r and q

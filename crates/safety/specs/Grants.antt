@@ -1,5 +1,5 @@
--- Which events are accepted (section 3), told from the history: of each kind all that there must be, in the order of the paper's refusals. The number of
--- the refusal that each line lifts stands above it. On an accepted layout, in a run, nothing is refused by 18.
+-- Which events are accepted (section 3), told from the history: of each kind all that there must be. The number of the refusal that each line lifts
+-- stands above it. On an accepted layout, in a run, nothing is refused by 18.
 --
 -- Read as `Demand3` says; h is what was before the event, a and b are its two numbers.
 use Prim.Native.Nat.{ℕ, _<_, _≤_}
@@ -95,7 +95,7 @@ pub record BlockThere (L : Layout) (a b : ℕ) : Type 0 where
   -- 3
   pub block : b < lineIn L a .blocks
 
--- the event is of a kind that section 3's table has, and there is what it asks. Every other kind, 1, is never granted
+-- the event is of a kind that section 3's table has, and there is what it asks. Every other kind is refused by 1
 pub data Grants (L : Layout) (e : Event) (h : History) : Type 0 where
   -- readings, with any code: 2
   section : e .kind ≡ readSection → e .first < L .sections → Grants L e h

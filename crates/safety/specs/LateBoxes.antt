@@ -1,7 +1,6 @@
 -- Boxes that never do what they should, or do it late, and some that do it too soon where demand 3 asks nothing: exactness refuses them. A run of each
 -- shows it.
 use Prim.Native.Nat.{ℕ, _<_, _*_, _/_, _%_}
-use mathlib.Core.Bool.{false}
 use mathlib.Core.Logic.{_≢_, _⊎_}
 use mathlib.Core.Path.{_≡_}
 use mathlib.Core.List.{List, [], _∷_, _++_}
@@ -25,7 +24,7 @@ use Rattle.safety.specs.History.{History, sectionReads, shown}
 use Rattle.safety.specs.Lights.{position}
 use Rattle.safety.specs.Exact.{BlockExact, LineExact, RouteExact, MainSignalExact, BlockSignalExact}
 use Rattle.safety.specs.WrongBoxes.{Box, stepBy, refuses, does, readBy, readsBy, refusesNone, waits89}
-use Rattle.safety.specs.WrongPanels.{imageBy}
+use Rattle.safety.specs.WrongPanels.{imageBy, neverLit}
 use Rattle.safety.specs.WrongRuns.{Run, readings, released, opened, letOut, gone, onT, drawnBy, broughtBack, overlapKept, wronglyEnded}
 
 -- ---- points
@@ -139,5 +138,5 @@ late aMain =
     ∷ []
 late aBlockSignal =
     -- panel: block signals are dark always
-    drawnBy (imageBy (λ way w. false)) opened
+    drawnBy (imageBy neverLit) opened
     ∷ []

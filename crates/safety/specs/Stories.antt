@@ -52,7 +52,8 @@ Falls L m h = (g : ℕ) → gaveSection L g m h ≢ nothing → gaveSection L g 
 
 -- whatever else is given: a block that shows open was opened by a passage or by hand, and has read free since, so after the last none that it was given
 abbrev pub OpenedSince : Layout → ℕ → ℕ → History → Type 0
-OpenedSince L l i h = Since (λ m older. ((w : ℕ) × Closes L l i w m older) ⊎ Releases l m) (LeavesFree (gaveBlock L l i)) h
+OpenedSince L l i h =
+    Since (λ m older. ((w : ℕ) × Closes L l i w m older) ⊎ (Releases l m × LeavesFree (gaveBlock L l i) m older)) (LeavesFree (gaveBlock L l i)) h
 
 abbrev pub OpensCleared : Layout → Moment → History → Type 0
 OpensCleared L m h = (l i : ℕ) → l < L .lines → i < lineIn L l .blocks → shown L (m ∷ h) .block l i ≡ openBlock → OpenedSince L l i (m ∷ h)

@@ -53,6 +53,10 @@ releasesTaken = refusesBy releaseLine (λ L s l. exitLocked L (s .phase) l)
 abbrev pub securesAnew : Box
 securesAnew = refusesBy secureLine (λ L s l. secureRefusal L (tablesOf (withLines s (put mostLines (s .direction) l neutral) (s .stage))) l)
 
+-- only 17 is asked, as of a manual release: the line may be turned as soon as no exit route of it is locked
+abbrev pub turnsUnlocked : Box
+turnsUnlocked = refusesBy secureLine (λ L s l. exitLocked L (s .phase) l)
+
 -- ---- set route
 
 -- what is refused of a route that is set, the conflicting routes by this and the rest by that

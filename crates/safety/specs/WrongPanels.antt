@@ -2,7 +2,7 @@
 -- it is the image), or its lines.
 use Prim.Native.Nat.{ℕ}
 use mathlib.Core.List.{List, [], _∷_, _++_}
-use mathlib.Core.Bool.{Bool, not}
+use mathlib.Core.Bool.{Bool, false, not}
 use lib.Dec.{eqb}
 use lib.ListN.{replicate}
 use Rattle.laws.specs.Tests.{_and_, _or_}
@@ -55,6 +55,10 @@ bothWays way w = not (eqb way neutral)
 -- those from A to B in neutral as well
 abbrev pub inNeutral : Lights
 inNeutral way w = eqb way w or (eqb way neutral and eqb w aToB)
+
+-- none, ever
+abbrev pub neverLit : Lights
+neverLit way w = false
 
 -- ---- lines
 

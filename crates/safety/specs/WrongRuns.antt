@@ -196,7 +196,7 @@ unsafe cleared =
     ∷ coldRun boxInRun (whole sharedEntrance .layout) (event 1 6 1 ∷ (letOut ++ (event 1 2 2 ∷ (p3 ++ again))))
     ∷ []
 
--- ---- wrong in another way: demand 3 asks nothing that these break. `LateBoxes` and `WrongStories` have what refuses most of them
+-- ---- wrong in another way: demand 3 asks nothing that these break. `LateBoxes`, `WrongGrants` and `WrongStories` have what refuses most of them
 
 -- the panel image after a run
 abbrev pub showing : Run → List ℕ

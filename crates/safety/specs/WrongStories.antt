@@ -8,7 +8,7 @@ use Rattle.safety.specs.History.{Moment, History}
 use Rattle.safety.specs.Stories.{ThrowsFree, Falls, OpensCleared}
 use Rattle.safety.specs.OtherLayouts.{twoBlocks, withOverlap, withLinePoint}
 use Rattle.safety.specs.WrongBoxes.{refusesNone, opensFree, passesNone, neverFalls}
-use Rattle.safety.specs.WrongOrders.{throwsSecured}
+use Rattle.safety.specs.WrongOrders.{throwsSecured, throwsTaken}
 use Rattle.safety.specs.WrongRuns.{Run, readings, opened, letOut, gone, onT, coldRun, thrownUnder}
 
 -- one of the three
@@ -33,6 +33,8 @@ abbrev pub bent : Story → List Run
 bent blades =
     -- the old box: code 0 refused. The wire of the point's own section breaks, a wagon comes to stand there, and the point is thrown under it
     onT refusesNone (readings ++ (event 1 2 0 ∷ event 3 0 2 ∷ []))
+    -- throw: 7 and 8 are not asked. The wagon is seen, and the point is thrown under it
+    ∷ onT throwsTaken (readings ++ (event 1 2 2 ∷ event 3 0 2 ∷ []))
     -- throw: 15 is not asked. The point of a route is thrown under it
     ∷ thrownUnder
     -- throw: 16 is not asked. The point of a secured line is thrown

@@ -1,4 +1,4 @@
--- Every route can be set with its signal at proceed: a way to it from every state that a run can reach. Beside the demands of document 01.
+-- Every route that can be set at all comes to be, with its signal at proceed: a way to it from every state that a run can reach. Beside the demands of document 01.
 use Prim.Native.Nat.{ℕ, _+_, _*_, _<_, _≤_}
 use mathlib.Core.Path.{_≡_}
 use mathlib.Core.List.{List, [], _∷_, _++_}
