@@ -5,6 +5,8 @@ mod examples;
 #[allow(dead_code)]
 #[path = "../../peer/src/layout.rs"]
 mod layout;
+#[path = "../../peer/src/level.rs"]
+mod level;
 #[allow(dead_code)]
 #[path = "../../peer/src/num.rs"]
 mod num;
@@ -25,7 +27,7 @@ fn by_box(file: &[u8], route: u8, place: u8) -> u64 {
 
 /// The same by the peer.
 fn by_peer(file: &[u8], route: u8, place: u8) -> u64 {
-    match black_box(layout::load(file)) {
+    match black_box(layout::load(file, level::LEVEL)) {
         Ok(l) => {
             let section = l.routes.get(route as usize).and_then(|r| r.overlap.get(place as usize));
             *section.unwrap_or(&0) as u64 * 16_777_216

@@ -1,7 +1,8 @@
 // Events to be timed, and the sum over their answers that the box's own program prints too.
-use crate::examples::{eight_points, full, most_blocks, needed_pairs, BRANCH_T};
+use crate::examples::{eight_points, full, most_blocks, needed_pairs, one_section_each, version_1, BRANCH_T};
 use crate::layout::{self, encode, Layout, Line, Route};
 use crate::lbox::{self, Var};
+use crate::level::LEVEL;
 use crate::records::tables;
 use crate::run_cases::{events, P1};
 use crate::runs::Event;
@@ -18,12 +19,12 @@ fn read_events(path: &str) -> Vec<Event> {
 }
 
 /// Plays the events of PREFIX once and those of EVENTS so many times, and answers the sum over all answers and the last state.
-pub fn play(layout: &str, prefix: &str, run: &str, turns: u64) -> u64 {
-    let l = layout::load(&std::fs::read(layout).expect("a layout file")).expect("a sound layout");
+pub fn play(layout: &str, prefix: &str, run: &str, turns: u64, v: &Var) -> u64 {
+    let l = layout::load(&std::fs::read(layout).expect("a layout file"), v.n).expect("a sound layout");
     let (prefix, run) = (read_events(prefix), read_events(run));
     let (mut s, mut sum) = (lbox::cold(&l), 0);
     let mut one = |e: &Event| {
-        let (number, detail, next) = lbox::event(&l, &s, *e, &Var::default());
+        let (number, detail, next) = lbox::event(&l, &s, *e, v);
         s = next;
         sum = mixed(mixed(sum, number), detail);
     };
@@ -70,7 +71,7 @@ fn full_layout() -> Layout {
     for (n, r) in l.routes.iter_mut().enumerate() {
         r.overlap = (0..4).map(|k| (5 * n + 11 * k) % 40).collect();
     }
-    l.conf = needed_pairs(&l.routes);
+    l.conf = needed_pairs(&l);
     l
 }
 
@@ -86,7 +87,7 @@ fn five_locked(l: &Layout) -> Vec<Event> {
 // Blocks of the lines that are not secured are occupied and free in turn.
 fn full_case() -> Case {
     let l = full_layout();
-    let blocks: Vec<u32> = l.lines[4..].iter().flat_map(|x| x.blocks.iter().map(|&g| g as u32)).collect();
+    let blocks: Vec<u32> = l.lines[4..].iter().flat_map(|x| x.blocks.iter().flatten().map(|&g| g as u32)).collect();
     let events = blocks.iter().flat_map(|&g| [[1, g, 2], [1, g, 1]]).collect();
     Case { name: "full", layout: encode(&l), prefix: five_locked(&l), events, at_proceed: 5, in_stage_1: 0 }
 }
@@ -109,7 +110,7 @@ fn filled(mut l: Layout) -> Layout {
     while l.routes.len() < 48 {
         l.routes.push(l.routes[l.routes.len() - 8].clone());
     }
-    l.conf = needed_pairs(&l.routes);
+    l.conf = needed_pairs(&l);
     l
 }
 
@@ -125,16 +126,16 @@ fn held_case() -> Case {
     let mut prefix = made_ready(&l);
     prefix.extend((0..8).map(|k| [6, k, 1]));
     prefix.push([1, 1, 2]);
-    let blocks: Vec<Event> = l.lines.iter().flat_map(|x| x.blocks.iter().rev().map(|&g| [1, g as u32, 2])).collect();
+    let blocks: Vec<Event> = l.lines.iter().flat_map(|x| x.blocks.iter().flatten().rev().map(|&g| [1, g as u32, 2])).collect();
     prefix.extend(&blocks);
     Case { name: "held", layout: encode(&l), prefix, events: blocks, at_proceed: 0, in_stage_1: 62 }
 }
 
 // Locked: the most routes that can be at proceed on eight secured lines of one block: 2 exit routes, 14 entrance routes, 13 inner ones.
 fn locked_case() -> Case {
-    let mut l = Layout { nsec: 64, own: vec![0; 32], nsig: 32, ..Layout::default() };
+    let mut l = Layout { nsec: 64, own: vec![0; 32], nsig: 32, ..version_1() };
     for k in 0..8 {
-        l.lines.push(Line { blocks: vec![56 + k], inner: [2 * k, 2 * k + 1], ent: [2 * k, 2 * k + 1], points: eight_points(k, |p| p) });
+        l.lines.push(Line { blocks: one_section_each([56 + k]), inner: [2 * k, 2 * k + 1], ent: [2 * k, 2 * k + 1], points: eight_points(k, |p| p) });
     }
     l.routes = (0..2).map(|k| route(2, k, 0, 16 + k, vec![2 * k])).collect();
     let entrances = [1, 3].into_iter().chain(4..16).enumerate();
@@ -151,9 +152,9 @@ fn locked_case() -> Case {
 // Mixed: eight secured lines of three blocks, each with an exit route and an entrance route at proceed, and eight inner routes; the second and the
 // third block of each line held in stage 1.
 fn mixed_case() -> Case {
-    let mut l = Layout { nsec: 64, own: vec![0; 32], nsig: 32, ..Layout::default() };
+    let mut l = Layout { nsec: 64, own: vec![0; 32], nsig: 32, ..version_1() };
     for k in 0..8 {
-        let blocks = (40 + 3 * k..43 + 3 * k).collect();
+        let blocks = one_section_each(40 + 3 * k..43 + 3 * k);
         l.lines.push(Line { blocks, inner: [k, 8 + k], ent: [2 * k, 2 * k + 1], points: eight_points(k, |p| p) });
     }
     l.routes = (0..8).map(|k| route(2, k, 0, 16 + k, vec![k])).collect();
@@ -163,7 +164,7 @@ fn mixed_case() -> Case {
     let mut prefix = made_ready(&l);
     prefix.extend((0..8).map(|k| [6, k, 1]));
     prefix.extend((0..24).map(|r| [4, r, 0]));
-    let held: Vec<Event> = l.lines.iter().flat_map(|x| [2, 1].map(|i| [1, x.blocks[i] as u32, 2])).collect();
+    let held: Vec<Event> = l.lines.iter().flat_map(|x| [2, 1].map(|i| [1, x.blocks[i][0] as u32, 2])).collect();
     prefix.extend(&held);
     Case { name: "mixed", layout: encode(&l), prefix, events: held, at_proceed: 24, in_stage_1: 16 }
 }
@@ -175,8 +176,8 @@ fn words(events: &[Event]) -> Vec<u8> {
 /// Writes NAME.layout, NAME.prefix and NAME.events of each case, and prints its name and how many events it has.
 pub fn files(folder: &str) {
     for c in [branch_t(), full_case(), orders_case(), locked_case(), mixed_case(), held_case()] {
-        let l = layout::load(&c.layout).expect("a sound layout");
-        let after = c.prefix.iter().chain(&c.events).fold(lbox::cold(&l), |s, e| lbox::event(&l, &s, *e, &Var::default()).2);
+        let l = layout::load(&c.layout, LEVEL).expect("a sound layout");
+        let after = c.prefix.iter().chain(&c.events).fold(lbox::cold(&l), |s, e| lbox::event(&l, &s, *e, &Var::at(LEVEL)).2);
         let count = |table: usize, code: u8| tables(&l, &after)[table].iter().filter(|&&x| x == code).count();
         assert_eq!((count(PHASE, 1), count(STAGE, 2)), (c.at_proceed, c.in_stage_1), "{}", c.name);
         let write = |part: &str, bytes: &[u8]| std::fs::write(format!("{folder}/{}.{part}", c.name), bytes).expect("write");

@@ -2,12 +2,13 @@
 use crate::examples::*;
 use crate::fuzz::{damage, gen_layout, Rng};
 use crate::layout::{self, encode, Layout, Route};
+use crate::level::LEVEL;
 use crate::{number_cases, rule_cases};
 use std::collections::{BTreeMap, HashSet};
 
-/// What the peer answers to a layout file.
-pub fn answer(file: &[u8]) -> (u32, usize) {
-    match layout::load(file) {
+/// What the peer answers to a layout file at a level.
+fn answer(file: &[u8], level: u32) -> (u32, usize) {
+    match layout::load(file, level) {
         Ok(_) => (0, 0),
         Err(fault) => fault,
     }
@@ -28,7 +29,7 @@ impl Cases {
         if !self.seen.insert(file.to_vec()) {
             return;
         }
-        let (number, detail) = answer(file);
+        let (number, detail) = answer(file, LEVEL);
         let length = u16::try_from(file.len()).expect("a file of at most 65,535 bytes");
         self.archive.extend(length.to_le_bytes());
         self.archive.extend(file);
@@ -38,7 +39,7 @@ impl Cases {
 
     /// A file that was made for one answer.
     pub fn made(&mut self, label: &str, file: &[u8], number: u32, detail: usize) {
-        assert_eq!(answer(file), (number, detail), "{label}, {} bytes", file.len());
+        assert_eq!(answer(file, LEVEL), (number, detail), "{label}, {} bytes", file.len());
         self.any(file);
     }
 
@@ -74,7 +75,7 @@ fn branch_t(c: &mut Cases) {
 // A layout with n inner routes that have nothing in common.
 fn apart(n: usize) -> Layout {
     let route = |k: usize| Route { entry: k, path: vec![2 * k, 2 * k + 1], ..Route::default() };
-    Layout { nsec: 2 * n, nsig: n, routes: (0..n).map(route).collect(), ..Layout::default() }
+    Layout { nsec: 2 * n, nsig: n, routes: (0..n).map(route).collect(), ..version_1() }
 }
 
 // Pairs of five routes: in order, out of order, of routes that don't exist, and cut short. Every number is one byte.
@@ -116,10 +117,10 @@ fn pairs(c: &mut Cases) {
 // The largest layouts, and faults at their far ends.
 fn largest(c: &mut Cases) {
     let (all, few, none) = (all_must_conflict(), few_must_conflict(), none_must_conflict());
-    assert_eq!((needed_pairs(&all.routes).len(), needed_pairs(&few.routes).len(), needed_pairs(&none.routes).len()), (1128, 156, 0));
+    assert_eq!((needed_pairs(&all).len(), needed_pairs(&few).len(), needed_pairs(&none).len()), (1128, 156, 0));
     c.sound("all pairs must conflict", &all);
     c.sound("few pairs must conflict, all are listed", &few);
-    c.sound("few pairs must conflict, only those are listed", &changed(&few, |l| l.conf = needed_pairs(&l.routes)));
+    c.sound("few pairs must conflict, only those are listed", &changed(&few, |l| l.conf = needed_pairs(l)));
     c.sound("no pair must conflict, all are listed", &none);
     c.sound("no pair must conflict on eight lines", &none_must_conflict_on_lines());
     c.sound("62 blocks", &most_blocks());
@@ -138,7 +139,7 @@ fn largest(c: &mut Cases) {
     }
     c.breaks("the last pair that must be there missing", &changed(&few, |l| l.conf.retain(|p| *p != (46, 47))), 6);
     c.sound("a pair missing that need not be there", &changed(&few, |l| l.conf.retain(|p| *p != (6, 47))));
-    c.breaks("the last line has a block of the first", &changed(&all, |l| l.lines[7].blocks[5] = l.lines[0].blocks[0]), 1);
+    c.breaks("the last line has a block of the first", &changed(&all, |l| l.lines[7].blocks[5] = l.lines[0].blocks[0].clone()), 1);
     c.breaks("the last route goes over a block", &changed(&few, |l| l.routes[47].path[7] = 63), 1);
     c.breaks("the last line's signal is the first's", &changed(&few, |l| l.lines[7].ent[1] = 0), 2);
     c.breaks("the last path ends where it began", &changed(&few, |l| l.routes[47].path[7] = l.routes[47].path[0]), 3);
@@ -152,11 +153,11 @@ fn largest(c: &mut Cases) {
 fn random(c: &mut Cases, seed: u64) {
     let mut g = Rng(seed.wrapping_mul(0x2545F4914F6CDD1D));
     for n in 0..30 {
-        let l = gen_layout(&mut g, n % 2 == 0);
+        let l = gen_layout(&mut g, n % 2 == 0, LEVEL);
         c.sound("a random sound layout", &l);
     }
     for _ in 0..80 {
-        c.any(&damage(&mut g));
+        c.any(&damage(&mut g, LEVEL));
     }
 }
 
@@ -172,12 +173,26 @@ pub fn all(seed: u64) -> Cases {
     c
 }
 
+/// Writes the stored layout files and their answers, and says how many there are of each answer.
+pub fn store(data: &str, expected: &str, seed: u64) {
+    let c = all(seed);
+    std::fs::write(data, &c.archive).expect("write");
+    std::fs::write(expected, &c.expected).expect("write");
+    for ((answer, rule), count) in &c.tally {
+        println!("{answer}{} {count}", if *rule > 0 { format!(" rule {rule}") } else { String::new() });
+    }
+    let answers = [0, 21, 22, 23, 24, 26].map(|number| (number, 0));
+    let rules = (1..=if LEVEL < 2 { 6 } else { 7 }).map(|rule| (25, rule));
+    assert!(answers.into_iter().chain(rules).all(|a| c.tally.contains_key(&a)), "every answer comes, and every rule");
+    println!("{} files, {} bytes", c.tally.values().sum::<usize>(), c.archive.len());
+}
+
 /// A line for each file of an archive, with the peer's answer.
-pub fn answers(archive: &[u8]) -> String {
+pub fn answers(archive: &[u8], level: u32) -> String {
     let (mut out, mut rest) = (String::new(), archive);
     while let [low, high, after @ ..] = rest {
         let (file, next) = after.split_at(u16::from_le_bytes([*low, *high]) as usize);
-        let (number, detail) = answer(file);
+        let (number, detail) = answer(file, level);
         out += &format!("{number} {detail}\n");
         rest = next;
     }

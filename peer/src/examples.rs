@@ -7,15 +7,24 @@ pub const BRANCH_T: [u8; 49] = [
     0, 1, 1, 1, 2,
 ];
 
+/// A layout of no objects, in the file's first version.
+pub fn version_1() -> Layout {
+    Layout { ver: 1, ..Layout::default() }
+}
+
+/// Blocks of one section each.
+pub fn one_section_each(sections: impl IntoIterator<Item = usize>) -> Vec<Vec<usize>> {
+    sections.into_iter().map(|s| vec![s]).collect()
+}
+
 /// Every pair of n routes, in order.
 pub fn every_pair(n: usize) -> Vec<(usize, usize)> {
     (0..n).flat_map(|a| (a + 1..n).map(move |b| (a, b))).collect()
 }
 
-/// The pairs that rule 6 asks for, in order.
-pub fn needed_pairs(routes: &[Route]) -> Vec<(usize, usize)> {
-    let needed = |&(a, b): &(usize, usize)| must_conflict(&routes[a], &routes[b]);
-    every_pair(routes.len()).into_iter().filter(needed).collect()
+/// The pairs of train routes that rule 6 asks for, in order.
+pub fn needed_pairs(l: &Layout) -> Vec<(usize, usize)> {
+    every_pair(l.routes.len()).into_iter().filter(|&(a, b)| must_conflict(l, a, b)).collect()
 }
 
 // Eight different points of 32, counted on from `first`, each in the position that the rule gives it.
@@ -32,11 +41,11 @@ fn four_sections(first: usize) -> Vec<usize> {
 // Eight lines, their blocks numbered last, and for each of their 16 ends an entrance, an exit and an inner route of full size.
 // `way` gives a line's eight path sections from its inner section at A to the one at B.
 pub fn full(blocks: usize, way: impl Fn(usize, usize) -> Vec<usize>, position: impl Fn(usize, usize) -> usize) -> Layout {
-    let mut l = Layout { nsec: 64, own: (0..32).map(|p| 63 - 2 * p).collect(), nsig: 32, ..Layout::default() };
+    let mut l = Layout { nsec: 64, own: (0..32).map(|p| 63 - 2 * p).collect(), nsig: 32, ..version_1() };
     for line in 0..8 {
         let first = 64 - 8 * blocks + line * blocks;
         l.lines.push(Line {
-            blocks: (first..first + blocks).collect(),
+            blocks: one_section_each(first..first + blocks),
             inner: [way(line, 0)[0], way(line, 0)[7]],
             ent: [2 * line, 2 * line + 1],
             points: eight_points(line, |p| position(line, p)),
@@ -88,15 +97,15 @@ fn inner_route(n: usize, entry: usize, path: Vec<usize>) -> Route {
 /// The most routes of which no two must conflict: one for each signal. All their 496 pairs are listed.
 pub fn none_must_conflict() -> Layout {
     let routes = (0..32).map(|n| inner_route(n, n, vec![2 * n, 2 * n + 1])).collect();
-    Layout { nsec: 64, own: (0..32).collect(), nsig: 32, lines: vec![], routes, conf: every_pair(32) }
+    Layout { nsec: 64, own: (0..32).collect(), nsig: 32, routes, conf: every_pair(32), ..version_1() }
 }
 
 /// Eight lines and the most routes over them of which no two must conflict: 29, none of them listed.
 pub fn none_must_conflict_on_lines() -> Layout {
-    let mut l = Layout { nsec: 64, own: (0..32).collect(), nsig: 32, ..Layout::default() };
+    let mut l = Layout { nsec: 64, own: (0..32).collect(), nsig: 32, ..version_1() };
     for line in 0..8 {
         let ends = [2 * line, 2 * line + 1];
-        l.lines.push(Line { blocks: vec![56 + line], inner: ends, ent: ends, points: eight_points(line, |p| p) });
+        l.lines.push(Line { blocks: one_section_each([56 + line]), inner: ends, ent: ends, points: eight_points(line, |p| p) });
     }
     for at in 0..16 {
         let (kind, entry, path) = if at < 3 { (2, 16 + at, vec![at]) } else { (1, at, vec![at, 13 + at]) };
@@ -110,17 +119,17 @@ pub fn none_must_conflict_on_lines() -> Layout {
 
 /// As many blocks as there can be: 62 on eight lines that share their two inner sections.
 pub fn most_blocks() -> Layout {
-    let mut l = Layout { nsec: 64, nsig: 32, ..Layout::default() };
+    let mut l = Layout { nsec: 64, nsig: 32, ..version_1() };
     for line in 0..8 {
         let first = if line < 6 { 2 + 8 * line } else { 50 + 7 * (line - 6) };
         let count = if line < 6 { 8 } else { 7 };
-        l.lines.push(Line { blocks: (first..first + count).collect(), inner: [0, 1], ent: [2 * line, 2 * line + 1], points: vec![] });
+        l.lines.push(Line { blocks: one_section_each(first..first + count), inner: [0, 1], ent: [2 * line, 2 * line + 1], points: vec![] });
     }
     for at in 0..16 {
         let (line, end) = (at / 2, at % 2);
         l.routes.push(Route { entry: at, kind: 1, line, end, path: vec![end, 1 - end], ..Route::default() });
         l.routes.push(Route { entry: 16 + at, kind: 2, line, end, path: vec![end], ..Route::default() });
     }
-    l.conf = needed_pairs(&l.routes);
+    l.conf = needed_pairs(&l);
     l
 }

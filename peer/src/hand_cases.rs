@@ -2,6 +2,7 @@
 use crate::examples::BRANCH_T;
 use crate::fuzz::{gen_layout, Rng};
 use crate::layout::encode;
+use crate::level::LEVEL;
 use crate::records::{Change, CODES};
 use crate::run_cases::BRANCH_U;
 use crate::runs::{Event, Runs};
@@ -132,7 +133,7 @@ fn near_misses(c: &mut Runs) {
 // Random changes of random layouts and of states.
 fn random(c: &mut Runs, g: &mut Rng) {
     for _ in 0..60 {
-        let l = gen_layout(g, true);
+        let l = gen_layout(g, true, LEVEL);
         let changes: Vec<Change> = (0..1 + g.below(2)).map(|_| any_change(g, l.routes.len())).collect();
         c.any(&encode(&l), &changes, &every_kind());
     }

@@ -1,7 +1,8 @@
 // Faults 21 to 24 at each kind of number of a layout file, and counts at their limits.
 use crate::cases::{changed, Cases};
-use crate::examples::BRANCH_T;
+use crate::examples::{one_section_each, version_1, BRANCH_T};
 use crate::layout::{self, encode, Layout, Line, Route};
+use crate::level::LEVEL;
 use crate::num;
 use std::collections::HashSet;
 
@@ -46,7 +47,7 @@ impl Fields {
 
     // The numbers of a line.
     fn line(&mut self, l: &Layout, x: &Line) {
-        self.sections(["blocks", "block"], &x.blocks, 1, 8, l.nsec);
+        self.sections(["blocks", "block"], &x.blocks.concat(), 1, 8, l.nsec);
         self.refer("inner section at A", x.inner[0], l.nsec);
         self.refer("inner section at B", x.inner[1], l.nsec);
         self.refer("entrance signal at A", x.ent[0], l.nsig);
@@ -70,7 +71,7 @@ impl Fields {
 
     fn of(l: &Layout) -> Fields {
         let mut f = Fields::default();
-        f.code("version", 1, 1, 1);
+        f.code("version", 1, 1, layout::max_version(LEVEL) as usize);
         f.code("sections", l.nsec, 1, 64);
         f.sections(["points", "own section"], &l.own, 0, 32, l.nsec);
         f.code("signals", l.nsig, 0, 32);
@@ -114,7 +115,7 @@ fn form(value: usize) -> Vec<u8> {
 
 // Branch T with a line point, a second own section and an overlap, so that it has every kind of number.
 fn every_kind() -> Layout {
-    let t = layout::load(&BRANCH_T).expect("branch T is sound");
+    let t = layout::load(&BRANCH_T, LEVEL).expect("branch T is sound");
     changed(&t, |l| {
         l.own.push(3);
         l.lines[0].points = vec![(1, 2)];
@@ -197,7 +198,7 @@ fn two_faults(c: &mut Cases) {
 
 // A layout with counts of its own choice and nothing in its lists.
 fn bare(sections: usize, points: usize, signals: usize) -> Layout {
-    Layout { nsec: sections, own: (0..points).map(|p| p % sections).collect(), nsig: signals, ..Layout::default() }
+    Layout { nsec: sections, own: (0..points).map(|p| p % sections).collect(), nsig: signals, ..version_1() }
 }
 
 // Sound layouts with one count at its limit or beside it, and references where there is nothing to refer to.
@@ -205,12 +206,12 @@ fn counts(c: &mut Cases) {
     for (sections, points, signals) in [(1, 0, 0), (2, 1, 1), (63, 31, 31), (64, 32, 32), (1, 32, 0), (64, 0, 32)] {
         c.sound("counts", &bare(sections, points, signals));
     }
-    let line = |n: usize| Line { blocks: vec![2 + n], inner: [0, 1], ent: [2 * n, 2 * n + 1], points: vec![] };
+    let line = |n: usize| Line { blocks: one_section_each([2 + n]), inner: [0, 1], ent: [2 * n, 2 * n + 1], points: vec![] };
     for lines in [1, 7, 8] {
         c.sound("lines", &changed(&bare(64, 0, 32), |l| l.lines = (0..lines).map(line).collect()));
     }
     for blocks in [2, 7, 8] {
-        c.sound("blocks", &changed(&bare(64, 0, 32), |l| l.lines = vec![Line { blocks: (2..2 + blocks).collect(), ..line(0) }]));
+        c.sound("blocks", &changed(&bare(64, 0, 32), |l| l.lines = vec![Line { blocks: one_section_each(2..2 + blocks), ..line(0) }]));
     }
     let points = |n: usize| (0..n).map(|p| (31 - p, 1 + (p % 2) as u8)).collect::<Vec<_>>();
     let route = Route { path: vec![0, 1], ..Route::default() };

@@ -1,6 +1,8 @@
 // Records as the box holds them, tables of fixed size: one byte can be changed by hand to what no file and no event would bring there.
+use crate::examples::{one_section_each, version_1};
 use crate::layout::{self, Layout, Line, Route};
 use crate::lbox::{self, State};
+use crate::level::LEVEL;
 
 /// The fields of one record, in the order in which the box declares them; one that is no table has one place.
 pub type Fields = Vec<Vec<u8>>;
@@ -16,6 +18,11 @@ pub struct Change {
 }
 
 impl Change {
+    /// The change that six bytes of the archive are.
+    pub fn of(b: &[u8]) -> Change {
+        Change { record: b[0], number: b[1], field: b[2], place: u16::from_le_bytes([b[3], b[4]]), byte: b[5] }
+    }
+
     /// A change as the archive has it.
     pub fn bytes(&self) -> [u8; 6] {
         let [low, high] = self.place.to_le_bytes();
@@ -35,7 +42,7 @@ fn line_fields(l: &Line) -> Fields {
     let positions = table(l.points.iter().map(|p| p.1 as usize), 8, 0);
     let one = |x: usize| vec![x as u8];
     vec![
-        one(l.blocks.len()), table(l.blocks.iter().copied(), 8, 0), one(l.inner[0]), one(l.inner[1]), one(l.ent[0]), one(l.ent[1]),
+        one(l.blocks.len()), table(l.blocks.iter().flatten().copied(), 8, 0), one(l.inner[0]), one(l.inner[1]), one(l.ent[0]), one(l.ent[1]),
         one(l.points.len()), points, positions,
     ]
 }
@@ -108,8 +115,9 @@ impl Plan {
             lines: self.lines[..n].iter().map(line_of).collect::<Option<_>>()?,
             routes: self.routes[..m].iter().map(route_of).collect::<Option<_>>()?,
             conf: (0..m).flat_map(|a| (a + 1..m).map(move |b| (a, b))).filter(|&(a, b)| listed(a, b) == 1).collect(),
+            ..version_1()
         };
-        layout::load(&layout::encode(&l)).ok()
+        layout::load(&layout::encode(&l), LEVEL).ok()
     }
 }
 
@@ -126,7 +134,7 @@ fn placed(points: &[u8], positions: &[u8], n: usize) -> Option<Vec<(usize, u8)>>
 fn line_of(f: &Fields) -> Option<Line> {
     let one = |k: usize| f[k][0] as usize;
     Some(Line {
-        blocks: first(&f[1], one(0))?,
+        blocks: one_section_each(first(&f[1], one(0))?),
         inner: [one(2), one(3)],
         ent: [one(4), one(5)],
         points: placed(&f[7], &f[8], one(6))?,

@@ -1,6 +1,6 @@
 // Each clause of rules 1 to 6 broken, rules broken together, and near misses that are sound.
 use crate::cases::{changed, Cases};
-use crate::examples::{every_pair, needed_pairs};
+use crate::examples::{every_pair, needed_pairs, one_section_each, version_1};
 use crate::layout::{encode, Layout, Line, Route};
 
 // Two lines end to end over a station between them, with a route of each kind at each end, and a third line without routes.
@@ -8,7 +8,7 @@ use crate::layout::{encode, Layout, Line, Route};
 // Station tracks: 11 west, 4 and 5 between the lines, 12 east. 17 and 18 lie beyond. Entrance signals are 0 to 5.
 fn two_lines() -> Layout {
     let line = |blocks: &[usize], inner, ent, points: &[(usize, u8)]| Line {
-        blocks: blocks.to_vec(),
+        blocks: one_section_each(blocks.to_vec()),
         inner,
         ent,
         points: points.to_vec(),
@@ -22,7 +22,7 @@ fn two_lines() -> Layout {
         points: points.to_vec(),
         ..Route::default()
     };
-    let mut l = Layout { nsec: 20, own: vec![0, 3, 6, 10, 13, 17], nsig: 16, ..Layout::default() };
+    let mut l = Layout { nsec: 20, own: vec![0, 3, 6, 10, 13, 17], nsig: 16, ..version_1() };
     l.lines = vec![
         line(&[1, 2], [0, 3], [0, 1], &[(4, 2)]),
         line(&[7, 8, 9], [6, 10], [2, 3], &[]),
@@ -41,7 +41,7 @@ fn two_lines() -> Layout {
         route(10, 0, 0, 0, &[11, 17], &[]),
         route(11, 0, 0, 0, &[12, 18], &[(5, 1)]),
     ];
-    l.conf = needed_pairs(&l.routes);
+    l.conf = needed_pairs(&l);
     l
 }
 
@@ -58,15 +58,15 @@ fn sound(c: &mut Cases, label: &str, change: impl FnOnce(&mut Layout)) {
 // The two lines with one change, and the pairs listed that it asks for.
 fn listed(c: &mut Cases, label: &str, change: impl FnOnce(&mut Layout)) {
     let l = changed(&two_lines(), change);
-    c.sound(label, &changed(&l, |m| m.conf = needed_pairs(&m.routes)));
+    c.sound(label, &changed(&l, |m| m.conf = needed_pairs(m)));
 }
 
 fn rule_1(c: &mut Cases) {
     for blocks in [[7, 7, 9], [7, 8, 7], [7, 8, 8]] {
-        broken(c, 1, "a block twice in one line", |l| l.lines[1].blocks = blocks.to_vec());
+        broken(c, 1, "a block twice in one line", |l| l.lines[1].blocks = one_section_each(blocks));
     }
     for (line, place, block) in [(2, 0, 1), (2, 1, 2), (2, 0, 9), (0, 1, 16), (1, 2, 15), (0, 0, 7)] {
-        broken(c, 1, "a block of two lines", |l| l.lines[line].blocks[place] = block);
+        broken(c, 1, "a block of two lines", |l| l.lines[line].blocks[place] = vec![block]);
     }
     let over_blocks = [(9, vec![15, 17]), (9, vec![11, 16]), (9, vec![11, 2, 17]), (7, vec![10, 15]), (6, vec![15, 6]), (4, vec![9, 4, 3])];
     for (route, path) in over_blocks {
@@ -76,7 +76,7 @@ fn rule_1(c: &mut Cases) {
         broken(c, 1, "a block as inner section, of its own line or another", |l| l.lines[2].inner = inner);
     }
     for (line, block) in [(0, 13), (0, 14), (1, 0), (1, 3), (2, 6), (2, 10)] {
-        broken(c, 1, "an inner section as block of another line", |l| l.lines[line].blocks[0] = block);
+        broken(c, 1, "an inner section as block of another line", |l| l.lines[line].blocks[0] = vec![block]);
     }
 }
 
@@ -180,7 +180,7 @@ fn rule_6_places(c: &mut Cases) {
         let eight = 8 * n..8 * n + 8;
         Route { entry: n, path: eight.clone().collect(), points: eight.map(|p| (p, 1)).collect(), ..Route::default() }
     };
-    let l = Layout { nsec: 16, own: vec![0; 16], nsig: 2, routes: vec![route(0), route(1)], ..Layout::default() };
+    let l = Layout { nsec: 16, own: vec![0; 16], nsig: 2, routes: vec![route(0), route(1)], ..version_1() };
     c.sound("nothing in common", &l);
     for (i, j) in [(0, 0), (0, 7), (7, 0), (7, 7)] {
         c.breaks("one common section", &changed(&l, |l| l.routes[1].path[j] = l.routes[0].path[i]), 6);
@@ -213,7 +213,7 @@ fn near_misses(c: &mut Cases) {
 // Breaks this rule and no other.
 fn break_alone(l: &mut Layout, rule: usize) {
     match rule {
-        1 => l.lines[2].blocks[1] = l.lines[2].blocks[0],
+        1 => l.lines[2].blocks[1] = l.lines[2].blocks[0].clone(),
         2 => l.lines[2].inner[1] = l.lines[2].inner[0],
         3 => l.lines[2].points[1].0 = l.lines[2].points[0].0,
         4 => l.routes[9].path = vec![17],

@@ -3,6 +3,7 @@ use crate::examples::*;
 use crate::fuzz::{damage, gen_events, gen_layout, Rng};
 use crate::layout::{self, encode, Layout};
 use crate::lbox::{self, Var};
+use crate::level::LEVEL;
 use crate::runs::{Event, Runs};
 
 /// Numbers at the ends of what one, two and four bytes hold, and such as have a small number in their lowest bytes.
@@ -53,7 +54,10 @@ fn section_8(c: &mut Runs) {
     for text in locked {
         on_t("still locked", format!("{P1}{text}(5 0 0)"), &[(0, 0)]);
     }
-    for text in ["(1 1 2)(1 0 2)(1 1 2)(1 0 1)", "(1 0 2)(1 1 2)(1 1 1)(1 0 1)", "(5 0 0)(1 0 2)(1 1 2)(1 0 1)"] {
+    let released = [
+        "(1 1 2)(1 0 2)(1 1 2)(1 0 1)", "(1 0 2)(1 1 2)(1 1 1)(1 0 1)", "(5 0 0)(1 0 2)(1 1 2)(1 0 1)", "(1 0 2)(1 1 0)(1 1 1)(1 0 2)(1 1 2)(1 0 1)",
+    ];
+    for text in released {
         on_t("released", format!("{P1}{text}(5 0 0)"), &[(13, 0)]);
     }
 }
@@ -120,7 +124,7 @@ struct Weaver<'a> {
 
 impl Weaver<'_> {
     fn push(&mut self, e: Event) {
-        self.state = lbox::event(self.l, &self.state, e, &Var::default()).2;
+        self.state = lbox::event(self.l, &self.state, e, &Var::at(LEVEL)).2;
         self.run.push(e);
     }
 
@@ -203,7 +207,7 @@ impl Weaver<'_> {
 
 // A random run on a layout: trains and orders, with an episode before one event in so many.
 fn woven(g: &mut Rng, l: &Layout, length: usize, each: usize) -> Vec<Event> {
-    let base = gen_events(g, l, length);
+    let base = gen_events(g, l, length, &Var::at(LEVEL));
     let mut w = Weaver { g, l, state: lbox::cold(l), run: vec![], later: vec![] };
     for e in base {
         w.push(e);
@@ -220,12 +224,12 @@ fn woven(g: &mut Rng, l: &Layout, length: usize, each: usize) -> Vec<Event> {
 // Random layouts, and the largest ones.
 fn random(c: &mut Runs, g: &mut Rng) {
     for n in 0..240 {
-        let l = gen_layout(g, n % 3 == 0);
+        let l = gen_layout(g, n % 3 == 0, LEVEL);
         let length = 10 + g.below(40);
         c.any(&encode(&l), &[], &woven(g, &l, length, 5));
     }
     for _ in 0..12 {
-        let l = gen_layout(g, false);
+        let l = gen_layout(g, false, LEVEL);
         let length = 300 + g.below(200);
         c.any(&encode(&l), &[], &woven(g, &l, length, 10));
     }
@@ -239,8 +243,8 @@ fn refused(c: &mut Runs, g: &mut Rng) {
     let every_kind: Vec<Event> = (0..12).map(|kind| [kind, 0, 1]).collect();
     let mut files: Vec<Vec<u8>> = vec![vec![], BRANCH_T[..48].to_vec()];
     while files.len() < 12 {
-        let file = damage(g);
-        if layout::load(&file).is_err() {
+        let file = damage(g, LEVEL);
+        if layout::load(&file, LEVEL).is_err() {
             files.push(file);
         }
     }

@@ -1,6 +1,7 @@
 // Stored runs: a layout file, changes by hand, events, and what the peer answers, with its state every sixteen events.
 use crate::layout::{self, Layout};
 use crate::lbox::{self, Var};
+use crate::level::LEVEL;
 use crate::records::{change, in_range, tables, Change, Fields, Plan};
 use crate::{hand_cases, run_cases};
 use std::collections::BTreeMap;
@@ -22,8 +23,8 @@ struct Start {
     sound: Option<Layout>,
 }
 
-fn start(run: &Run) -> Start {
-    let (loaded, l) = match layout::load(&run.file) {
+fn start(run: &Run, level: u32) -> Start {
+    let (loaded, l) = match layout::load(&run.file, level) {
         Ok(l) => ((0, 0), l),
         Err(fault) => (fault, Layout::default()),
     };
@@ -51,7 +52,7 @@ fn shown(plan: &Plan, t: &Fields) -> String {
 
 /// The answers to a run, and its text. A state that was changed by hand is only asked for refusals.
 pub fn play(run: &Run, v: &Var) -> (Vec<(u32, u32)>, String) {
-    let Start { loaded, plan, state, sound } = start(run);
+    let Start { loaded, plan, state, sound } = start(run, v.n);
     let by_hand = run.changes.iter().any(|c| c.record == 1);
     let mut s = lbox::cold(&sound.clone().unwrap_or_default());
     let (mut answers, mut text, mut left) = (vec![], format!("{} {}\n", loaded.0, loaded.1), run.events.len());
@@ -100,7 +101,7 @@ impl Runs {
     /// A run, whatever the peer answers.
     pub fn any(&mut self, file: &[u8], changes: &[Change], events: &[Event]) -> Vec<(u32, u32)> {
         let run = Run { file: file.to_vec(), changes: changes.to_vec(), events: events.to_vec() };
-        let (answers, text) = play(&run, &Var::default());
+        let (answers, text) = play(&run, &Var::at(LEVEL));
         self.count(file.len());
         self.archive.extend(file);
         self.count(changes.len());
@@ -122,15 +123,58 @@ impl Runs {
     }
 }
 
-/// The other readings of document 01 that no run tells from this one.
+/// What an archive's bytes hold, one after another.
+struct Read<'a>(&'a [u8]);
+
+impl<'a> Read<'a> {
+    fn take(&mut self, n: usize) -> &'a [u8] {
+        let (taken, rest) = self.0.split_at(n);
+        self.0 = rest;
+        taken
+    }
+
+    // A length or a number, in two bytes.
+    fn count(&mut self) -> usize {
+        u16::from_le_bytes(self.take(2).try_into().expect("two bytes")) as usize
+    }
+
+    fn word(&mut self) -> u32 {
+        u32::from_le_bytes(self.take(4).try_into().expect("four bytes"))
+    }
+
+    fn run(&mut self) -> Run {
+        let length = self.count();
+        let file = self.take(length).to_vec();
+        let changes = (0..self.count()).map(|_| Change::of(self.take(6))).collect();
+        let events = (0..self.count()).map(|_| [self.word(), self.word(), self.word()]).collect();
+        Run { file, changes, events }
+    }
+}
+
+/// What the runs of an archive print.
+pub fn played(archive: &[u8], v: &Var) -> String {
+    let (mut rest, mut text) = (Read(archive), String::new());
+    while !rest.0.is_empty() {
+        text += &play(&rest.run(), v).1;
+    }
+    text
+}
+
+// Another reading of a request has its number, as l3_lamp_opens has; those of document 01 have none.
+fn landed(name: &str) -> bool {
+    let number = name.strip_prefix('l').and_then(|rest| rest.split('_').next()?.parse::<u32>().ok());
+    number.map_or(true, |n| n <= LEVEL)
+}
+
+/// The other readings of the documents that no run tells from this one.
 fn missed(runs: &Runs) -> Vec<&'static str> {
-    let texts: Vec<String> = runs.all.iter().map(|r| play(r, &Var::default()).1).collect();
+    let texts: Vec<String> = runs.all.iter().map(|r| play(r, &Var::at(LEVEL)).1).collect();
     let same = |name: &&str| {
-        let mut v = Var::default();
+        let mut v = Var::at(LEVEL);
         v.set(name);
         runs.all.iter().zip(&texts).all(|(r, text)| play(r, &v).1 == *text)
     };
-    lbox::NAMES.iter().copied().filter(same).collect()
+    lbox::NAMES.iter().copied().filter(|name| landed(name)).filter(same).collect()
 }
 
 /// All runs; the random ones hang on the seed.
