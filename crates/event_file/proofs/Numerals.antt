@@ -5,10 +5,10 @@ use mathlib.Core.List.{List}
 use native.Mathlib.Omega.{arith}
 use borrow.Author.Needs.{needs}
 use lib.ListN.{length, getD, set, length-set}
+use Rattle.laws.specs.Tables.{join}
 use Rattle.numerals.specs.Digits.{decimalDigits}
 use Rattle.numerals.specs.Writes.{Put}
 use Rattle.numerals.proofs.Writes.{put-none, put-one, put-then}
-use Rattle.panel.specs.Panel.{join}
 use Rattle.panel.specs.Writes.{Wrote}
 use Rattle.panel.proofs.Writes.{join-on}
 use Rattle.event_file.specs.Lines.{decimal, twoNumbers, threeNumbers, afterSpace, spaced}

@@ -10,10 +10,12 @@ use lib.Dec.{eqb}
 use lib.ListN.{length, drop, set, List·getD-append}
 use Rattle.laws.specs.Choice.{if_then_else_}
 use Rattle.laws.proofs.Choice.{if-both}
+use Rattle.laws.specs.Tables.{join}
+use Rattle.laws.proofs.Joins.{join-same}
 use Rattle.layout.specs.declared.Layout.{Layout}
 use Rattle.interlocking.specs.declared.State.{State}
 use Rattle.panel.specs.declared.Drawn.{Drawn}
-use Rattle.panel.specs.Panel.{join, image, refused, answerWhere, drawnWhere, answer, drawn, answerInRun, drawnInRun}
+use Rattle.panel.specs.Panel.{image, refused, answerWhere, drawnWhere, answer, drawn, answerInRun, drawnInRun}
 use Rattle.event_file.specs.Lines.{space, lineEnd, stroke, threeNumbers, afterSpace, spaced, shownBy, shown, shownInRun, panelText, lineText, lineOf, mostText, mostLine}
 use Rattle.event_file.specs.Writes.{imageLine}
 use Rattle.numerals.specs.Writes.{Put}
@@ -51,12 +53,6 @@ unfolding answerInRun
 run-drawn-fits L s room d e = rw e (answer-says _ L s room .fits)
 
 -- ---- the bytes that are drawn, as text
-
--- runs of bytes that are the same one by one are the same joined
-join-same : (n : ℕ) (f g : ℕ → List ℕ) → ((k : ℕ) → k < n → f k ≡ g k) → join n f ≡ join n g
-unfolding join
-join-same zero f g h = refl
-join-same (suc n) f g h = ap₂ (λ xs ys. xs ++ ys) (join-same n f g (λ k l. h k (omega arith))) (h n (omega arith))
 
 -- only the first bytes are read
 spaced-front : (xs ys : List ℕ) → spaced (length xs) (xs ++ ys) ≡ spaced (length xs) xs

@@ -5,11 +5,12 @@ use mathlib.Core.List.{List, [], _∷_, _++_}
 use lib.ListN.{length, getD}
 use lib.Dec.{eqb, ltb}
 use Rattle.laws.specs.Choice.{if_then_else_}
+use Rattle.laws.specs.Tables.{join}
 use Rattle.numerals.specs.Digits.{decimalDigits}
 use Rattle.layout.specs.declared.Layout.{Layout}
 use Rattle.interlocking.specs.declared.State.{State}
 use Rattle.panel.specs.declared.Drawn.{Drawn}
-use Rattle.panel.specs.Panel.{join, image, answer, answerInRun}
+use Rattle.panel.specs.Panel.{image, answer, answerInRun}
 
 -- a space, a line's end, and the stroke before a panel's bytes
 abbrev pub space : ℕ

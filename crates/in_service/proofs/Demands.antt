@@ -5,7 +5,7 @@ use mathlib.Core.List.{List, [], _∷_}
 use native.Mathlib.Omega.{arith}
 use borrow.Author.Tests.{ltb-true}
 use lib.ListN.{length}
-use Rattle.laws.specs.Tables.{tableFrom, table}
+use Rattle.laws.specs.Tables.{tableFrom, table, join}
 use Rattle.laws.proofs.Choice.{passed-over}
 use Rattle.laws.proofs.Tests.{and-right, fails-from}
 use Rattle.track.specs.Signal.{main}
@@ -16,7 +16,7 @@ use Rattle.layout_facts.proofs.Sound.{sound-says}
 use Rattle.layout_facts.proofs.Loaded.{loaded-sound}
 use Rattle.interlocking.specs.declared.State.{State}
 use Rattle.interlocking.specs.State.{cold}
-use Rattle.panel.specs.Panel.{join, blocks, image, panelLength}
+use Rattle.panel.specs.Panel.{blocks, image, panelLength}
 use Rattle.step_facts.specs.Run.{Event, box, stateAfter, fromCold}
 use Rattle.step_facts.proofs.Step.{refusal-keeps}
 use Rattle.panel.proofs.Image.{present-main}

@@ -9,7 +9,8 @@ use native.Mathlib.Omega.{arith}
 use borrow.Author.Tests.{lt-ltb}
 use lib.ListN.{length, getD, set, length-append}
 use Rattle.laws.specs.Choice.{if_then_else_}
-use Rattle.laws.specs.Tables.{read}
+use Rattle.laws.specs.Tables.{read, join}
+use Rattle.laws.proofs.Joins.{length-join}
 use Rattle.laws.proofs.Arrays.{read-in}
 use Rattle.track.specs.declared.Line.{Line}
 use Rattle.track.specs.Codes.{aToB, bToA, stage0}
@@ -19,9 +20,9 @@ use Rattle.tables.specs.Readings.{linePlaced}
 use Rattle.tables.specs.Blocks.{place}
 use Rattle.signals.specs.Signals.{enterableBy, enterable}
 use Rattle.signals.specs.BlockSignals.{blockShows, blockShownWhere}
-use Rattle.panel.specs.Panel.{join, blocks, blockBytes, lineBytes}
+use Rattle.panel.specs.Panel.{blocks, blockBytes, lineBytes}
 use Rattle.panel.specs.Writes.{Wrote, blockBy, lineBy}
-use Rattle.panel.proofs.Writes.{length-join, wrote-one, wrote-then}
+use Rattle.panel.proofs.Writes.{wrote-one, wrote-then}
 
 -- ---- one block
 

@@ -13,7 +13,8 @@ use lib.ListN.{length, getD, List·getD-append}
 use lib.Seq.{getD-append-add}
 use Rattle.laws.specs.Choice.{if_then_else_}
 use Rattle.laws.specs.Tests.{_or_}
-use Rattle.laws.specs.Tables.{table, read}
+use Rattle.laws.specs.Tables.{table, read, join}
+use Rattle.laws.proofs.Joins.{length-join}
 use Rattle.laws.proofs.Tables.{length-table, table-at}
 use Rattle.laws.proofs.Tests.{and-left, and-right, and-both, or-cases, or-left, or-right}
 use Rattle.track.specs.Codes.{aToB, bToA, stage0}
@@ -28,9 +29,8 @@ use Rattle.signals.specs.BlockSignals.{blockShows}
 use Rattle.layout.specs.declared.Layout.{Layout}
 use Rattle.layout.specs.Layout.{lineIn}
 use Rattle.interlocking.specs.declared.State.{State}
-use Rattle.panel.specs.Panel.{join, blocks, blockBytes, lineBytes, image}
+use Rattle.panel.specs.Panel.{blocks, blockBytes, lineBytes, image}
 use Rattle.panel.specs.Panel as drawn
-use Rattle.panel.proofs.Writes.{length-join}
 use Rattle.panel.proofs.Blocks.{length-lines}
 use Rattle.panel.specs.Shown.{blockFrom, sectionShown, pointShown, signalShown, routeShown, lineShown, blockShown, panel}
 use Rattle.laws.proofs.Choice.{chosen}

@@ -7,7 +7,7 @@ use borrow.Author.Tests.{lt-ltb}
 use lib.ListN.{length, getD, length-append}
 use lib.Seq.{sets, ext-getD}
 use Rattle.laws.specs.Choice.{if_then_else_}
-use Rattle.laws.specs.Tables.{table, read}
+use Rattle.laws.specs.Tables.{table, read, join}
 use Rattle.laws.proofs.Tables.{length-table, table-at}
 use Rattle.track.specs.Codes.{readsNone, neutral, idle}
 use Rattle.track.specs.Sizes.{mostSections, mostPoints, mostSignals, mostLines, mostRoutes}
@@ -15,7 +15,7 @@ use Rattle.tables.specs.Readings.{reading, pointReading}
 use Rattle.signals.specs.MainSignals.{mainShows}
 use Rattle.layout.specs.declared.Layout.{Layout}
 use Rattle.interlocking.specs.declared.State.{State}
-use Rattle.panel.specs.Panel.{join, routeByte, lineBytes, image, panelLength}
+use Rattle.panel.specs.Panel.{routeByte, lineBytes, image, panelLength}
 use Rattle.panel.specs.Writes.{Wrote, FitsTables, readingBytes, objectBytes}
 use Rattle.panel.proofs.Blocks.{length-lines}
 use Rattle.panel.proofs.Writes.{wrote-then}

@@ -8,9 +8,9 @@ use native.Mathlib.Omega.{arith}
 use borrow.Author.Needs.{needs}
 use lib.ListN.{length, set, length-append}
 use lib.Seq.{length-sets}
-use Rattle.laws.specs.Tables.{tableFrom, table}
+use Rattle.laws.specs.Tables.{tableFrom, table, join}
+use Rattle.laws.proofs.Joins.{join-more}
 use Rattle.numerals.proofs.Writes.{written-then}
-use Rattle.panel.specs.Panel.{join}
 use Rattle.panel.specs.Writes.{Wrote}
 
 -- ---- tables and runs of bytes that grow by one
@@ -26,17 +26,6 @@ from-more (suc k) i f =
 table-more : (n : ℕ) (f : ℕ → ℕ) → table (n + 1) f ≡ table n f ++ (f n ∷ [])
 unfolding table
 table-more n f = rw add-one (from-more n 0 f ∙ ap (λ m. tableFrom 0 n f ++ (f m ∷ [])) (zero-add n))
-
--- and n + 1 runs of bytes are n and the one after them
-join-more : (n : ℕ) (f : ℕ → List ℕ) → join (n + 1) f ≡ join n f ++ f n
-unfolding join
-join-more n f = rw (add-one, join)
-
--- n runs of m bytes each
-pub length-join : (f : ℕ → List ℕ) (m : ℕ) → ((i : ℕ) → length (f i) ≡ m) → (n : ℕ) → length (join n f) ≡ m * n
-unfolding join
-length-join f m e zero = omega arith
-length-join f m e (suc n) = length-append (join n f) (f n) ∙ omega (arith, length-join f m e n, e n)
 
 -- ---- what is written after what was written
 

@@ -6,7 +6,7 @@ use lib.Dec.{eqb, ltb, leb}
 use lib.ListN.{length, drop}
 use Rattle.laws.specs.Choice.{if_then_else_}
 use Rattle.laws.specs.Tests.{_and_, every}
-use Rattle.laws.specs.Tables.{table, read}
+use Rattle.laws.specs.Tables.{table, join, read}
 use Rattle.track.specs.declared.Line.{Line}
 use Rattle.track.specs.Codes.{aToB, bToA, stage0, idle, cancelling}
 use Rattle.track.specs.Sizes.{mostSections, mostPoints, mostSignals, mostLines, mostPlaces, mostTrainRoutes}
@@ -22,11 +22,6 @@ use Rattle.layout.specs.Sound.{sound}
 use Rattle.interlocking.specs.declared.State.{State}
 use Rattle.interlocking.specs.State.{inRange}
 use Rattle.panel.specs.declared.Drawn.{Drawn}
-
--- the bytes of f 0, then of f 1, .., then of f (n - 1)
-unfoldable pub join : ℕ → (ℕ → List ℕ) → List ℕ
-join zero f = []
-join (suc n) f = join n f ++ f n
 
 -- how many blocks the first n lines have
 unfoldable pub blocks : ℕ → List Line → ℕ

@@ -5,7 +5,7 @@ use mathlib.Core.Path.{_≡_}
 use mathlib.Core.List.{List, [], _∷_, _++_}
 use lib.ListN.{length}
 use lib.Seq.{sets}
-use Rattle.laws.specs.Tables.{table, read}
+use Rattle.laws.specs.Tables.{table, read, join}
 use Rattle.track.specs.declared.Line.{Line}
 use Rattle.track.specs.Codes.{aToB, bToA, stage0}
 use Rattle.track.specs.Sizes.{mostSections, mostPoints, mostSignals, mostLines, mostPlaces, mostTrainRoutes}
@@ -16,7 +16,7 @@ use Rattle.signals.specs.MainSignals.{mainShows}
 use Rattle.signals.specs.BlockSignals.{blockShownWhere}
 use Rattle.layout.specs.declared.Layout.{Layout}
 use Rattle.interlocking.specs.declared.State.{State}
-use Rattle.panel.specs.Panel.{join, routeByte}
+use Rattle.panel.specs.Panel.{routeByte}
 
 -- the bytes xs were written into a buffer from a place on: what the buffer is then, and the next place
 pub record Wrote (before : List ℕ) (at : ℕ) (xs after : List ℕ) (next : ℕ) : Type 0 where

@@ -10,8 +10,9 @@ use track::sizes::POINTS;
 ghost use mathlib.Core.Path.{_≡_};
 ghost use Prim.Native.Nat.{_+_, _*_, _≤_, _<_};
 ghost use lib.ListN.{length};
+ghost use Rattle.laws.specs.Tables.{join};
 ghost use Rattle.track.specs.Sizes.{mostLines};
-ghost use Rattle.panel.specs.Panel.{join, blocks, lineBytes};
+ghost use Rattle.panel.specs.Panel.{blocks, lineBytes};
 ghost use Rattle.panel.specs.Writes.{Wrote, blockBy, lineBy};
 
 // The three bytes of block i of line l, which has n blocks and is secured in direction way, its points in position or not.

@@ -2,7 +2,7 @@
 use Prim.Native.Nat.{ℕ}
 use Rattle.laws.specs.Choice.{if_then_else_}
 use Rattle.laws.specs.Tests.{_and_, _or_, implies, every, allBelow, anyBelow, lowestFrom, lowest}
-use Rattle.laws.specs.Tables.{iter, tableFrom, table, read, eachFrom, each, put}
+use Rattle.laws.specs.Tables.{iter, tableFrom, table, read, eachFrom, each, put, join}
 use Rattle.sets.specs.Sets.{holds, joined, mergedSet, addEntry, setOf}
 use Rattle.tables.specs.Readings.{recorded, given, reading, blockGiven, blockReading, pointReading, allFree, inPosition, linePlaced, routePlaced}
 use Rattle.track.specs.Objects.{nearest}
@@ -30,7 +30,7 @@ use Rattle.interlocking.specs.Own.{ownGiven, ownStageAt, ownSection, ownPoint, 
 use Rattle.interlocking.specs.Settle.{fallenAt, signals, proceedsIn, farSections, lockingOf, routeAfter, unlessIdle, routesBy, routes, lineRelease, settle}
 use Rattle.interlocking.specs.Rows.{nothing, givesReading, aSecond, sectionRow, pointRow, throwRow, setRow, cancelRow, secureRow, manualRow, barRow, secondRow, noRow, rowOf}
 use Rattle.interlocking.specs.Step.{rowRefusal, moves, stays, tried, followed, answeredBy, stepWhere, step, askedInRun, stepInRun, refusal, own, gives, after}
-use Rattle.panel.specs.Panel.{join, blocks, routeByte, blockBytes, lineBytes, image, panelLength, drawnWhere, drawn}
+use Rattle.panel.specs.Panel.{blocks, routeByte, blockBytes, lineBytes, image, panelLength, drawnWhere, drawn}
 use Rattle.panel.specs.Panel as panels
 use Rattle.step_facts.specs.Run.{box, boxInRun, stateAfter, answers, fromCold}
 use Rattle.panel.specs.Shown.{sectionShown, pointShown, signalShown, routeShown, lineShown, blockShown}

@@ -6,7 +6,7 @@ use mathlib.Core.Bool.{Bool, false, not}
 use lib.Dec.{eqb}
 use lib.ListN.{replicate}
 use Rattle.laws.specs.Tests.{_and_, _or_}
-use Rattle.laws.specs.Tables.{table, read}
+use Rattle.laws.specs.Tables.{table, read, join}
 use Rattle.track.specs.Codes.{neutral, aToB, bToA, stage0}
 use Rattle.track.specs.Sizes.{mostLines, mostPlaces}
 use Rattle.track.specs.Objects.{line}
@@ -19,7 +19,7 @@ use Rattle.signals.specs.BlockSignals.{hasSignal, lightShown}
 use Rattle.layout.specs.declared.Layout.{Layout}
 use Rattle.interlocking.specs.declared.State.{State}
 use Rattle.interlocking.specs.State.{withLines}
-use Rattle.panel.specs.Panel.{join, routeByte, image}
+use Rattle.panel.specs.Panel.{routeByte, image}
 
 -- a panel: the bytes of a state
 abbrev pub Image : Type 0

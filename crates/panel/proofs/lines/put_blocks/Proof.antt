@@ -4,7 +4,7 @@ use mathlib.Core.Path.{_≡_, refl}
 use native.Mathlib.Omega.{arith}
 use borrow.Author.Needs.{needs}
 use lib.ListN.{length}
-use Rattle.panel.specs.Panel.{join}
+use Rattle.laws.specs.Tables.{join}
 use Rattle.panel.specs.Writes.{Wrote, blockBy}
 use Rattle.panel.proofs.Writes.{wrote-length, writes}
 use Rattle.panel.proofs.Blocks.{block-next}

@@ -5,8 +5,9 @@ use native.Mathlib.Omega.{arith}
 use borrow.Author.Needs.{needs}
 use lib.ListN.{length}
 use Rattle.laws.proofs.Arrays.{length-mapped}
+use Rattle.laws.specs.Tables.{join}
 use Rattle.track.specs.Sizes.{mostLines}
-use Rattle.panel.specs.Panel.{join, blocks, lineBytes}
+use Rattle.panel.specs.Panel.{blocks, lineBytes}
 use Rattle.panel.specs.Writes.{Wrote}
 use Rattle.panel.proofs.Writes.{wrote-length, join-on, writes}
 use Rattle.panel.proofs.Blocks.{blocks-none, line-room, lines-next, line-at}

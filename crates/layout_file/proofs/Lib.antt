@@ -1,0 +1,4 @@
+pub mod Stands
+pub mod Fields
+pub mod Turns
+pub mod Lists

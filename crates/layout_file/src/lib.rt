@@ -1,0 +1,1 @@
+// Theorems on layout files alone; there is no code here.
