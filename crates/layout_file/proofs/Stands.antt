@@ -32,6 +32,11 @@ module _ (s : List ℕ) where
   unfolding forms flatMap
   stand-none at = record { text = refl; place = sym (add-zero at) }
 
+  -- so the next place is the place itself
+  pub stand-here : (at next : ℕ) → Stand s at [] next → next ≡ at
+  unfolding forms flatMap
+  stand-here at next p = p .place ∙ add-zero at
+
   -- some numbers, then more
   pub stand-then : {at mid next : ℕ} {ns ms : List ℕ} → Stand s at ns mid → Stand s mid ms next → Stand s at (ns ++ ms) next
   stand-then {at} {mid} {next} {ns} {ms} p q = record {
@@ -69,8 +74,8 @@ module _ (s : List ℕ) {T : Type 0} (turn : ℕ → T → T) where
   pub turns-stand : (Done : ℕ → ℕ → T → Type 0) (each : ℕ → List ℕ) (n : ℕ)
       → ((i at next : ℕ) (t : T) → i < n → Stand s at (each i) next → Done i at t → Done (suc i) next (turn i t))
       → (at next : ℕ) (t : T) → Stand s at (join n each) next → Done 0 at t → Done n next (iter turn n t)
-  unfolding join iter forms flatMap
-  turns-stand Done each zero step at next t p d = subst (λ m. Done zero m t) (sym (p .place ∙ add-zero at)) d
+  unfolding join iter
+  turns-stand Done each zero step at next t p d = subst (λ m. Done zero m t) (sym (stand-here s at next p)) d
   turns-stand Done each (suc n) step at next t p d =
       step n _ next (iter turn n t) (le-refl (suc n)) (stand-rest s at next (join n each) (each n) p)
       (turns-stand Done each n (λ i a b u l. step i a b u (omega arith)) at _ t (stand-first s at next (join n each) (each n) p) d)
