@@ -5,3 +5,6 @@ pub mod Listings
 pub mod Lists
 pub mod Lines
 pub mod Routes
+pub mod JoinsTmp
+pub mod PairPlaces
+pub mod Pairs

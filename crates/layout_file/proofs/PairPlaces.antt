@@ -1,0 +1,147 @@
+-- The pairs of a table of conflicts, place by place: those below a place, and all of them.
+use Prim.Native.Nat.{ℕ, zero, suc, _+_, _-_, _*_, _/_, _%_, _<_, _≤_}
+use mathlib.Core.Path.{_≡_, refl, sym, ap, ap₂, subst, _∙_}
+use mathlib.Core.Bool.{true, false}
+use mathlib.Core.List.{List, [], _∷_, _++_, append-nil}
+use mathlib.Core.Logic.{_⊎_, inl, inr, ⊎-elim}
+use native.Mathlib.Omega.{arith}
+use native.Mathlib.Decide.{decLt}
+use borrow.Author.Tests.{lt-ltb, ltb-true, ltb-false, eq-eqb, eqb-true, eqb-false, le-ltb, ne-eqb}
+use lib.Dec.{eqb, ltb}
+use lib.ListN.{length, getD, length-append}
+use Rattle.laws.specs.Choice.{if_then_else_}
+use Rattle.laws.specs.Tests.{_and_}
+use Rattle.laws.specs.Tables.{join}
+use Rattle.laws.proofs.Choice.{if-both, chosen, passed-over}
+use Rattle.laws.proofs.Tests.{and-both, and-left, and-right, fails-from}
+use Rattle.laws.proofs.Joins.{join-same, join-rest}
+use Rattle.track.specs.Sizes.{mostTrainRoutes, mostRoutes, mostPairs, mostConflicts}
+use Rattle.pairs.specs.declared.Pair.{Pair}
+use Rattle.pairs.specs.Pairs.{placeOf}
+use Rattle.layout.specs.declared.Layout.{Layout}
+use Rattle.layout.specs.Layout.{entryOf, conflict}
+use Rattle.layout_file.specs.Written.{pairAt, pairsOf}
+use Rattle.layout_file.proofs.JoinsTmp.{join-rows}
+
+-- ---- one place
+
+-- the pair whose place this is
+abbrev pub pairOfPlace : ℕ → Pair
+pairOfPlace p = record { first = p / mostRoutes; second = p % mostRoutes }
+
+-- it, where it is smaller first and listed
+unfoldable pub atPlace : List ℕ → ℕ → List Pair
+atPlace m p = if ltb (p / mostRoutes) (p % mostRoutes) and eqb (getD m p 0) 1 then pairOfPlace p ∷ [] else []
+
+-- the pairs at the places below k
+unfoldable pub pairsBelow : List ℕ → ℕ → List Pair
+pairsBelow m k = join k (atPlace m)
+
+module _ (m : List ℕ) (p : ℕ) where
+  -- a pair that is listed
+  pub place-listed : p / mostRoutes < p % mostRoutes → getD m p 0 ≡ 1 → atPlace m p ≡ pairOfPlace p ∷ []
+  unfolding atPlace
+  place-listed h e = chosen _ _ _ (and-both _ _ (lt-ltb _ _ h) (eq-eqb _ _ e))
+
+  -- one that is not, or whose first is not the smaller
+  pub place-empty : (p / mostRoutes < p % mostRoutes → getD m p 0 ≡ 1 → ⊥) → atPlace m p ≡ []
+  unfolding atPlace
+  place-empty h = passed-over _ _ _ (fails-from _ (λ t. h (ltb-true _ _ (and-left _ _ t)) (eqb-true _ _ (and-right _ _ t))))
+
+  -- which of the two it is
+  pub data AtPlace : Type 0 where
+    listed : p / mostRoutes < p % mostRoutes → getD m p 0 ≡ 1 → atPlace m p ≡ pairOfPlace p ∷ [] → AtPlace
+    empty : (p / mostRoutes < p % mostRoutes → getD m p 0 ≡ 1 → ⊥) → atPlace m p ≡ [] → AtPlace
+
+-- two tables with the same at a place have the same pair there
+pub place-same : (m k : List ℕ) (p : ℕ) → getD m p 0 ≡ getD k p 0 → atPlace m p ≡ atPlace k p
+unfolding atPlace
+place-same m k p e = rw e
+
+-- ---- all places
+
+-- the first and the second route of a place
+pub first-of : (r q : ℕ) → q < mostRoutes → (mostRoutes * r + q) / mostRoutes ≡ r
+first-of r q h = omega arith
+
+pub second-of : (r q : ℕ) → q < mostRoutes → (mostRoutes * r + q) % mostRoutes ≡ q
+second-of r q h = omega arith
+
+module _ (L : Layout) where
+  -- the pair of two routes stands at their place
+  pair-at : (r q : ℕ) → q < mostRoutes → atPlace (L .conflict) (mostRoutes * r + q) ≡ pairAt L r q
+  unfolding atPlace pairAt conflict entryOf placeOf
+  pair-at r q h = rw (first-of r q h, second-of r q h)
+
+  module _ (few : L .routes ≤ mostRoutes)
+      (past : (r q : ℕ) → r < mostRoutes → q < mostRoutes → L .routes ≤ r → (entryOf (L .conflict) r q ≡ 0) × (entryOf (L .conflict) q r ≡ 0)) where
+    -- a route that there is not is in no pair
+    no-pair : (r q : ℕ) → r < mostRoutes → q < mostRoutes → (L .routes ≤ r) ⊎ (L .routes ≤ q) → atPlace (L .conflict) (mostRoutes * r + q) ≡ []
+    unfolding entryOf placeOf
+    no-pair r q x y c =
+        place-empty (L .conflict) (mostRoutes * r + q) (λ h e.
+        let z : getD (L .conflict) (mostRoutes * r + q) 0 ≡ 0 = ⊎-elim (λ l. past r q x y l .0) (λ l. past q r y x l .1) c in
+        omega arith)
+
+    -- as many as there are routes, and no more
+    routes-all : mostRoutes ≡ L .routes + (mostRoutes - L .routes)
+    routes-all = omega arith
+
+    -- the pairs whose first is r
+    row-of : (r : ℕ) → r < L .routes → join mostRoutes (λ q. atPlace (L .conflict) (mostRoutes * r + q)) ≡ join (L .routes) (pairAt L r)
+    row-of r h =
+        ap (λ k. join k (λ q. atPlace (L .conflict) (mostRoutes * r + q))) routes-all
+        ∙ join-rest (λ q. atPlace (L .conflict) (mostRoutes * r + q)) (L .routes) (mostRoutes - L .routes) (λ q a b. no-pair r q (omega arith) (omega arith) (inr a))
+        ∙ join-same (L .routes) _ _ (λ q l. pair-at r q (omega arith))
+
+    -- the pairs of a layout are those of its table, in the order of their places
+    pub pairs-by-place : pairsOf L ≡ pairsBelow (L .conflict) mostPairs
+    unfolding pairsOf pairsBelow join
+    pairs-by-place =
+        sym (join-rows (atPlace (L .conflict)) mostRoutes mostRoutes
+        ∙ ap (λ k. join k row) routes-all
+        ∙ join-rest row (L .routes) (mostRoutes - L .routes) (λ r a b. join-rest (λ q. atPlace (L .conflict) (mostRoutes * r + q)) 0 mostRoutes (λ q x y. no-pair r q (omega arith) (omega arith) (inl a)))
+        ∙ join-same (L .routes) _ _ row-of)
+      where
+        -- a row of the table
+        row : ℕ → List Pair
+        row r = join mostRoutes (λ q. atPlace (L .conflict) (mostRoutes * r + q))
+
+-- ---- how many there are
+
+-- 47 and 46 and so on, as many as there are rows
+abbrev rowsHold : ℕ → ℕ
+rowsHold zero = 0
+rowsHold (suc r) = rowsHold r + (mostRoutes - suc r)
+
+module _ (m : List ℕ) where
+  -- a place holds one pair at most, and none where its first is not the smaller
+  place-few : (p : ℕ) → length (atPlace m p) ≤ 1
+  unfolding atPlace
+  place-few p = if-both (λ (ps : List Pair). length ps ≤ 1) (ltb (p / mostRoutes) (p % mostRoutes) and eqb (getD m p 0) 1) (λ t. omega arith) (λ t. omega arith)
+
+  -- the first k places of row r hold those whose second is larger than r
+  row-few : (r k : ℕ) → k ≤ mostRoutes → length (join k (λ q. atPlace m (mostRoutes * r + q))) ≤ k - suc r
+  unfolding join
+  row-few r zero h = omega arith
+  row-few r (suc k) h = by (decLt r k) (row-few r k (omega arith))
+    where
+      -- one place more
+      by : Dec (r < k) → length (join k (λ q. atPlace m (mostRoutes * r + q))) ≤ k - suc r
+          → length (join k (λ q. atPlace m (mostRoutes * r + q)) ++ atPlace m (mostRoutes * r + k)) ≤ suc k - suc r
+      by (yes l) before = omega (arith, before, place-few (mostRoutes * r + k), length-append (join k (λ q. atPlace m (mostRoutes * r + q))) (atPlace m (mostRoutes * r + k)))
+      by (no l) before =
+          let none : atPlace m (mostRoutes * r + k) ≡ [] = place-empty m (mostRoutes * r + k) (λ x e. let f = first-of r k (omega arith) in let g = second-of r k (omega arith) in omega arith) in
+          rw (none, append-nil (join k (λ q. atPlace m (mostRoutes * r + q)))) (omega (arith, before))
+
+  -- n rows
+  rows-few : (n : ℕ) → length (join n (λ r. join mostRoutes (λ q. atPlace m (mostRoutes * r + q)))) ≤ rowsHold n
+  unfolding join
+  rows-few zero = omega arith
+  rows-few (suc n) =
+      omega (arith, rows-few n, row-few n mostRoutes (omega arith), length-append (join n (λ r. join mostRoutes (λ q. atPlace m (mostRoutes * r + q)))) (join mostRoutes (λ q. atPlace m (mostRoutes * n + q))))
+
+  -- a table has no more pairs than a file may list
+  pub pairs-few : length (pairsBelow m mostPairs) ≤ mostConflicts
+  unfolding pairsBelow
+  pairs-few = rw (join-rows (atPlace m) mostRoutes mostRoutes) (rows-few mostRoutes)
