@@ -8,3 +8,4 @@ pub mod Routes
 pub mod JoinsTmp
 pub mod PairPlaces
 pub mod Pairs
+pub mod PairsGiven

@@ -12,8 +12,8 @@ use lib.ListN.{length, getD, length-append}
 use Rattle.laws.specs.Choice.{if_then_else_}
 use Rattle.laws.specs.Tests.{_and_}
 use Rattle.laws.specs.Tables.{join}
-use Rattle.laws.proofs.Choice.{if-both, chosen, passed-over}
-use Rattle.laws.proofs.Tests.{and-both, and-left, and-right, fails-from}
+use Rattle.laws.proofs.Choice.{if-both, chosen, passed-over, Is, which, holds, fails}
+use Rattle.laws.proofs.Tests.{and-both, and-left, and-right, fails-from, not-both}
 use Rattle.laws.proofs.Joins.{join-same, join-rest}
 use Rattle.track.specs.Sizes.{mostTrainRoutes, mostRoutes, mostPairs, mostConflicts}
 use Rattle.pairs.specs.declared.Pair.{Pair}
@@ -50,8 +50,17 @@ module _ (m : List ℕ) (p : ℕ) where
 
   -- which of the two it is
   pub data AtPlace : Type 0 where
-    listed : p / mostRoutes < p % mostRoutes → getD m p 0 ≡ 1 → atPlace m p ≡ pairOfPlace p ∷ [] → AtPlace
-    empty : (p / mostRoutes < p % mostRoutes → getD m p 0 ≡ 1 → ⊥) → atPlace m p ≡ [] → AtPlace
+    oneThere : p / mostRoutes < p % mostRoutes → getD m p 0 ≡ 1 → atPlace m p ≡ pairOfPlace p ∷ [] → AtPlace
+    noneThere : (p / mostRoutes < p % mostRoutes → getD m p 0 ≡ 1 → ⊥) → atPlace m p ≡ [] → AtPlace
+
+  -- by the test
+  pub at-place : AtPlace
+  unfolding atPlace
+  at-place = by (which (ltb (p / mostRoutes) (p % mostRoutes) and eqb (getD m p 0) 1))
+    where
+      by : Is (ltb (p / mostRoutes) (p % mostRoutes) and eqb (getD m p 0) 1) → AtPlace
+      by (holds t) = oneThere (ltb-true _ _ (and-left _ _ t)) (eqb-true _ _ (and-right _ _ t)) (chosen _ _ _ t)
+      by (fails t) = noneThere (λ h e. not-both (and-both _ _ (lt-ltb _ _ h) (eq-eqb _ _ e)) t) (passed-over _ _ _ t)
 
 -- two tables with the same at a place have the same pair there
 pub place-same : (m k : List ℕ) (p : ℕ) → getD m p 0 ≡ getD k p 0 → atPlace m p ≡ atPlace k p

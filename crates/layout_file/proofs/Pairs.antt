@@ -32,7 +32,7 @@ use Rattle.layout_file.proofs.Fields.{code-stands, reference-stands, Cl
 use Rattle.layout_file.proofs.PairPlaces.{pairOfPlace, atPlace, pairsBelow, place-listed, place-empty, place-same, first-of, second-of, pairs-few}
 
 -- the numbers of pairs and of more pairs
-numbers-append : (ps qs : List Pair) → pairNumbers (ps ++ qs) ≡ pairNumbers ps ++ pairNumbers qs
+pub numbers-append : (ps qs : List Pair) → pairNumbers (ps ++ qs) ≡ pairNumbers ps ++ pairNumbers qs
 unfolding pairNumbers flatMap
 numbers-append [] qs = refl
 numbers-append (p ∷ ps) qs = ap (λ ns. p .first ∷ p .second ∷ ns) (numbers-append ps qs)
@@ -40,34 +40,34 @@ numbers-append (p ∷ ps) qs = ap (λ ns. p .first ∷ p .second ∷ ns) (number
 -- ---- one pair more in a table
 
 -- the place of a pair
-abbrev placed : Pair → ℕ
+abbrev pub placed : Pair → ℕ
 placed p = placeOf (p .first) (p .second)
 
 module _ (m : List ℕ) (size : length m ≡ mostPairs) (p : Pair) (smaller : p .first < p .second) (few : p .second < mostRoutes) where
   -- it is listed at its own place
-  listed-own : getD (listed m p) (placed p) 0 ≡ 1
+  pub listed-own : getD (listed m p) (placed p) 0 ≡ 1
   unfolding listed placeOf
   listed-own =
       getD-set-other (set m (placed p) 1) (placeOf (p .second) (p .first)) (placed p) 1 0 (λ e. let d : mostRoutes * p .first + p .second ≡ mostRoutes * p .second + p .first = e in omega arith)
       ∙ getD-set-same m (placed p) 1 0 (omega arith)
 
   -- and at its mirror
-  listed-mirror : getD (listed m p) (placeOf (p .second) (p .first)) 0 ≡ 1
+  pub listed-mirror : getD (listed m p) (placeOf (p .second) (p .first)) 0 ≡ 1
   unfolding listed placeOf
   listed-mirror = getD-set-same (set m (placed p) 1) (placeOf (p .second) (p .first)) 1 0 (omega (arith, length-set m (placed p) 1))
 
   -- and nothing else has changed
-  listed-other : (k : ℕ) → (k ≡ placed p → ⊥) → (k ≡ placeOf (p .second) (p .first) → ⊥) → getD (listed m p) k 0 ≡ getD m k 0
+  pub listed-other : (k : ℕ) → (k ≡ placed p → ⊥) → (k ≡ placeOf (p .second) (p .first) → ⊥) → getD (listed m p) k 0 ≡ getD m k 0
   unfolding listed
   listed-other k x y = getD-set-other (set m (placed p) 1) (placeOf (p .second) (p .first)) k 1 0 y ∙ getD-set-other m (placed p) k 1 0 x
 
   -- the table keeps its length
-  listed-long : length (listed m p) ≡ mostPairs
+  pub listed-long : length (listed m p) ≡ mostPairs
   unfolding listed
   listed-long = length-set (set m (placed p) 1) (placeOf (p .second) (p .first)) 1 ∙ length-set m (placed p) 1 ∙ size
 
   -- the pair of its place is the pair itself
-  place-own : pairOfPlace (placed p) ≡ p
+  pub place-own : pairOfPlace (placed p) ≡ p
   unfolding placeOf
   place-own = rw (first-of (p .first) (p .second) few, second-of (p .first) (p .second) few)
 
@@ -182,7 +182,7 @@ module _ (s : List ℕ) (b : Bytes s) (routes : ℕ) (few : routes ≤ mostRoute
       }
 
 -- up to as many routes as the table has, all of them may be named
-named-all : (routes : ℕ) → routes ≤ mostTrainRoutes → named routes ≡ routes
+pub named-all : (routes : ℕ) → routes ≤ mostTrainRoutes → named routes ≡ routes
 unfolding named
 named-all routes few = if-both (λ r. r ≡ routes) (ltb routes mostTrainRoutes) (λ t. refl) (λ t. omega (arith, ltb-false routes mostTrainRoutes t))
 
