@@ -36,7 +36,7 @@ any-two m n h r q hr hq = go (ℕ-discrete r q)
     go (no d) = either-order (λ i j hi hj s. omega arith) (λ i hi. h i hi .1) r q hr hq d
 
 -- two entries of 0 or 1 are equal where each is 1 if the other is
-same-entry : (a b : ℕ) → a ≤ 1 → b ≤ 1 → (a ≡ 1 → b ≡ 1) → (b ≡ 1 → a ≡ 1) → a ≡ b
+pub same-entry : (a b : ℕ) → a ≤ 1 → b ≤ 1 → (a ≡ 1 → b ≡ 1) → (b ≡ 1 → a ≡ 1) → a ≡ b
 same-entry a b p q f g = go (ℕ-discrete a 1)
   where
     go : Dec (a ≡ 1) → a ≡ b

@@ -9,3 +9,5 @@ pub mod JoinsTmp
 pub mod PairPlaces
 pub mod Pairs
 pub mod PairsGiven
+pub mod Loaded
+pub mod Whole

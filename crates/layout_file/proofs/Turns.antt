@@ -39,7 +39,13 @@ module _ (s : List ℕ) {T : Type 0} (cur : T → Cursor) where
             (q .0, rw (← join-same i (part t) (part (turn i t)) (same i t l (p .0))) (stand-then s (q .1) (r .1))),
       )) .1
 
--- where turn i stores one entry at i, and reads the numbers of what it stores
+-- where turn i stores one entry at i, the list keeps its length
+pub entries-long : {T B : Type 0} (list : T → List B) (value : T → B) (turn : ℕ → T → T) → ((i : ℕ) (t : T) → list (turn i t) ≡ set (list t) i (value t))
+    → (size n : ℕ) (a : T) → length (list a) ≡ size → length (list (iter turn n a)) ≡ size
+entries-long list value turn stores size n a long =
+    iter-keeps (λ i t. length (list t) ≡ size) turn n a long (λ i t l e. rw (stores i t) (length-set (list t) i (value t) ∙ e))
+
+-- and where it reads the numbers of what it stores, with no fault those of all entries stand in the file
 module _ (s : List ℕ) {T B : Type 0} (cur : T → Cursor) (list : T → List B) (value : T → B) (none : B) (each : B → List ℕ) (turn : ℕ → T → T)
     (stores : (i : ℕ) (t : T) → list (turn i t) ≡ set (list t) i (value t)) (size : ℕ) where
   pub entries-read : (n : ℕ) (a : T) → length (list a) ≡ size → n ≤ size → ((i : ℕ) (t : T) → Over s cur t (each (value t)) (turn i t))

@@ -1,0 +1,90 @@
+-- A file that loads is the file of its layout, and the file of a layout loads as that layout.
+use Prim.Native.Nat.{ℕ, _<_, _≤_}
+use mathlib.Core.Path.{_≡_, refl, sym, ap, subst, _∙_}
+use mathlib.Core.Bool.{true, false}
+use mathlib.Core.List.{List, [], _∷_, _++_, flatten, append-nil}
+use native.Mathlib.Omega.{arith}
+use native.Mathlib.Decide.{decLt}
+use borrow.Author.Tests.{eq-eqb, eqb-true, eqb-false}
+use lib.Dec.{eqb}
+use lib.ListN.{length, getD, drop}
+use lib.Seq.{drop-length}
+use Rattle.laws.specs.Choice.{if_then_else_}
+use Rattle.laws.proofs.Choice.{if-both, chosen}
+use Rattle.numbers.specs.Form.{Bytes}
+use Rattle.track.specs.Sizes.{mostSections, mostSignals, mostRoutes, mostPairs}
+use Rattle.track.specs.declared.Counts.{Counts}
+use Rattle.track.specs.Objects.{line, route}
+use Rattle.fields.specs.declared.Cursor.{Cursor}
+use Rattle.fields.specs.Fields.{code}
+use Rattle.fields.proofs.Ranges.{code-in, code-most}
+use Rattle.file_objects.specs.Sections.{sections}
+use Rattle.file_objects.specs.Lines.{lines}
+use Rattle.file_objects.specs.Routes.{routes}
+use Rattle.pairs.specs.Pairs.{placeOf, pairs}
+use Rattle.layout.specs.declared.Layout.{Layout}
+use Rattle.layout.specs.declared.Loaded.{Loaded}
+use Rattle.layout.specs.declared.file.Whole.{Whole}
+use Rattle.layout.specs.Layout.{lineIn, routeIn, entryOf, conflict}
+use Rattle.layout.specs.Rules.{broken}
+use Rattle.layout.specs.Sound.{sound}
+use Rattle.layout.specs.Load.{start, heading, countsOf, whole, refused, finished, load}
+use Rattle.layout.proofs.Laws.{whole-few}
+use Rattle.layout_facts.specs.Loaded.{ZeroPast}
+use Rattle.layout_facts.proofs.Loaded.{loaded-whole}
+use Rattle.layout_facts.proofs.LoadedCleared.{loaded-cleared}
+use Rattle.layout_file.specs.Written.{version, listing, itemNumbers, lineNumbers, routeNumbers, pairsOf, pairNumbers, parts, written, forms, fileOf}
+use Rattle.layout_file.specs.Bare.{Bare}
+use Rattle.layout_file.proofs.Stands.{Stand, stand-none, stand-then, stand-first, stand-rest, stand-own}
+use Rattle.layout_file.proofs.Fields.{code-stands, Clear, code-gives}
+use Rattle.layout_file.proofs.Lines.{sections-stand, lines-stand, objectsOf, sections-give, lines-give}
+use Rattle.layout_file.proofs.Routes.{routes-stand, routes-give}
+use Rattle.layout_file.proofs.PairPlaces.{pairsBelow, pairs-by-place}
+use Rattle.layout_file.proofs.Pairs.{pairs-stand}
+use Rattle.layout_file.proofs.Loaded.{loaded-bare}
+
+-- ---- a file that loads
+
+-- the version that is read is the one there is
+version-read : (s : List ℕ) → code s start 1 1 .fault ≡ 0 → code s start 1 1 .value ≡ version
+version-read s e = omega (arith, code-in s start 1 1 e .1, code-most s start 1 1 refl)
+
+-- the numbers of what was read stand in the file, one part after another
+whole-stands : (s : List ℕ) → Bytes s → whole s .cur .fault ≡ 0 → pairsOf (whole s .layout) ≡ pairsBelow (whole s .layout .conflict) mostPairs
+    → Stand s 0 (written (whole s .layout)) (whole s .cur .at)
+unfolding whole heading written parts flatten lineIn routeIn
+whole-stands s b e f =
+    let q = pairs-stand s b _ _ (whole-few s refl) e in
+    let r = routes-stand s b _ _ (q .0) in
+    let l = lines-stand s b _ _ (r .0) in
+    let signals = code-stands s b _ 0 mostSignals (l .0) in
+    let p = sections-stand s b _ _ (signals .0) in
+    let n = code-stands s b _ 1 mostSections (p .0) in
+    let v = code-stands s b start 1 1 (n .0) in
+    let first : Stand s 0 (version ∷ []) (code s start 1 1 .at) = subst (λ w. Stand s 0 (w ∷ []) (code s start 1 1 .at)) (version-read s (n .0)) (v .1) in
+    rw f (stand-then s (stand-then s first (n .1)) (stand-then s (p .1) (stand-then s (signals .1) (stand-then s (l .1) (stand-then s (r .1) (stand-then s (q .1) (stand-none s _)))))))
+
+-- a load that answers 0 has read to the file's end
+loaded-end : (s : List ℕ) → load s .number ≡ 0 → whole s .cur .at ≡ length s
+unfolding load finished refused
+loaded-end s =
+    if-both (λ (a : Loaded). a .number ≡ 0 → whole s .cur .at ≡ length s) (eqb (whole s .cur .fault) 0)
+    (λ f. if-both (λ (a : Loaded). a .number ≡ 0 → whole s .cur .at ≡ length s) (eqb (whole s .cur .at) (length s))
+    (λ t e. eqb-true _ _ t) (λ t e. absurd (let z : 26 ≡ 0 = e in omega arith)))
+    (λ f e. absurd (eqb-false _ _ f e))
+
+-- section 2: a file that loads with 0 is the file of the layout that was loaded
+pub file-is-layout : (s : List ℕ) → Bytes s → load s .number ≡ 0 → s ≡ fileOf (load s .layout)
+unfolding fileOf
+file-is-layout s b e =
+    let w = loaded-whole s e in
+    let L : Layout = whole s .layout in
+    let past = subst (λ M. ZeroPast M) (w .2) (loaded-cleared s e) in
+    let p = whole-stands s b (w .0) (pairs-by-place L (whole-few s refl) (past .conflicts)) in
+    rw (w .2) (p .text ∙ ap (λ t. forms (written L) ++ t) (ap (λ n. drop n s) (loaded-end s e) ∙ drop-length s) ∙ append-nil (forms (written L)))
+
+-- two files that load as one layout are one file
+pub one-file : (s t : List ℕ) → Bytes s → Bytes t → load s .number ≡ 0 → load t .number ≡ 0 → load s .layout ≡ load t .layout → s ≡ t
+one-file s t b c e f same = file-is-layout s b e ∙ ap fileOf same ∙ sym (file-is-layout t c f)
+
+-- ---- a file that is written
