@@ -11,3 +11,4 @@ pub mod Pairs
 pub mod PairsGiven
 pub mod Loaded
 pub mod Whole
+pub mod Given

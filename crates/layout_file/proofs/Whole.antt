@@ -86,5 +86,3 @@ file-is-layout s b e =
 -- two files that load as one layout are one file
 pub one-file : (s t : List ℕ) → Bytes s → Bytes t → load s .number ≡ 0 → load t .number ≡ 0 → load s .layout ≡ load t .layout → s ≡ t
 one-file s t b c e f same = file-is-layout s b e ∙ ap fileOf same ∙ sym (file-is-layout t c f)
-
--- ---- a file that is written
