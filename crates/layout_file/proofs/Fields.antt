@@ -1,12 +1,12 @@
 -- One number of the file: with no fault it stands there in its form; and where a number in range stands, it is read with no fault.
 use Prim.Native.Nat.{ℕ, _+_, _<_, _≤_}
 use mathlib.Core.Path.{_≡_, refl, sym, ap, subst, _∙_}
-use mathlib.Core.List.{List, [], _∷_, _++_, flatMap, append-nil}
+use mathlib.Core.List.{List, [], _∷_, flatMap, append-nil}
 use native.Mathlib.Omega.{arith}
-use borrow.Author.Tests.{ltb-true, ltb-false, eqb-true, eqb-false}
+use borrow.Author.Tests.{eqb-true, eqb-false}
 use lib.Dec.{ltb, eqb}
 use lib.ListN.{length, drop}
-use Rattle.laws.proofs.Choice.{if-both, if-eq}
+use Rattle.laws.proofs.Choice.{if-both}
 use Rattle.numbers.specs.declared.Number.{Number}
 use Rattle.numbers.specs.declared.Number.the-variants.{Value, Fault}
 use Rattle.numbers.specs.Number.{largest, numberAt}

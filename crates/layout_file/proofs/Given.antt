@@ -1,5 +1,5 @@
--- The file of a layout loads as that layout.
-use Prim.Native.Nat.{ℕ, _<_, _≤_}
+-- The file of a sound layout that has nothing beside its objects loads as that layout.
+use Prim.Native.Nat.{ℕ, _<_}
 use mathlib.Core.Path.{_≡_, refl, sym, ap, subst, _∙_}
 use mathlib.Core.Bool.{true}
 use mathlib.Core.List.{List, [], _∷_, _++_, flatten, append-nil}
@@ -7,13 +7,10 @@ use mathlib.Core.Logic.{_⊎_, inl, inr, ⊎-elim}
 use native.Mathlib.Omega.{arith}
 use native.Mathlib.Decide.{decLt}
 use borrow.Author.Tests.{eq-eqb, eqb-true}
-use lib.Dec.{eqb}
 use lib.ListN.{length, getD}
-use Rattle.laws.specs.Choice.{if_then_else_}
 use Rattle.laws.proofs.Choice.{chosen}
 use Rattle.laws.proofs.Tests.{every-at}
-use Rattle.track.specs.declared.Counts.{Counts}
-use Rattle.track.specs.Sizes.{mostSections, mostSignals, mostRoutes, mostPairs}
+use Rattle.track.specs.Sizes.{mostSections, mostSignals, mostRoutes}
 use Rattle.fields.specs.declared.Cursor.{Cursor}
 use Rattle.fields.specs.Fields.{code}
 use Rattle.file_objects.specs.declared.Lines.{Lines}
@@ -23,23 +20,22 @@ use Rattle.file_objects.specs.Lines.{lines}
 use Rattle.file_objects.specs.Routes.{routes}
 use Rattle.pairs.specs.Pairs.{placeOf, pairs}
 use Rattle.layout.specs.declared.Layout.{Layout}
-use Rattle.layout.specs.declared.Loaded.{Loaded}
 use Rattle.layout.specs.declared.file.Heading.{Heading}
 use Rattle.layout.specs.declared.file.Whole.{Whole}
 use Rattle.layout.specs.Layout.{lineIn, routeIn, entryOf, conflict}
 use Rattle.layout.specs.Rules.{broken}
 use Rattle.layout.specs.Sound.{sound}
 use Rattle.layout.specs.Load.{start, heading, countsOf, whole, finished, load}
-use Rattle.layout_facts.specs.Plain.{Ranges, Conflicts, Sound}
+use Rattle.layout_facts.specs.Plain.{Ranges, Conflicts}
 use Rattle.layout_facts.proofs.Conflicts.{same-entry}
 use Rattle.layout_facts.proofs.Sound.{sound-says}
 use Rattle.layout_file.specs.Written.{version, listing, itemNumbers, lineNumbers, routeNumbers, pairsOf, pairNumbers, parts, written, fileOf}
 use Rattle.layout_file.specs.Bare.{Bare}
 use Rattle.layout_file.proofs.Stands.{Stand, stand-first, stand-rest, stand-own}
-use Rattle.layout_file.proofs.Fields.{Clear, Gave, code-gives}
+use Rattle.layout_file.proofs.Fields.{Clear, code-gives}
 use Rattle.layout_file.proofs.Lines.{objectsOf, sections-give, lines-give}
 use Rattle.layout_file.proofs.Routes.{routes-give}
-use Rattle.layout_file.proofs.PairPlaces.{pairsBelow, pairs-by-place}
+use Rattle.layout_file.proofs.PairPlaces.{pairs-by-place}
 use Rattle.layout_file.proofs.PairsGiven.{Mirrored, pairs-give}
 
 -- ---- conflicts

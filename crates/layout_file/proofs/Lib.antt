@@ -5,10 +5,10 @@ pub mod Listings
 pub mod Lists
 pub mod Lines
 pub mod Routes
-pub mod JoinsTmp
 pub mod PairPlaces
 pub mod Pairs
 pub mod PairsGiven
 pub mod Loaded
 pub mod Whole
 pub mod Given
+pub mod Files

@@ -1,23 +1,20 @@
 -- The points' own sections and the lines of a file, both ways.
-use Prim.Native.Nat.{ℕ, suc, _<_, _≤_}
-use mathlib.Core.Path.{_≡_, refl, sym, ap, subst, _∙_}
-use mathlib.Core.List.{List, [], _∷_, _++_}
-use mathlib.Core.Logic.{_⊎_, ⊎-elim}
+use Prim.Native.Nat.{ℕ, suc, _<_}
+use mathlib.Core.Path.{_≡_, refl}
+use mathlib.Core.List.{List, [], _∷_}
 use native.Mathlib.Omega.{arith}
-use lib.ListN.{length, getD, replicate, length-replicate}
+use lib.ListN.{getD, replicate, length-replicate}
 use Rattle.laws.specs.Choice.{if_then_else_}
 use Rattle.numbers.specs.Form.{Bytes}
 use Rattle.track.specs.declared.Counts.{Counts}
 use Rattle.track.specs.declared.Line.{Line}
 use Rattle.track.specs.Codes.{endA, endB}
-use Rattle.track.specs.Sizes.{mostSections, mostPoints, mostLines, mostBlocks, mostListed}
+use Rattle.track.specs.Sizes.{mostPoints, mostLines, mostBlocks}
 use Rattle.track.specs.Objects.{noLine, line, inner, entrance}
 use Rattle.track.proofs.OnlySection.{only-in}
 use Rattle.fields.specs.declared.Cursor.{Cursor}
-use Rattle.fields.specs.declared.Items.{Items}
-use Rattle.fields.specs.declared.Points.{Points}
 use Rattle.fields.specs.Fields.{code, reference}
-use Rattle.fields.specs.Lists.{items, points}
+use Rattle.fields.specs.Lists.{points}
 use Rattle.fields.proofs.Ranges.{code-most}
 use Rattle.file_objects.specs.declared.Owned.{Owned}
 use Rattle.file_objects.specs.declared.Lines.{Lines}
@@ -26,8 +23,8 @@ use Rattle.file_objects.specs.Lines.{aLine, noLines, lineTurn, linesFrom, lines
 use Rattle.file_objects.proofs.Ranges.{sections-count, lines-count}
 use Rattle.layout.specs.declared.Layout.{Layout}
 use Rattle.layout.specs.Layout.{lineIn}
-use Rattle.layout_facts.specs.Plain.{ownSection, InBlock, innerSection, entranceSignal, linePoint, linePosition, LineRanges, Ranges}
-use Rattle.layout_file.specs.Written.{listing, itemNumbers, pointNumbers, lineNumbers}
+use Rattle.layout_facts.specs.Plain.{ownSection, InBlock, innerSection, entranceSignal, linePoint, linePosition, Ranges}
+use Rattle.layout_file.specs.Written.{listing, itemNumbers, lineNumbers}
 use Rattle.layout_file.specs.Bare.{Bare}
 use Rattle.layout_file.proofs.Stands.{Stand, stand-then, stand-first, stand-rest}
 use Rattle.layout_file.proofs.Fields.{reference-stands, Clear, reference-gives}

@@ -1,17 +1,14 @@
 -- A layout that was loaded has nothing beside its objects.
-use Prim.Native.Nat.{ℕ, _<_, _≤_}
+use Prim.Native.Nat.{ℕ}
 use mathlib.Core.Path.{_≡_, refl, sym, subst, _∙_}
 use mathlib.Core.List.{List}
-use native.Mathlib.Omega.{arith}
 use borrow.Author.Tests.{eq-eqb}
-use lib.Dec.{eqb}
-use lib.ListN.{length, getD, set, length-set, length-replicate}
+use lib.ListN.{length, set, length-set, length-replicate}
 use Rattle.laws.specs.Choice.{if_then_else_}
 use Rattle.laws.proofs.Arrays.{nothing-at}
 use Rattle.laws.proofs.Loops.{iter-keeps}
 use Rattle.laws.proofs.Stores.{turns-all}
 use Rattle.track.specs.declared.Counts.{Counts}
-use Rattle.track.specs.declared.Line.{Line}
 use Rattle.track.specs.declared.Route.{Route}
 use Rattle.track.specs.Codes.{endA, innerRoute}
 use Rattle.track.specs.Sizes.{mostPoints, mostLines, mostTrainRoutes, mostListed, mostPairs}

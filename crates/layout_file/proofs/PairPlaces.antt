@@ -1,12 +1,11 @@
 -- The pairs of a table of conflicts, place by place: those below a place, and all of them.
 use Prim.Native.Nat.{ℕ, zero, suc, _+_, _-_, _*_, _/_, _%_, _<_, _≤_}
-use mathlib.Core.Path.{_≡_, refl, sym, ap, ap₂, subst, _∙_}
-use mathlib.Core.Bool.{true, false}
+use mathlib.Core.Path.{_≡_, sym, ap, _∙_}
 use mathlib.Core.List.{List, [], _∷_, _++_, append-nil}
 use mathlib.Core.Logic.{_⊎_, inl, inr, ⊎-elim}
 use native.Mathlib.Omega.{arith}
 use native.Mathlib.Decide.{decLt}
-use borrow.Author.Tests.{lt-ltb, ltb-true, ltb-false, eq-eqb, eqb-true, eqb-false, le-ltb, ne-eqb}
+use borrow.Author.Tests.{lt-ltb, ltb-true, eq-eqb, eqb-true}
 use lib.Dec.{eqb, ltb}
 use lib.ListN.{length, getD, length-append}
 use Rattle.laws.specs.Choice.{if_then_else_}
@@ -14,14 +13,13 @@ use Rattle.laws.specs.Tests.{_and_}
 use Rattle.laws.specs.Tables.{join}
 use Rattle.laws.proofs.Choice.{if-both, chosen, passed-over, Is, which, holds, fails}
 use Rattle.laws.proofs.Tests.{and-both, and-left, and-right, fails-from, not-both}
-use Rattle.laws.proofs.Joins.{join-same, join-rest}
-use Rattle.track.specs.Sizes.{mostTrainRoutes, mostRoutes, mostPairs, mostConflicts}
+use Rattle.laws.proofs.Joins.{join-same, join-rest, join-rows}
+use Rattle.track.specs.Sizes.{mostRoutes, mostPairs, mostConflicts}
 use Rattle.pairs.specs.declared.Pair.{Pair}
 use Rattle.pairs.specs.Pairs.{placeOf}
 use Rattle.layout.specs.declared.Layout.{Layout}
 use Rattle.layout.specs.Layout.{entryOf, conflict}
 use Rattle.layout_file.specs.Written.{pairAt, pairsOf}
-use Rattle.layout_file.proofs.JoinsTmp.{join-rows}
 
 -- ---- one place
 

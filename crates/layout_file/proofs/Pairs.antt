@@ -1,20 +1,18 @@
 -- The conflicts of a file, both ways: the pairs that were read stand there and are those of the table; and pairs that stand there make the table.
-use Prim.Native.Nat.{ℕ, zero, suc, _+_, _-_, _*_, _/_, _%_, _<_, _≤_}
-use mathlib.Core.Path.{_≡_, refl, sym, ap, ap₂, subst, _∙_}
-use mathlib.Core.Bool.{true, false}
-use mathlib.Core.List.{List, [], _∷_, _++_, flatMap, append-nil, append-assoc}
-use mathlib.Core.Logic.{_⊎_, inl, inr, ⊎-elim}
+use Prim.Native.Nat.{ℕ, zero, suc, _+_, _-_, _*_, _<_, _≤_}
+use mathlib.Core.Path.{_≡_, refl, sym, ap, ap₂, _∙_}
+use mathlib.Core.Bool.{true}
+use mathlib.Core.List.{List, [], _∷_, _++_, flatMap}
+use mathlib.Core.Logic.{⊎-elim}
 use native.Mathlib.Omega.{arith}
-use native.Mathlib.Decide.{ℕ-discrete, decLt}
-use borrow.Author.Tests.{ltb-true, ltb-false, eqb-true, eqb-false, lt-ltb, eq-eqb}
+use native.Mathlib.Decide.{ℕ-discrete}
+use borrow.Author.Tests.{ltb-true, ltb-false, eqb-true, eqb-false}
 use lib.Dec.{eqb, ltb}
 use lib.ListN.{length, getD, set, length-append, length-set, length-replicate}
-use lib.Seq.{getD-set-same, getD-set-other, ext-getD}
-use Rattle.laws.specs.Choice.{if_then_else_}
-use Rattle.laws.specs.Tests.{_and_, _or_}
-use Rattle.laws.specs.Tables.{join, iter}
-use Rattle.laws.proofs.Choice.{if-both, chosen, passed-over, which, holds, fails}
-use Rattle.laws.proofs.Tests.{and-both, and-left, and-right, or-cases, or-left, or-right}
+use lib.Seq.{getD-set-same, getD-set-other}
+use Rattle.laws.specs.Tables.{join}
+use Rattle.laws.proofs.Choice.{if-both}
+use Rattle.laws.proofs.Tests.{and-left, and-right, or-cases}
 use Rattle.laws.proofs.Arrays.{nothing-at}
 use Rattle.laws.proofs.Loops.{iter-keeps}
 use Rattle.laws.proofs.Joins.{join-same, join-rest}
@@ -27,9 +25,9 @@ use Rattle.pairs.specs.declared.Pair.{Pair}
 use Rattle.pairs.specs.declared.Pairs.{Pairs}
 use Rattle.pairs.specs.Pairs.{placeOf, noPairs, counted, pairCount, comesAfter, inOrder, pairOf, ordered, aPair, listed, pairTurn, noPair, pairsFrom, named, pairs}
 use Rattle.layout_file.specs.Written.{pairNumbers}
-use Rattle.layout_file.proofs.Stands.{Stand, stand-none, stand-then, stand-first, stand-rest}
-use Rattle.layout_file.proofs.Fields.{code-stands, reference-stands, Clear, code-gives, reference-gives}
-use Rattle.layout_file.proofs.PairPlaces.{pairOfPlace, atPlace, pairsBelow, place-listed, place-empty, place-same, first-of, second-of, pairs-few}
+use Rattle.layout_file.proofs.Stands.{Stand, stand-none, stand-then}
+use Rattle.layout_file.proofs.Fields.{code-stands, reference-stands}
+use Rattle.layout_file.proofs.PairPlaces.{pairOfPlace, atPlace, pairsBelow, place-listed, place-empty, place-same, first-of, second-of}
 
 -- the numbers of pairs and of more pairs
 pub numbers-append : (ps qs : List Pair) → pairNumbers (ps ++ qs) ≡ pairNumbers ps ++ pairNumbers qs

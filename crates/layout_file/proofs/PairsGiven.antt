@@ -1,9 +1,8 @@
 -- The conflicts of a file the other way: where the pairs of a table stand, the table is read.
 use Prim.Native.Nat.{ℕ, zero, suc, _+_, _-_, _*_, _/_, _%_, _<_, _≤_}
-use mathlib.Core.Path.{_≡_, refl, sym, ap, ap₂, subst, _∙_}
-use mathlib.Core.Bool.{true, false}
+use mathlib.Core.Path.{_≡_, sym, ap, subst, _∙_}
+use mathlib.Core.Bool.{true}
 use mathlib.Core.List.{List, [], _∷_, _++_, flatMap, append-nil}
-use mathlib.Core.Logic.{_⊎_, inl, inr, ⊎-elim}
 use native.Mathlib.Omega.{arith}
 use native.Mathlib.Decide.{ℕ-discrete, decLt}
 use borrow.Author.Tests.{lt-ltb, eq-eqb}
@@ -11,7 +10,6 @@ use native.Mathlib.Numerals.{add-one}
 use lib.Dec.{eqb, ltb}
 use lib.ListN.{length, getD, length-append, length-replicate}
 use lib.Seq.{ext-getD}
-use Rattle.laws.specs.Choice.{if_then_else_}
 use Rattle.laws.specs.Tests.{_and_, _or_}
 use Rattle.laws.specs.Tables.{join, iter}
 use Rattle.laws.proofs.Choice.{chosen}
@@ -22,10 +20,10 @@ use Rattle.fields.specs.declared.Cursor.{Cursor}
 use Rattle.fields.specs.Fields.{code, reference}
 use Rattle.pairs.specs.declared.Pair.{Pair}
 use Rattle.pairs.specs.declared.Pairs.{Pairs}
-use Rattle.pairs.specs.Pairs.{placeOf, noPairs, counted, pairCount, comesAfter, inOrder, pairOf, ordered, aPair, listed, pairTurn, noPair, pairsFrom, named, pairs}
+use Rattle.pairs.specs.Pairs.{placeOf, noPairs, counted, pairCount, comesAfter, inOrder, pairOf, ordered, aPair, listed, pairTurn, noPair, pairsFrom, pairs}
 use Rattle.layout_file.specs.Written.{pairNumbers}
 use Rattle.layout_file.proofs.Stands.{Stand, stand-here, stand-first, stand-rest}
-use Rattle.layout_file.proofs.Fields.{Clear, Gave, code-gives, reference-gives}
+use Rattle.layout_file.proofs.Fields.{Clear, code-gives, reference-gives}
 use Rattle.layout_file.proofs.PairPlaces.{pairOfPlace, atPlace, pairsBelow, AtPlace, oneThere, noneThere, at-place, pairs-few}
 use Rattle.layout_file.proofs.Pairs.{placed, numbers-append, listed-own, listed-mirror, listed-other, listed-long, named-all}
 

@@ -1,33 +1,31 @@
 -- The routes of a file, both ways.
 use Prim.Native.Nat.{ℕ, suc, _<_, _≤_}
-use mathlib.Core.Path.{_≡_, refl, sym, ap, subst, _∙_}
-use mathlib.Core.Bool.{true, false}
-use mathlib.Core.List.{List, [], _∷_, _++_}
-use mathlib.Core.Logic.{_⊎_, ⊎-elim}
+use mathlib.Core.Path.{_≡_, refl, sym, subst, _∙_}
+use mathlib.Core.List.{List, [], _∷_}
+use mathlib.Core.Logic.{_⊎_}
 use native.Mathlib.Omega.{arith}
 use borrow.Author.Tests.{eqb-true, eqb-false}
 use lib.Dec.{eqb}
-use lib.ListN.{length, getD, replicate, length-replicate}
+use lib.ListN.{replicate, length-replicate}
 use Rattle.laws.specs.Choice.{if_then_else_}
-use Rattle.laws.proofs.Choice.{if-both, Is, which, holds, fails, chosen, passed-over}
+use Rattle.laws.proofs.Choice.{Is, which, holds, fails}
 use Rattle.numbers.specs.Form.{Bytes}
 use Rattle.track.specs.declared.Counts.{Counts}
 use Rattle.track.specs.declared.Route.{Route}
 use Rattle.track.specs.Codes.{endA, endB, innerRoute, entranceRoute, exitRoute}
-use Rattle.track.specs.Sizes.{mostSections, mostLines, mostTrainRoutes, mostListed, mostOverlap}
+use Rattle.track.specs.Sizes.{mostLines, mostTrainRoutes, mostListed, mostOverlap}
 use Rattle.track.specs.Objects.{noRoute, route}
 use Rattle.fields.specs.declared.Cursor.{Cursor}
 use Rattle.fields.specs.Fields.{code, reference}
 use Rattle.fields.proofs.Ranges.{code-most}
-use Rattle.file_objects.specs.declared.End.{End}
 use Rattle.file_objects.specs.declared.Routes.{Routes}
 use Rattle.file_objects.specs.Routes.{anEnd, lineAndEnd, routeHead, aRoute, noRoutes, routeTurn, routesFrom, routes}
 use Rattle.file_objects.proofs.Ranges.{routes-count}
 use Rattle.layout.specs.declared.Layout.{Layout}
 use Rattle.layout.specs.Layout.{routeIn}
-use Rattle.layout_facts.specs.Plain.{path, overlap, routePoint, routePosition, RouteRanges, Ranges}
+use Rattle.layout_facts.specs.Plain.{path, overlap, routePoint, routePosition, Ranges}
 use Rattle.layout_facts.proofs.Order.{one-of}
-use Rattle.layout_file.specs.Written.{listing, itemNumbers, pointNumbers, endNumbers, routeNumbers}
+use Rattle.layout_file.specs.Written.{listing, itemNumbers, endNumbers, routeNumbers}
 use Rattle.layout_file.specs.Bare.{Bare}
 use Rattle.layout_file.proofs.Stands.{Stand, stand-none, stand-here, stand-then, stand-first, stand-rest}
 use Rattle.layout_file.proofs.Fields.{code-stands, reference-stands, Clear, code-gives, reference-gives}

@@ -1,13 +1,12 @@
 -- Numbers that stand in a file in their forms, one after another: put together, cut, and taken one by one in turns.
-use Prim.Native.Nat.{ℕ, zero, suc, _+_, _<_, _≤_}
+use Prim.Native.Nat.{ℕ, zero, suc, _+_, _<_}
 use mathlib.Core.Path.{_≡_, refl, sym, ap, subst, _∙_}
 use mathlib.Core.List.{List, [], _∷_, _++_, flatMap, append-assoc, append-nil}
 use native.Mathlib.Nat.{add-zero, le-refl}
 use native.Mathlib.Omega.{arith}
-use lib.ListN.{length, drop, length-append, drop-of-length-le}
+use lib.ListN.{length, drop, length-append}
 use lib.Seq.{drop-drop, drop-append-seam, drop-length}
 use Rattle.laws.specs.Tables.{join, iter}
-use Rattle.laws.proofs.Loops.{iter-keeps}
 use Rattle.numbers.specs.Form.{encode}
 use Rattle.layout_file.specs.Written.{forms}
 

@@ -1,7 +1,7 @@
 -- A list of the file, one entry in each turn: with no fault the entries that were stored stand in the file; and entries that stand there are stored.
-use Prim.Native.Nat.{ℕ, zero, suc, _<_, _≤_}
-use mathlib.Core.Path.{_≡_, refl, sym, ap, _∙_}
-use mathlib.Core.List.{List, [], _∷_, _++_}
+use Prim.Native.Nat.{ℕ, suc, _<_, _≤_}
+use mathlib.Core.Path.{_≡_, sym, ap, _∙_}
+use mathlib.Core.List.{List}
 use native.Mathlib.Nat.{not-suc-le-zero}
 use native.Mathlib.Decide.{decLt}
 use native.Mathlib.Omega.{arith}
@@ -10,7 +10,7 @@ use lib.Seq.{getD-set-same, getD-set-other, ext-getD}
 use Rattle.laws.specs.Tables.{join, iter}
 use Rattle.laws.proofs.Loops.{iter-keeps}
 use Rattle.laws.proofs.Joins.{join-same}
-use Rattle.laws.proofs.Arrays.{nothing-at, stored}
+use Rattle.laws.proofs.Arrays.{nothing-at}
 use Rattle.fields.specs.declared.Cursor.{Cursor}
 use Rattle.layout_file.proofs.Stands.{Stand, stand-none, stand-then}
 

@@ -1,47 +1,32 @@
--- A file that loads is the file of its layout, and the file of a layout loads as that layout.
-use Prim.Native.Nat.{ℕ, _<_, _≤_}
+-- A file that loads is the file of its layout.
+use Prim.Native.Nat.{ℕ}
 use mathlib.Core.Path.{_≡_, refl, sym, ap, subst, _∙_}
-use mathlib.Core.Bool.{true, false}
 use mathlib.Core.List.{List, [], _∷_, _++_, flatten, append-nil}
 use native.Mathlib.Omega.{arith}
-use native.Mathlib.Decide.{decLt}
-use borrow.Author.Tests.{eq-eqb, eqb-true, eqb-false}
+use borrow.Author.Tests.{eqb-true, eqb-false}
 use lib.Dec.{eqb}
-use lib.ListN.{length, getD, drop}
+use lib.ListN.{length, drop}
 use lib.Seq.{drop-length}
-use Rattle.laws.specs.Choice.{if_then_else_}
-use Rattle.laws.proofs.Choice.{if-both, chosen}
+use Rattle.laws.proofs.Choice.{if-both}
 use Rattle.numbers.specs.Form.{Bytes}
-use Rattle.track.specs.Sizes.{mostSections, mostSignals, mostRoutes, mostPairs}
-use Rattle.track.specs.declared.Counts.{Counts}
-use Rattle.track.specs.Objects.{line, route}
-use Rattle.fields.specs.declared.Cursor.{Cursor}
+use Rattle.track.specs.Sizes.{mostSections, mostSignals, mostPairs}
 use Rattle.fields.specs.Fields.{code}
 use Rattle.fields.proofs.Ranges.{code-in, code-most}
-use Rattle.file_objects.specs.Sections.{sections}
-use Rattle.file_objects.specs.Lines.{lines}
-use Rattle.file_objects.specs.Routes.{routes}
-use Rattle.pairs.specs.Pairs.{placeOf, pairs}
 use Rattle.layout.specs.declared.Layout.{Layout}
 use Rattle.layout.specs.declared.Loaded.{Loaded}
-use Rattle.layout.specs.declared.file.Whole.{Whole}
-use Rattle.layout.specs.Layout.{lineIn, routeIn, entryOf, conflict}
-use Rattle.layout.specs.Rules.{broken}
-use Rattle.layout.specs.Sound.{sound}
-use Rattle.layout.specs.Load.{start, heading, countsOf, whole, refused, finished, load}
+use Rattle.layout.specs.Layout.{lineIn, routeIn, conflict}
+use Rattle.layout.specs.Load.{start, heading, whole, refused, finished, load}
 use Rattle.layout.proofs.Laws.{whole-few}
 use Rattle.layout_facts.specs.Loaded.{ZeroPast}
 use Rattle.layout_facts.proofs.Loaded.{loaded-whole}
 use Rattle.layout_facts.proofs.LoadedCleared.{loaded-cleared}
-use Rattle.layout_file.specs.Written.{version, listing, itemNumbers, lineNumbers, routeNumbers, pairsOf, pairNumbers, parts, written, forms, fileOf}
-use Rattle.layout_file.specs.Bare.{Bare}
-use Rattle.layout_file.proofs.Stands.{Stand, stand-none, stand-then, stand-first, stand-rest, stand-own}
-use Rattle.layout_file.proofs.Fields.{code-stands, Clear, code-gives}
-use Rattle.layout_file.proofs.Lines.{sections-stand, lines-stand, objectsOf, sections-give, lines-give}
-use Rattle.layout_file.proofs.Routes.{routes-stand, routes-give}
+use Rattle.layout_file.specs.Written.{version, pairsOf, parts, written, forms, fileOf}
+use Rattle.layout_file.proofs.Stands.{Stand, stand-none, stand-then}
+use Rattle.layout_file.proofs.Fields.{code-stands}
+use Rattle.layout_file.proofs.Lines.{sections-stand, lines-stand}
+use Rattle.layout_file.proofs.Routes.{routes-stand}
 use Rattle.layout_file.proofs.PairPlaces.{pairsBelow, pairs-by-place}
 use Rattle.layout_file.proofs.Pairs.{pairs-stand}
-use Rattle.layout_file.proofs.Loaded.{loaded-bare}
 
 -- ---- a file that loads
 
@@ -82,7 +67,3 @@ file-is-layout s b e =
     let past = subst (λ M. ZeroPast M) (w .2) (loaded-cleared s e) in
     let p = whole-stands s b (w .0) (pairs-by-place L (whole-few s refl) (past .conflicts)) in
     rw (w .2) (p .text ∙ ap (λ t. forms (written L) ++ t) (ap (λ n. drop n s) (loaded-end s e) ∙ drop-length s) ∙ append-nil (forms (written L)))
-
--- two files that load as one layout are one file
-pub one-file : (s t : List ℕ) → Bytes s → Bytes t → load s .number ≡ 0 → load t .number ≡ 0 → load s .layout ≡ load t .layout → s ≡ t
-one-file s t b c e f same = file-is-layout s b e ∙ ap fileOf same ∙ sym (file-is-layout t c f)
