@@ -33,7 +33,7 @@ bytes-append (x ∷ xs) ys b c (suc i) = bytes-append xs ys (λ k. b (suc k)) c 
 -- a number's form: each group is below 128, and the top bit is 128
 form-bytes : (k n : ℕ) → Bytes (encodeIn k n)
 unfolding encodeIn
-form-bytes zero n i = omega arith
+form-bytes zero n = λ i. omega arith
 form-bytes (suc k) n =
     if-both Bytes (ltb n 128) (λ t. bytes-append (n ∷ []) [] (one n (omega (arith, ltb-true n 128 t))) (λ i. omega arith))
     (λ t. bytes-append (_ ∷ []) (encodeIn k _) (one _ (omega arith)) (form-bytes k _))
@@ -46,7 +46,7 @@ form-bytes (suc k) n =
 -- the forms of numbers
 forms-bytes : (ns : List ℕ) → Bytes (forms ns)
 unfolding forms flatMap encode
-forms-bytes [] i = omega arith
+forms-bytes [] = λ i. omega arith
 forms-bytes (n ∷ ns) = bytes-append (encodeIn maxGroups n) (forms ns) (form-bytes maxGroups n) (forms-bytes ns)
 
 -- so the file of a layout

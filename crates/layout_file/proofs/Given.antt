@@ -2,7 +2,7 @@
 use Prim.Native.Nat.{ℕ, _<_}
 use mathlib.Core.Path.{_≡_, refl, sym, ap, subst, _∙_}
 use mathlib.Core.Bool.{true}
-use mathlib.Core.List.{List, [], _∷_, _++_, flatten, append-nil}
+use mathlib.Core.List.{List, [], _∷_, _++_, flatten}
 use mathlib.Core.Logic.{_⊎_, inl, inr, ⊎-elim}
 use native.Mathlib.Omega.{arith}
 use native.Mathlib.Decide.{decLt}
@@ -31,7 +31,7 @@ use Rattle.layout_facts.proofs.Conflicts.{same-entry}
 use Rattle.layout_facts.proofs.Sound.{sound-says}
 use Rattle.layout_file.specs.Written.{version, listing, itemNumbers, lineNumbers, routeNumbers, pairsOf, pairNumbers, parts, written, fileOf}
 use Rattle.layout_file.specs.Bare.{Bare}
-use Rattle.layout_file.proofs.Stands.{Stand, stand-first, stand-rest, stand-own}
+use Rattle.layout_file.proofs.Stands.{Stand, stand-first, stand-rest, stand-last, stand-own}
 use Rattle.layout_file.proofs.Fields.{Clear, code-gives}
 use Rattle.layout_file.proofs.Lines.{objectsOf, sections-give, lines-give}
 use Rattle.layout_file.proofs.Routes.{routes-give}
@@ -86,7 +86,7 @@ module _ (s : List ℕ) (L : Layout) (ranges : Ranges L) (bare : Bare L) where
       let n = code-gives s _ 1 mostSections _ (L .sections) a₁ (v .clear) (stand-rest s 0 a₁ (version ∷ []) (L .sections ∷ []) p₁) (ranges .sectionCount .0) (ranges .sectionCount .1) (omega arith) in
       let b : Cursor = code s (code s start 1 1) 1 mostSections in
       let o = subst (λ m. Clear (sections s b m .cur) a₂ × (sections s b m .count ≡ L .points) × (sections s b m .section ≡ L .pointsection)) (sym (n .value))
-          (sections-give s L ranges bare b a₁ a₂ (n .clear) p₂) in
+      (sections-give s L ranges bare b a₁ a₂ (n .clear) p₂) in
       let d = code-gives s _ 0 mostSignals a₂ (L .signals) a₃ (o .0) p₃ (omega arith) (ranges .signalCount) (omega arith) in
       record { clear = d .clear; sections = n .value; points = o .1; pointsection = o .2; signals = d .value }
 
@@ -123,7 +123,7 @@ module _ (s : List ℕ) (L : Layout) (ranges : Ranges L) (bare : Bare L) where
         subst (λ m. Clear (pairs s m (allRoutes .cur) .cur) next × (pairs s m (allRoutes .cur) .conflict ≡ L .conflict)) (sym n)
         (pairs-give s (L .conflict) (L .routes) (ranges .routeCount) (conflicts-mirrored L C bare) (allRoutes .cur) a₅ next k
         (subst (λ ps. Stand s a₅ (length ps ∷ pairNumbers ps) next) (pairs-by-place L (ranges .routeCount) (bare .past .conflicts))
-        (subst (λ ns. Stand s a₅ ns next) (append-nil (length (pairsOf L) ∷ pairNumbers (pairsOf L))) p)))
+        (stand-last s a₅ next _ p)))
 
   -- the whole file
   whole-gives : (C : Conflicts L) (next : ℕ) → Stand s 0 (written L) next → Clear (whole s .cur) next × (whole s .layout ≡ L)
@@ -135,7 +135,7 @@ module _ (s : List ℕ) (L : Layout) (ranges : Ranges L) (bare : Bare L) where
       let p₄ = stand-rest s _ next (listing (L .lines) (λ l. lineNumbers (lineIn L l))) _ p₃ in
       let p₅ = stand-rest s _ next (listing (L .routes) (λ r. routeNumbers (routeIn L r))) _ p₄ in
       let g = heading-gives _ _ _ (stand-first s 0 next (version ∷ L .sections ∷ []) _ p) (stand-first s _ next (itemNumbers (L .points) (L .pointsection)) _ p₁)
-          (stand-first s _ next (L .signals ∷ []) _ p₂) in
+      (stand-first s _ next (L .signals ∷ []) _ p₂) in
       let l = then-lines (heading s) _ _ next next g (stand-first s _ next (listing (L .lines) (λ l. lineNumbers (lineIn L l))) _ p₃) in
       let r = then-routes (heading s) _ _ _ next g (l .0) (l .1) (stand-first s _ next (listing (L .routes) (λ r. routeNumbers (routeIn L r))) _ p₄) in
       let q = then-pairs (heading s) _ next _ next g C (r .0) (r .1) p₅ in

@@ -1,7 +1,7 @@
 -- The points' own sections and the lines of a file, both ways.
 use Prim.Native.Nat.{ℕ, suc, _<_}
 use mathlib.Core.Path.{_≡_, refl}
-use mathlib.Core.List.{List, [], _∷_}
+use mathlib.Core.List.{List, [], _∷_, flatten}
 use native.Mathlib.Omega.{arith}
 use lib.ListN.{getD, replicate, length-replicate}
 use Rattle.laws.specs.Choice.{if_then_else_}
@@ -26,7 +26,7 @@ use Rattle.layout.specs.Layout.{lineIn}
 use Rattle.layout_facts.specs.Plain.{ownSection, InBlock, innerSection, entranceSignal, linePoint, linePosition, Ranges}
 use Rattle.layout_file.specs.Written.{listing, itemNumbers, lineNumbers}
 use Rattle.layout_file.specs.Bare.{Bare}
-use Rattle.layout_file.proofs.Stands.{Stand, stand-then, stand-first, stand-rest}
+use Rattle.layout_file.proofs.Stands.{Stand, stand-none, stand-then, stand-first, stand-rest, stand-last}
 use Rattle.layout_file.proofs.Fields.{reference-stands, Clear, reference-gives}
 use Rattle.layout_file.proofs.Listings.{listing-stands, listing-gives}
 use Rattle.layout_file.proofs.Turns.{entries-read, Copied, copied-start, copied-on, copied-all}
@@ -46,7 +46,7 @@ sections-stand s b c objects e =
 module _ (s : List ℕ) (b : Bytes s) (n : Counts) (c : Cursor) where
   -- a line: its six reads one after another
   line-stands : aLine s n c .cur .fault ≡ 0 → (c .fault ≡ 0) × Stand s (c .at) (lineNumbers (aLine s n c .line)) (aLine s n c .cur .at)
-  unfolding aLine lineNumbers
+  unfolding aLine lineNumbers flatten
   line-stands e =
       let p = points-stand s b _ (n .points) e in
       let entranceb = reference-stands s b _ (n .signals) (p .0) in
@@ -54,7 +54,8 @@ module _ (s : List ℕ) (b : Bytes s) (n : Counts) (c : Cursor) where
       let innerb = reference-stands s b _ (n .sections) (entrancea .0) in
       let innera = reference-stands s b _ (n .sections) (innerb .0) in
       let blocks = items-stand s b c 1 mostBlocks (n .sections) (omega arith) (innera .0) in
-      (blocks .0, stand-then s (blocks .1) (stand-then s (innera .1) (stand-then s (innerb .1) (stand-then s (entrancea .1) (stand-then s (entranceb .1) (p .1))))))
+      let ends = stand-then s (innera .1) (stand-then s (innerb .1) (stand-then s (entrancea .1) (entranceb .1))) in
+      (blocks .0, stand-then s (blocks .1) (stand-then s ends (stand-then s (p .1) (stand-none s _))))
 
 -- all lines
 pub lines-stand : (s : List ℕ) → Bytes s → (n : Counts) (c : Cursor) → lines s n c .cur .fault ≡ 0
@@ -78,9 +79,9 @@ module _ (s : List ℕ) (L : Layout) (ranges : Ranges L) (bare : Bare L) (c : Cu
   unfolding itemNumbers sections sectionTurn noSections ownSection
   sections-give p =
       let r =
-          listing-gives s c 0 mostPoints (sectionTurn s (L .sections)) (λ v. record { cur = code s c 0 mostPoints; count = v; section = replicate mostPoints 0 }) Done
-          (λ i. getD (L .pointsection) i 0 ∷ []) at (L .points) next k (omega arith) (ranges .pointCount) (omega arith)
-          (λ mid d. (d, refl, copied-start mostPoints 0 (L .pointsection))) turn p in
+      listing-gives s c 0 mostPoints (sectionTurn s (L .sections)) (λ v. record { cur = code s c 0 mostPoints; count = v; section = replicate mostPoints 0 }) Done
+      (λ i. getD (L .pointsection) i 0 ∷ []) at (L .points) next k (omega arith) (ranges .pointCount) (omega arith)
+      (λ mid d. (d, refl, copied-start mostPoints 0 (L .pointsection))) turn p in
       (r .0, r .1, copied-all mostPoints 0 (L .pointsection) (L .points) _ (bare .tables .pointsection) (bare .past .sections) (r .2))
     where
       -- after i turns
@@ -96,26 +97,28 @@ module _ (s : List ℕ) (L : Layout) (ranges : Ranges L) (bare : Bare L) (c : Cu
   -- a line: what is read of it, one after another, is what it has
   line-gives : (m l : ℕ) → l < L .lines → Stand s at (lineNumbers (lineIn L l)) next
       → Clear (aLine s (objectsOf L m) c .cur) next × (aLine s (objectsOf L m) c .line ≡ lineIn L l)
-  unfolding aLine lineNumbers InBlock innerSection entranceSignal inner entrance if_then_else_ linePoint linePosition
+  unfolding aLine lineNumbers flatten InBlock innerSection entranceSignal inner entrance if_then_else_ linePoint linePosition
   line-gives m l h p =
       let a : Line = lineIn L l in
       let f = ranges .lines l h in
       let t = bare .tables .lines l in
       let z = bare .past in
       let few = ranges .sectionCount .1 in
+      let ends : List ℕ = a .innera ∷ a .innerb ∷ a .entrancea ∷ a .entranceb ∷ [] in
       let p₁ = stand-rest s at next (itemNumbers (a .blocks) (a .block)) _ p in
-      let p₂ = stand-rest s _ next (a .innera ∷ []) _ p₁ in
-      let p₃ = stand-rest s _ next (a .innerb ∷ []) _ p₂ in
-      let p₄ = stand-rest s _ next (a .entrancea ∷ []) _ p₃ in
-      let p₅ = stand-rest s _ next (a .entranceb ∷ []) _ p₄ in
+      let p₂ = stand-rest s _ next ends _ p₁ in
+      let q₁ = stand-first s _ next ends _ p₁ in
+      let q₂ = stand-rest s _ _ (a .innera ∷ []) _ q₁ in
+      let q₃ = stand-rest s _ _ (a .innerb ∷ []) _ q₂ in
+      let q₄ = stand-rest s _ _ (a .entrancea ∷ []) (a .entranceb ∷ []) q₃ in
       let b = items-give s c (L .sections) at _ (a .blocks) k few 1 mostBlocks (a .block) (f .blockCount .0) (f .blockCount .1) (omega arith)
-          (λ i j. f .blocks i _ j (only-in a i)) (t .block) (z .blocks l) (stand-first s at next (itemNumbers (a .blocks) (a .block)) _ p) in
-      let innera = reference-gives s _ (L .sections) _ (a .innera) _ (b .0) (stand-first s _ next (a .innera ∷ []) _ p₁) (f .inners endA (omega arith)) (omega arith) in
-      let innerb = reference-gives s _ (L .sections) _ (a .innerb) _ (innera .clear) (stand-first s _ next (a .innerb ∷ []) _ p₂) (f .inners endB (omega arith)) (omega arith) in
-      let entrancea = reference-gives s _ (L .signals) _ (a .entrancea) _ (innerb .clear) (stand-first s _ next (a .entrancea ∷ []) _ p₃) (f .entrances endA (omega arith)) (omega (arith, ranges .signalCount)) in
-      let entranceb = reference-gives s _ (L .signals) _ (a .entranceb) _ (entrancea .clear) (stand-first s _ next (a .entranceb ∷ []) _ p₄) (f .entrances endB (omega arith)) (omega (arith, ranges .signalCount)) in
+      (λ i j. f .blocks i _ j (only-in a i)) (t .block) (z .blocks l) (stand-first s at next (itemNumbers (a .blocks) (a .block)) _ p) in
+      let innera = reference-gives s _ (L .sections) _ (a .innera) _ (b .0) (stand-first s _ _ (a .innera ∷ []) _ q₁) (f .inners endA (omega arith)) (omega arith) in
+      let innerb = reference-gives s _ (L .sections) _ (a .innerb) _ (innera .clear) (stand-first s _ _ (a .innerb ∷ []) _ q₂) (f .inners endB (omega arith)) (omega arith) in
+      let entrancea = reference-gives s _ (L .signals) _ (a .entrancea) _ (innerb .clear) (stand-first s _ _ (a .entrancea ∷ []) (a .entranceb ∷ []) q₃) (f .entrances endA (omega arith)) (omega (arith, ranges .signalCount)) in
+      let entranceb = reference-gives s _ (L .signals) _ (a .entranceb) _ (entrancea .clear) q₄ (f .entrances endB (omega arith)) (omega (arith, ranges .signalCount)) in
       let q = points-give s _ (L .points) _ next (a .points) (entranceb .clear) (omega (arith, ranges .pointCount)) (a .point) (a .position) (f .pointCount) (f .points) (f .positions)
-          (t .point, t .position) (z .line-points l) p₅ in
+      (t .point, t .position) (z .line-points l) (stand-last s _ next _ p₂) in
       (q .0, rw (q .3, q .2, q .1, entranceb .value, entrancea .value, innerb .value, innera .value, b .2, b .1))
 
 -- all lines
@@ -125,9 +128,9 @@ pub lines-give : (s : List ℕ) (L : Layout) (ranges : Ranges L) (bare : Bare L)
 unfolding lines linesFrom lineTurn noLines lineIn line
 lines-give s L ranges bare c at next m k p =
     let r =
-        listing-gives s c 0 mostLines (lineTurn s (objectsOf L m)) (λ v. record { cur = code s c 0 mostLines; count = v; line = replicate mostLines noLine }) Done
-        (λ l. lineNumbers (lineIn L l)) at (L .lines) next k (omega arith) (ranges .lineCount) (omega arith)
-        (λ mid d. (d, refl, copied-start mostLines noLine (L .line))) turn p in
+    listing-gives s c 0 mostLines (lineTurn s (objectsOf L m)) (λ v. record { cur = code s c 0 mostLines; count = v; line = replicate mostLines noLine }) Done
+    (λ l. lineNumbers (lineIn L l)) at (L .lines) next k (omega arith) (ranges .lineCount) (omega arith)
+    (λ mid d. (d, refl, copied-start mostLines noLine (L .line))) turn p in
     (r .0, r .1, copied-all mostLines noLine (L .line) (L .lines) _ (bare .tables .line) (bare .past .lines) (r .2))
   where
     -- after i turns

@@ -45,14 +45,16 @@ module _ (s : List ℕ) (b : Bytes s) (c : Cursor) where
       (length-replicate {A = ℕ} mostListed 0, length-replicate {A = ℕ} mostListed 0)
       (λ i t l q. (length-set (t .point) i _ ∙ q .0, length-set (t .position) i _ ∙ q .1))
       (λ i t l q k h.
-          let d : k ≡ i → ⊥ = λ z. (let z′ : k ≡ i = z in omega arith) in
-          ap₂ (λ x y. x ∷ y ∷ []) (sym (getD-set-other (t .point) i k _ 0 d)) (sym (getD-set-other (t .position) i k _ 0 d)))
+      let d : k ≡ i → ⊥ = λ z. (let z′ : k ≡ i = z in omega arith) in
+      ap₂ (λ x y. x ∷ y ∷ []) (sym (getD-set-other (t .point) i k _ 0 d)) (sym (getD-set-other (t .position) i k _ 0 d)))
       (λ i t l q w.
-          let here : i < mostListed = omega arith in
-          let p = code-stands s b (reference s (t .cur) objects) 1 2 w in
-          let o = reference-stands s b (t .cur) objects (p .0) in
-          (o .0, rw (getD-set-same (t .point) i (reference s (t .cur) objects .value) 0 (omega (arith, q .0)), getD-set-same (t .position) i (code s (reference s (t .cur) objects) 1 2 .value) 0 (omega (arith, q .1)))
-          (stand-then s (o .1) (p .1)))) e)
+      let here : i < mostListed = omega arith in
+      let p = code-stands s b (reference s (t .cur) objects) 1 2 w in
+      let o = reference-stands s b (t .cur) objects (p .0) in (
+        o .0,
+        rw (getD-set-same (t .point) i (reference s (t .cur) objects .value) 0 (omega (arith, q .0)), getD-set-same (t .position) i (code s (reference s (t .cur) objects) 1 2 .value) 0 (omega (arith, q .1)))
+            (stand-then s (o .1) (p .1)),
+      )) e)
     where
       -- both lists keep their length
       Long : Points → Type 0
@@ -68,8 +70,8 @@ module _ (s : List ℕ) (c : Cursor) (objects at next n : ℕ) (k : Clear c at) 
   unfolding itemNumbers items itemTurn
   items-give low high xs l h m there long past p =
       let r =
-          listing-gives s c low high (itemTurn s objects) (λ v. record { cur = code s c low high; count = v; item = replicate mostListed 0 }) Done (λ i. getD xs i 0 ∷ []) at n next
-          k l h (omega arith) (λ mid d. (d, refl, copied-start mostListed 0 xs)) turn p in
+      listing-gives s c low high (itemTurn s objects) (λ v. record { cur = code s c low high; count = v; item = replicate mostListed 0 }) Done (λ i. getD xs i 0 ∷ []) at n next
+      k l h (omega arith) (λ mid d. (d, refl, copied-start mostListed 0 xs)) turn p in
       (r .0, r .1, copied-all mostListed 0 xs n _ long past (r .2))
     where
       -- after i turns
@@ -89,9 +91,9 @@ module _ (s : List ℕ) (c : Cursor) (objects at next n : ℕ) (k : Clear c at) 
   unfolding pointNumbers points pointTurn
   points-give xs ys m there placed long past p =
       let r =
-          listing-gives s c 0 mostListed (pointTurn s objects)
-          (λ v. record { cur = code s c 0 mostListed; count = v; point = replicate mostListed 0; position = replicate mostListed 0 }) Done both at n next
-          k (omega arith) m (omega arith) (λ mid d. (d, refl, copied-start mostListed 0 xs, copied-start mostListed 0 ys)) turn p in
+      listing-gives s c 0 mostListed (pointTurn s objects)
+      (λ v. record { cur = code s c 0 mostListed; count = v; point = replicate mostListed 0; position = replicate mostListed 0 }) Done both at n next
+      k (omega arith) m (omega arith) (λ mid d. (d, refl, copied-start mostListed 0 xs, copied-start mostListed 0 ys)) turn p in
       (r .0, r .1, copied-all mostListed 0 xs n _ (long .0) (λ i l. past i l .0) (r .2), copied-all mostListed 0 ys n _ (long .1) (λ i l. past i l .1) (r .3))
     where
       -- a point and its position

@@ -192,9 +192,9 @@ pairs-stand s b c routes few =
     rw (named-all routes few) (λ e.
     let d : Cursor = code s c 0 mostConflicts in
     let r =
-        iter-keeps Kept (pairTurn s routes) (d .value) (record { cur = record { at = d .at; fault = d .fault; value = 0 }; last = noPair; conflict = noPairs })
-        (length-replicate {A = ℕ} mostPairs 0, told-start s b routes few d _ refl (λ z. z))
-        (λ i t l p. (long-on i t (p .0), told-on s b routes few d i t (p .0) (p .1))) .1 e in
+    iter-keeps Kept (pairTurn s routes) (d .value) (record { cur = record { at = d .at; fault = d .fault; value = 0 }; last = noPair; conflict = noPairs })
+    (length-replicate {A = ℕ} mostPairs 0, told-start s b routes few d _ refl (λ z. z))
+    (λ i t l p. (long-on i t (p .0), told-on s b routes few d i t (p .0) (p .1))) .1 e in
     let k = code-stands s b c 0 mostConflicts (r .before) in
     (k .0, rw (all-below _ _ (r .there) (r .behind), r .count) (stand-then s (k .1) (r .stand))))
   where

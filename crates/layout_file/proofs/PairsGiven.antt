@@ -93,8 +93,8 @@ module _ (s : List ℕ) (m : List ℕ) (routes : ℕ) (few : routes ≤ mostTrai
       by i j l u v (yes w) =
           let r = d .rest i j l u (let w′ : mostRoutes * i + j ≡ k = w in omega arith) in
           let z : getD m (placeOf i j) 0 ≡ 0 =
-              let one : getD m (placeOf i j) 0 ≡ 1 → ⊥ = λ e. none (let w′ : mostRoutes * i + j ≡ k = w in omega arith) (ap (λ p. getD m p 0) (sym w) ∙ e) in
-              omega (arith, mirrored .most i j (omega arith) u) in
+          let one : getD m (placeOf i j) 0 ≡ 1 → ⊥ = λ e. none (let w′ : mostRoutes * i + j ≡ k = w in omega arith) (ap (λ p. getD m p 0) (sym w) ∙ e) in
+          omega (arith, mirrored .most i j (omega arith) u) in
           (r .0 ∙ sym z, r .1 ∙ sym (sym (mirrored .same i j (omega arith) u) ∙ z))
 
   -- a pair that is listed at place k, both ways, where the table wanted has it
@@ -204,6 +204,6 @@ module _ (s : List ℕ) (m : List ℕ) (routes : ℕ) (few : routes ≤ mostTrai
       let g = code-gives s c 0 mostConflicts at n _ k (stand-first s at next (n ∷ []) (pairNumbers (pairsBelow m mostPairs)) p) (omega arith) (pairs-few m) (omega arith) in
       let d : Cursor = code s c 0 mostConflicts in
       let r =
-          made-below mostPairs _ next (record { cur = record { at = d .at; fault = d .fault; value = 0 }; last = noPair; conflict = noPairs }) (omega arith)
-          (stand-rest s at next (n ∷ []) (pairNumbers (pairsBelow m mostPairs)) p) (made-start _ _ (record { none = g .clear .none; here = g .clear .here })) in
+      made-below mostPairs _ next (record { cur = record { at = d .at; fault = d .fault; value = 0 }; last = noPair; conflict = noPairs }) (omega arith)
+      (stand-rest s at next (n ∷ []) (pairNumbers (pairsBelow m mostPairs)) p) (made-start _ _ (record { none = g .clear .none; here = g .clear .here })) in
       rw (named-all routes few, g .value) (r .clear, made-all next _ r)

@@ -1,7 +1,7 @@
 -- The routes of a file, both ways.
 use Prim.Native.Nat.{ℕ, suc, _<_, _≤_}
 use mathlib.Core.Path.{_≡_, refl, sym, subst, _∙_}
-use mathlib.Core.List.{List, [], _∷_}
+use mathlib.Core.List.{List, [], _∷_, flatten}
 use mathlib.Core.Logic.{_⊎_}
 use native.Mathlib.Omega.{arith}
 use borrow.Author.Tests.{eqb-true, eqb-false}
@@ -27,7 +27,7 @@ use Rattle.layout_facts.specs.Plain.{path, overlap, routePoint, routePosition, 
 use Rattle.layout_facts.proofs.Order.{one-of}
 use Rattle.layout_file.specs.Written.{listing, itemNumbers, endNumbers, routeNumbers}
 use Rattle.layout_file.specs.Bare.{Bare}
-use Rattle.layout_file.proofs.Stands.{Stand, stand-none, stand-here, stand-then, stand-first, stand-rest}
+use Rattle.layout_file.proofs.Stands.{Stand, stand-none, stand-here, stand-then, stand-first, stand-rest, stand-last}
 use Rattle.layout_file.proofs.Fields.{code-stands, reference-stands, Clear, code-gives, reference-gives}
 use Rattle.layout_file.proofs.Turns.{entries-read, Copied, copied-start, copied-on, copied-all}
 use Rattle.layout_file.proofs.Listings.{listing-stands, listing-gives}
@@ -60,7 +60,7 @@ module _ (s : List ℕ) (b : Bytes s) (c : Cursor) where
 module _ (s : List ℕ) (b : Bytes s) (n : Counts) (c : Cursor) where
   -- a route: its reads one after another
   route-stands : aRoute s n c .cur .fault ≡ 0 → (c .fault ≡ 0) × Stand s (c .at) (routeNumbers (aRoute s n c .route)) (aRoute s n c .cur .at)
-  unfolding aRoute routeHead routeNumbers endNumbers
+  unfolding aRoute routeHead routeNumbers endNumbers flatten
   route-stands e =
       let q = points-stand s b _ (n .points) e in
       let o = items-stand s b _ 0 mostOverlap (n .sections) (omega arith) (q .0) in
@@ -69,7 +69,8 @@ module _ (s : List ℕ) (b : Bytes s) (n : Counts) (c : Cursor) where
       let end = end-stands s b _ (n .lines) (diverging .0) in
       let kind = code-stands s b _ 0 2 (end .0) in
       let entry = reference-stands s b c (n .signals) (kind .0) in
-      (entry .0, stand-then s (entry .1) (stand-then s (kind .1) (stand-then s (end .1) (stand-then s (diverging .1) (stand-then s (p .1) (stand-then s (o .1) (q .1)))))))
+      let lists = stand-then s (p .1) (stand-then s (o .1) (stand-then s (q .1) (stand-none s _))) in
+      (entry .0, stand-then s (stand-then s (entry .1) (kind .1)) (stand-then s (end .1) (stand-then s (diverging .1) lists)))
 
 -- all routes
 pub routes-stand : (s : List ℕ) → Bytes s → (n : Counts) (c : Cursor) → routes s n c .cur .fault ≡ 0
@@ -112,30 +113,30 @@ module _ (s : List ℕ) (L : Layout) (ranges : Ranges L) (bare : Bare L) where
   -- a route: what is read of it, one after another, is what it has
   route-gives : (c : Cursor) (at next r : ℕ) → Clear c at → r < L .routes → Stand s at (routeNumbers (routeIn L r)) next
       → Clear (aRoute s (objectsOf L (L .lines)) c .cur) next × (aRoute s (objectsOf L (L .lines)) c .route ≡ routeIn L r)
-  unfolding aRoute routeHead routeNumbers endNumbers path overlap routePoint routePosition
+  unfolding aRoute routeHead routeNumbers endNumbers flatten path overlap routePoint routePosition
   route-gives c at next r k h x =
       let a : Route = routeIn L r in
       let f = ranges .routes r h in
       let t = bare .tables .routes r in
       let z = bare .past in
       let few = ranges .sectionCount .1 in
-      let x₁ = stand-rest s at next (a .entry ∷ []) _ x in
-      let x₂ = stand-rest s _ next (a .kind ∷ []) _ x₁ in
-      let x₃ = stand-rest s _ next (endNumbers a) _ x₂ in
-      let x₄ = stand-rest s _ next (a .diverging ∷ []) _ x₃ in
-      let x₅ = stand-rest s _ next (itemNumbers (a .paths) (a .path)) _ x₄ in
-      let x₆ = stand-rest s _ next (itemNumbers (a .overlaps) (a .overlap)) _ x₅ in
-      let entry = reference-gives s c (L .signals) at (a .entry) _ k (stand-first s at next (a .entry ∷ []) _ x) (f .entry) (omega (arith, ranges .signalCount)) in
-      let kind = code-gives s _ 0 2 _ (a .kind) _ (entry .clear) (stand-first s _ next (a .kind ∷ []) _ x₁) (omega arith) (f .kind) (omega arith) in
+      let x₁ = stand-rest s at next (a .entry ∷ a .kind ∷ []) _ x in
+      let x₂ = stand-rest s _ next (endNumbers a) _ x₁ in
+      let x₃ = stand-rest s _ next (a .diverging ∷ []) _ x₂ in
+      let x₄ = stand-rest s _ next (itemNumbers (a .paths) (a .path)) _ x₃ in
+      let x₅ = stand-rest s _ next (itemNumbers (a .overlaps) (a .overlap)) _ x₄ in
+      let y = stand-first s at next (a .entry ∷ a .kind ∷ []) _ x in
+      let entry = reference-gives s c (L .signals) at (a .entry) _ k (stand-first s at _ (a .entry ∷ []) (a .kind ∷ []) y) (f .entry) (omega (arith, ranges .signalCount)) in
+      let kind = code-gives s _ 0 2 _ (a .kind) _ (entry .clear) (stand-rest s at _ (a .entry ∷ []) (a .kind ∷ []) y) (omega arith) (f .kind) (omega arith) in
       let end = end-gives s _ (L .lines) _ (a .kind) (a .line) (a .end) _ (kind .clear) (kind .value) (ranges .lineCount) (bare .ends r)
-          (λ e. f .line (beyond-inner (a .kind) (f .kind) e)) (stand-first s _ next (endNumbers a) _ x₂) in
-      let diverging = code-gives s _ 0 1 _ (a .diverging) _ (end .0) (stand-first s _ next (a .diverging ∷ []) _ x₃) (omega arith) (f .diverging) (omega arith) in
+      (λ e. f .line (beyond-inner (a .kind) (f .kind) e)) (stand-first s _ next (endNumbers a) _ x₁) in
+      let diverging = code-gives s _ 0 1 _ (a .diverging) _ (end .0) (stand-first s _ next (a .diverging ∷ []) _ x₂) (omega arith) (f .diverging) (omega arith) in
       let p = items-give s _ (L .sections) _ _ (a .paths) (diverging .clear) few 1 mostListed (a .path) (f .pathCount .0) (f .pathCount .1) (omega arith) (f .paths) (t .path) (z .path r)
-          (stand-first s _ next (itemNumbers (a .paths) (a .path)) _ x₄) in
+      (stand-first s _ next (itemNumbers (a .paths) (a .path)) _ x₃) in
       let o = items-give s _ (L .sections) _ _ (a .overlaps) (p .0) few 0 mostOverlap (a .overlap) (omega arith) (f .overlapCount) (omega arith) (f .overlaps) (t .overlap) (z .overlap r)
-          (stand-first s _ next (itemNumbers (a .overlaps) (a .overlap)) _ x₅) in
+      (stand-first s _ next (itemNumbers (a .overlaps) (a .overlap)) _ x₄) in
       let q = points-give s _ (L .points) _ next (a .points) (o .0) (omega (arith, ranges .pointCount)) (a .point) (a .position) (f .pointCount) (f .points) (f .positions)
-          (t .point, t .position) (z .route-points r) x₆ in
+      (t .point, t .position) (z .route-points r) (stand-last s _ next _ x₅) in
       (q .0, rw (q .3, q .2, q .1, o .2, o .1, p .2, p .1, diverging .value, end .2, end .1, kind .value, entry .value))
 
   -- all routes
@@ -145,10 +146,10 @@ module _ (s : List ℕ) (L : Layout) (ranges : Ranges L) (bare : Bare L) where
   unfolding routes routesFrom routeTurn noRoutes routeIn route
   routes-give c at next k p =
       let r =
-          listing-gives s c 0 mostTrainRoutes (routeTurn s (objectsOf L (L .lines)))
-          (λ v. record { cur = code s c 0 mostTrainRoutes; count = v; route = replicate mostTrainRoutes noRoute }) Done
-          (λ r. routeNumbers (routeIn L r)) at (L .routes) next k (omega arith) (ranges .routeCount) (omega arith)
-          (λ mid d. (d, refl, copied-start mostTrainRoutes noRoute (L .route))) turn p in
+      listing-gives s c 0 mostTrainRoutes (routeTurn s (objectsOf L (L .lines)))
+      (λ v. record { cur = code s c 0 mostTrainRoutes; count = v; route = replicate mostTrainRoutes noRoute }) Done
+      (λ r. routeNumbers (routeIn L r)) at (L .routes) next k (omega arith) (ranges .routeCount) (omega arith)
+      (λ mid d. (d, refl, copied-start mostTrainRoutes noRoute (L .route))) turn p in
       (r .0, r .1, copied-all mostTrainRoutes noRoute (L .route) (L .routes) _ (bare .tables .route) (bare .past .routes) (r .2))
     where
       -- after i turns

@@ -62,6 +62,10 @@ module _ (s : List ℕ) where
     pub stand-rest : Stand s (at + length (forms ns)) ms next
     stand-rest = record { text = rest-text; place = p .place ∙ omega (arith, length-append (forms ns) (forms ms), ap length (forms-append ns ms)) }
 
+  -- nothing after them
+  pub stand-last : (at next : ℕ) (ns : List ℕ) → Stand s at (ns ++ []) next → Stand s at ns next
+  stand-last at next ns = subst (λ ms. Stand s at ms next) (append-nil ns)
+
 -- the forms of numbers stand in their own file, from its first place to its end
 pub stand-own : (ns : List ℕ) → Stand (forms ns) 0 ns (length (forms ns))
 stand-own ns = record { text = sym (append-nil (forms ns)) ∙ ap (λ t. forms ns ++ t) (sym (drop-length (forms ns))); place = omega arith }

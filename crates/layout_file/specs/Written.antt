@@ -1,6 +1,6 @@
 -- The numbers of a layout file in the order of section 2, told from the layout and not from how a file is read.
 use Prim.Native.Nat.{ℕ}
-use mathlib.Core.List.{List, [], _∷_, _++_, flatten, flatMap}
+use mathlib.Core.List.{List, [], _∷_, flatten, flatMap}
 use lib.Dec.{eqb, ltb}
 use lib.ListN.{length, getD}
 use Rattle.laws.specs.Choice.{if_then_else_}
@@ -32,9 +32,11 @@ pointNumbers n points positions = listing n (λ i. getD points i 0 ∷ getD posi
 
 -- a line: blocks and their sections from end A to end B, inner section at A, at B, entrance signal at A, at B, points
 unfoldable pub lineNumbers : Line → List ℕ
-lineNumbers a =
+lineNumbers a = flatten (
     itemNumbers (a .blocks) (a .block)
-    ++ (a .innera ∷ a .innerb ∷ a .entrancea ∷ a .entranceb ∷ pointNumbers (a .points) (a .point) (a .position))
+    ∷ (a .innera ∷ a .innerb ∷ a .entrancea ∷ a .entranceb ∷ [])
+    ∷ pointNumbers (a .points) (a .point) (a .position)
+    ∷ [])
 
 -- for kinds 1 and 2 the line and the end
 unfoldable pub endNumbers : Route → List ℕ
@@ -42,13 +44,14 @@ endNumbers a = if eqb (a .kind) innerRoute then [] else a .line ∷ a .end ∷ [
 
 -- a route: entry signal, kind, line and end, diverging, path sections in order of travel, overlap sections, points
 unfoldable pub routeNumbers : Route → List ℕ
-routeNumbers a =
-    a .entry ∷ a .kind
+routeNumbers a = flatten (
+    (a .entry ∷ a .kind ∷ [])
     ∷ endNumbers a
-    ++ (a .diverging
+    ∷ (a .diverging ∷ [])
     ∷ itemNumbers (a .paths) (a .path)
-    ++ (itemNumbers (a .overlaps) (a .overlap)
-    ++ pointNumbers (a .points) (a .point) (a .position)))
+    ∷ itemNumbers (a .overlaps) (a .overlap)
+    ∷ pointNumbers (a .points) (a .point) (a .position)
+    ∷ [])
 
 -- ---- conflicts
 
