@@ -1,5 +1,5 @@
 -- The file of a sound layout that has nothing beside its objects loads as that layout.
-use Prim.Native.Nat.{ℕ, _<_}
+use Prim.Native.Nat.{ℕ, _<_, _≤_}
 use mathlib.Core.Path.{_≡_, refl, sym, ap, subst, _∙_}
 use mathlib.Core.Bool.{true}
 use mathlib.Core.List.{List, [], _∷_, _++_, flatten}
@@ -10,7 +10,7 @@ use borrow.Author.Tests.{eq-eqb, eqb-true}
 use lib.ListN.{length, getD}
 use Rattle.laws.proofs.Choice.{chosen}
 use Rattle.laws.proofs.Tests.{every-at}
-use Rattle.track.specs.Sizes.{mostSections, mostSignals, mostRoutes}
+use Rattle.track.specs.Sizes.{mostSections, mostSignals, mostRoutes, mostConflicts}
 use Rattle.fields.specs.declared.Cursor.{Cursor}
 use Rattle.fields.specs.Fields.{code}
 use Rattle.file_objects.specs.declared.Lines.{Lines}
@@ -37,6 +37,7 @@ use Rattle.layout_file.proofs.Lines.{objectsOf, sections-give, lines-gi
 use Rattle.layout_file.proofs.Routes.{routes-give}
 use Rattle.layout_file.proofs.PairPlaces.{pairs-by-place}
 use Rattle.layout_file.proofs.PairsGiven.{Mirrored, pairs-give}
+use Rattle.layout_file.proofs.Longest.{pairs-most}
 
 -- ---- conflicts
 
@@ -120,10 +121,11 @@ module _ (s : List ℕ) (L : Layout) (ranges : Ranges L) (bare : Bare L) where
     then-pairs : Conflicts L → Clear (allRoutes .cur) a₅ → allRoutes .count ≡ L .routes → Stand s a₅ ((length (pairsOf L) ∷ pairNumbers (pairsOf L)) ++ []) next
         → Clear (pairs s (allRoutes .count) (allRoutes .cur) .cur) next × (pairs s (allRoutes .count) (allRoutes .cur) .conflict ≡ L .conflict)
     then-pairs C k n p =
+        let by-place = pairs-by-place L (ranges .routeCount) (bare .past .conflicts) in
         subst (λ m. Clear (pairs s m (allRoutes .cur) .cur) next × (pairs s m (allRoutes .cur) .conflict ≡ L .conflict)) (sym n)
-        (pairs-give s (L .conflict) (L .routes) (ranges .routeCount) (conflicts-mirrored L C bare) (allRoutes .cur) a₅ next k
-        (subst (λ ps. Stand s a₅ (length ps ∷ pairNumbers ps) next) (pairs-by-place L (ranges .routeCount) (bare .past .conflicts))
-        (stand-last s a₅ next _ p)))
+        (pairs-give s (L .conflict) (L .routes) (ranges .routeCount) (conflicts-mirrored L C bare)
+        (subst (λ ps. length ps ≤ mostConflicts) by-place (pairs-most L (ranges .routeCount))) (allRoutes .cur) a₅ next k
+        (subst (λ ps. Stand s a₅ (length ps ∷ pairNumbers ps) next) by-place (stand-last s a₅ next _ p)))
 
   -- the whole file
   whole-gives : (C : Conflicts L) (next : ℕ) → Stand s 0 (written L) next → Clear (whole s .cur) next × (whole s .layout ≡ L)

@@ -8,7 +8,17 @@ pub mod Routes
 pub mod PairPlaces
 pub mod Pairs
 pub mod PairsGiven
+pub mod Totals
+pub mod Sizes
+pub mod PartSizes
+pub mod Longest
 pub mod Loaded
 pub mod Whole
 pub mod Given
+pub mod Near
+pub mod Reach
+pub mod Long
+pub mod Full
+pub mod FullFile
+pub mod FileBytes
 pub mod Files

@@ -1,20 +1,19 @@
 -- The pairs of a table of conflicts, place by place: those below a place, and all of them.
-use Prim.Native.Nat.{ℕ, zero, suc, _+_, _-_, _*_, _/_, _%_, _<_, _≤_}
+use Prim.Native.Nat.{ℕ, _+_, _-_, _*_, _/_, _%_, _<_, _≤_}
 use mathlib.Core.Path.{_≡_, sym, ap, _∙_}
-use mathlib.Core.List.{List, [], _∷_, _++_, append-nil}
+use mathlib.Core.List.{List, [], _∷_}
 use mathlib.Core.Logic.{_⊎_, inl, inr, ⊎-elim}
 use native.Mathlib.Omega.{arith}
-use native.Mathlib.Decide.{decLt}
 use borrow.Author.Tests.{lt-ltb, ltb-true, eq-eqb, eqb-true}
 use lib.Dec.{eqb, ltb}
-use lib.ListN.{length, getD, length-append}
+use lib.ListN.{getD}
 use Rattle.laws.specs.Choice.{if_then_else_}
 use Rattle.laws.specs.Tests.{_and_}
 use Rattle.laws.specs.Tables.{join}
-use Rattle.laws.proofs.Choice.{if-both, chosen, passed-over, Is, which, holds, fails}
+use Rattle.laws.proofs.Choice.{chosen, passed-over, Is, which, holds, fails}
 use Rattle.laws.proofs.Tests.{and-both, and-left, and-right, fails-from, not-both}
 use Rattle.laws.proofs.Joins.{join-same, join-rest, join-rows}
-use Rattle.track.specs.Sizes.{mostRoutes, mostPairs, mostConflicts}
+use Rattle.track.specs.Sizes.{mostRoutes, mostPairs}
 use Rattle.pairs.specs.declared.Pair.{Pair}
 use Rattle.pairs.specs.Pairs.{placeOf}
 use Rattle.layout.specs.declared.Layout.{Layout}
@@ -113,42 +112,3 @@ module _ (L : Layout) where
         -- a row of the table
         row : ℕ → List Pair
         row r = join mostRoutes (λ q. atPlace (L .conflict) (mostRoutes * r + q))
-
--- ---- how many there are
-
--- 47 and 46 and so on, as many as there are rows
-abbrev rowsHold : ℕ → ℕ
-rowsHold zero = 0
-rowsHold (suc r) = rowsHold r + (mostRoutes - suc r)
-
-module _ (m : List ℕ) where
-  -- a place holds one pair at most, and none where its first is not the smaller
-  place-few : (p : ℕ) → length (atPlace m p) ≤ 1
-  unfolding atPlace
-  place-few p = if-both (λ (ps : List Pair). length ps ≤ 1) (ltb (p / mostRoutes) (p % mostRoutes) and eqb (getD m p 0) 1) (λ t. omega arith) (λ t. omega arith)
-
-  -- the first k places of row r hold those whose second is larger than r
-  row-few : (r k : ℕ) → k ≤ mostRoutes → length (join k (λ q. atPlace m (mostRoutes * r + q))) ≤ k - suc r
-  unfolding join
-  row-few r zero h = omega arith
-  row-few r (suc k) h = by (decLt r k) (row-few r k (omega arith))
-    where
-      -- one place more
-      by : Dec (r < k) → length (join k (λ q. atPlace m (mostRoutes * r + q))) ≤ k - suc r
-          → length (join k (λ q. atPlace m (mostRoutes * r + q)) ++ atPlace m (mostRoutes * r + k)) ≤ suc k - suc r
-      by (yes l) before = omega (arith, before, place-few (mostRoutes * r + k), length-append (join k (λ q. atPlace m (mostRoutes * r + q))) (atPlace m (mostRoutes * r + k)))
-      by (no l) before =
-          let none : atPlace m (mostRoutes * r + k) ≡ [] = place-empty m (mostRoutes * r + k) (λ x e. let f = first-of r k (omega arith) in let g = second-of r k (omega arith) in omega arith) in
-          rw (none, append-nil (join k (λ q. atPlace m (mostRoutes * r + q)))) (omega (arith, before))
-
-  -- n rows
-  rows-few : (n : ℕ) → length (join n (λ r. join mostRoutes (λ q. atPlace m (mostRoutes * r + q)))) ≤ rowsHold n
-  unfolding join
-  rows-few zero = omega arith
-  rows-few (suc n) =
-      omega (arith, rows-few n, row-few n mostRoutes (omega arith), length-append (join n (λ r. join mostRoutes (λ q. atPlace m (mostRoutes * r + q)))) (join mostRoutes (λ q. atPlace m (mostRoutes * n + q))))
-
-  -- a table has no more pairs than a file may list
-  pub pairs-few : length (pairsBelow m mostPairs) ≤ mostConflicts
-  unfolding pairsBelow
-  pairs-few = rw (join-rows (atPlace m) mostRoutes mostRoutes) (rows-few mostRoutes)

@@ -24,7 +24,7 @@ use Rattle.pairs.specs.Pairs.{placeOf, noPairs, counted, pairCount, comesAfter,
 use Rattle.layout_file.specs.Written.{pairNumbers}
 use Rattle.layout_file.proofs.Stands.{Stand, stand-here, stand-first, stand-rest}
 use Rattle.layout_file.proofs.Fields.{Clear, code-gives, reference-gives}
-use Rattle.layout_file.proofs.PairPlaces.{pairOfPlace, atPlace, pairsBelow, AtPlace, oneThere, noneThere, at-place, pairs-few}
+use Rattle.layout_file.proofs.PairPlaces.{pairOfPlace, atPlace, pairsBelow, AtPlace, oneThere, noneThere, at-place}
 use Rattle.layout_file.proofs.Pairs.{placed, numbers-append, listed-own, listed-mirror, listed-other, listed-long, named-all}
 
 -- a pair at a later place comes after
@@ -196,12 +196,12 @@ module _ (s : List ℕ) (m : List ℕ) (routes : ℕ) (few : routes ≤ mostTrai
           two i j x y (no l) (no q) = let e : i ≡ j = omega arith in rw e (d .own j y ∙ sym (mirrored .own j y))
 
   -- all pairs
-  pub pairs-give : (c : Cursor) (at next : ℕ) → Clear c at → Stand s at (length (pairsBelow m mostPairs) ∷ pairNumbers (pairsBelow m mostPairs)) next
+  pub pairs-give : length (pairsBelow m mostPairs) ≤ mostConflicts → (c : Cursor) (at next : ℕ) → Clear c at → Stand s at (length (pairsBelow m mostPairs) ∷ pairNumbers (pairsBelow m mostPairs)) next
       → Clear (pairs s routes c .cur) next × (pairs s routes c .conflict ≡ m)
   unfolding pairs pairsFrom pairCount counted
-  pairs-give c at next k p =
+  pairs-give most c at next k p =
       let n : ℕ = length (pairsBelow m mostPairs) in
-      let g = code-gives s c 0 mostConflicts at n _ k (stand-first s at next (n ∷ []) (pairNumbers (pairsBelow m mostPairs)) p) (omega arith) (pairs-few m) (omega arith) in
+      let g = code-gives s c 0 mostConflicts at n _ k (stand-first s at next (n ∷ []) (pairNumbers (pairsBelow m mostPairs)) p) (omega arith) most (omega arith) in
       let d : Cursor = code s c 0 mostConflicts in
       let r =
       made-below mostPairs _ next (record { cur = record { at = d .at; fault = d .fault; value = 0 }; last = noPair; conflict = noPairs }) (omega arith)

@@ -106,7 +106,7 @@ end-gives s c lines at kind line end next k v few none some p =
         (b .clear, a .value, b .value))
 
 -- a kind other than 0 is 1 or 2
-beyond-inner : (kind : ℕ) → kind ≤ exitRoute → (kind ≡ innerRoute → ⊥) → kind ≡ entranceRoute ⊎ kind ≡ exitRoute
+pub beyond-inner : (kind : ℕ) → kind ≤ exitRoute → (kind ≡ innerRoute → ⊥) → kind ≡ entranceRoute ⊎ kind ≡ exitRoute
 beyond-inner kind most other = one-of kind entranceRoute exitRoute (λ d. omega arith)
 
 module _ (s : List ℕ) (L : Layout) (ranges : Ranges L) (bare : Bare L) where

@@ -1,2 +1,4 @@
 pub mod Written
 pub mod Bare
+pub mod Lengths
+pub mod Full
