@@ -1,15 +1,19 @@
 -- What the event program prints is the log of the run of the file's events, and what is demanded holds of it.
-use Prim.Native.Nat.{suc, _+_}
+use Prim.Native.Nat.{ℕ, suc}
 use mathlib.Core.Path.{_≡_, sym, ap, _∙_}
+use mathlib.Core.Bool.{Bool}
 use mathlib.Core.List.{List, [], _∷_, _++_, append-assoc, append-nil}
-use lib.ListN.{length}
+use lib.ListN.{length, take}
+use Rattle.numbers.specs.Form.{Bytes}
 use Rattle.layout.specs.declared.Layout.{Layout}
 use Rattle.layout.specs.Load.{load}
+use Rattle.layout_file.specs.Lengths.{buffer}
+use Rattle.layout_file.proofs.Long.{load-buffer}
 use Rattle.interlocking.specs.declared.State.{State}
 use Rattle.interlocking.specs.State.{cold}
 use Rattle.panel.specs.Panel.{image}
 use Rattle.step_facts.specs.Run.{Event, box, answers}
-use Rattle.event_file.specs.List.{opening}
+use Rattle.event_file.specs.List.{opening, printed}
 use Rattle.event_file.specs.Events.{ToldLine, eventsOf, endingOf, linesOf, told, toldOf}
 use Rattle.event_file.proofs.Printed.{short-prints}
 use Rattle.safety.specs.History.{History, moment, goesOn, history}
@@ -42,3 +46,8 @@ every-file panel layoutFile file ok few = record {
   demanded = run-demanded layoutFile ok (eventsOf file);
   accepts = accepts-exactly layoutFile ok (eventsOf file);
 }
+
+-- and so of a layout file of any length: the program takes its first 65,536 bytes, and what is printed is the same
+pub first-bytes-print : (panel : Bool) (layoutFile file : List ℕ) → Bytes layoutFile → printed panel (take buffer layoutFile) file ≡ printed panel layoutFile file
+unfolding printed
+first-bytes-print panel layoutFile file b = rw (load-buffer layoutFile b)

@@ -71,7 +71,7 @@ module _ (L : Layout) (C : Conflicts L) (bare : Bare L) where
 
 module _ (s : List ℕ) (L : Layout) (ranges : Ranges L) (bare : Bare L) where
   -- what is read first: at its end the cursor is clear, and it has what the layout has
-  pub record Headed (h : Heading) (next : ℕ) : Type 0 where
+  record Headed (h : Heading) (next : ℕ) : Type 0 where
     clear : Clear (h .cur) next
     sections : h .sections ≡ L .sections
     points : h .points ≡ L .points
