@@ -1,5 +1,5 @@
 -- How the event program goes through an event file of any length (section 8): it reads into one buffer, runs what lies there, brings what is
--- left to the front, and reads on behind it. A read that does not fill the buffer is the last.
+-- left to the front, and reads on behind it. A read that gives nothing is the last.
 use Prim.Native.Nat.{ℕ, zero, suc, _+_}
 use mathlib.Core.Bool.{Bool, true, false}
 use mathlib.Core.List.{List, [], _∷_, _++_}

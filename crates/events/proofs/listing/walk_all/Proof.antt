@@ -2,8 +2,8 @@
 use mathlib.Core.Path.{_≡_, refl}
 use borrow.Author.Needs.{needs}
 use lib.ListN.{length}
-use Rattle.events.proofs.walk_all.Statement.{statement}
-use Rattle.events.proofs.walk_all.Tie as tie
+use Rattle.events.proofs.listing.walk_all.Statement.{statement}
+use Rattle.events.proofs.listing.walk_all.Tie as tie
 
 -- the buffers keep their lengths
 abbrev Inv-loop : tie.InvT-loop
