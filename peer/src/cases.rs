@@ -127,6 +127,10 @@ fn largest(c: &mut Cases) {
     for n in [0, 1, 126, 127, 128, 129, 495] {
         c.sound("no pair must conflict, some are listed", &changed(&none, |l| l.conf.truncate(n)));
     }
+    c.sound("the longest file", &longest());
+    let file = encode(&longest());
+    assert_eq!(file.len(), 4256);
+    c.made("the longest file and a byte more", &[&file[..], &[0]].concat(), 26, 4256);
     let file = encode(&all);
     let end = file.len();
     c.made("the last byte missing", &file[..end - 1], 21, end - 1);

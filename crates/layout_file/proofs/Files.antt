@@ -14,7 +14,7 @@ use Rattle.layout.specs.Load.{load}
 use Rattle.layout_facts.proofs.Loaded.{loaded-sound}
 use Rattle.layout_file.specs.Written.{fileOf}
 use Rattle.layout_file.specs.Bare.{Bare}
-use Rattle.layout_file.specs.Lengths.{longest, IsLongest}
+use Rattle.layout_file.specs.Lengths.{IsLongest}
 use Rattle.layout_file.specs.Full.{fullLayout}
 use Rattle.layout_file.proofs.Longest.{longest-file}
 use Rattle.layout_file.proofs.Loaded.{loaded-bare}
@@ -30,6 +30,10 @@ use Rattle.layout_file.proofs.FileBytes.{file-bytes}
 pub one-file : (s t : List ℕ) → Bytes s → Bytes t → load s .number ≡ 0 → load t .number ≡ 0 → load s .layout ≡ load t .layout → s ≡ t
 one-file s t b c e f same = file-is-layout s b e ∙ ap fileOf same ∙ sym (file-is-layout t c f)
 
+-- two such layouts that have one file are one layout
+pub one-layout : (L M : Layout) → sound L ≡ true → Bare L → sound M ≡ true → Bare M → fileOf L ≡ fileOf M → L ≡ M
+one-layout L M t b u c same = ap (λ (a : Loaded). a .layout) (sym (layout-loads L t b) ∙ ap load same ∙ layout-loads M u c)
+
 -- a file is accepted just where it is the file of a sound layout that has nothing beside its objects
 pub accepted-exactly : (s : List ℕ) → Bytes s → load s .number ≡ 0 ↔ (L : Layout) × (sound L ≡ true) × Bare L × (s ≡ fileOf L)
 accepted-exactly s b = (
@@ -40,7 +44,7 @@ accepted-exactly s b = (
 -- ---- how long they are
 
 -- the most bytes of a file that loads: no sound layout has more, and the full layout has as many
-pub longest-is : IsLongest longest
+pub longest-is : IsLongest 4256
 longest-is = record {
   most = λ s b e. omega (arith, longest-file (load s .layout) (loaded-sound s e), ap length (file-is-layout s b e));
   reached = (fileOf fullLayout, file-bytes fullLayout, ap (λ (a : Loaded). a .number) (layout-loads fullLayout full-sound full-bare), full-length);

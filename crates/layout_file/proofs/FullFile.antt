@@ -23,6 +23,7 @@ use Rattle.layout_file.specs.Written.{routeNumbers, pairsOf, fileOf}
 use Rattle.layout_file.specs.Bare.{LineTables, RouteTables, Tables, Bare}
 use Rattle.layout_file.specs.Lengths.{lineSpan, routeSpan, longest}
 use Rattle.layout_file.specs.Full.{upFrom, allLeft, fullLine, fullRoute, fullConflict, fullLayout}
+use Rattle.layout_file.proofs.Loaded.{no-line-tables, no-route-tables}
 use Rattle.layout_file.proofs.Totals.{total, total-same, total-each, mark, mark-all, count, count-above}
 use Rattle.layout_file.proofs.Sizes.{size, size-long}
 use Rattle.layout_file.proofs.PartSizes.{pairAt-length, pairs-length, end-sized, route-sized, lines-size, routes-size, file-size}
@@ -123,10 +124,6 @@ up-past low n k h = one (decLt k mostListed)
     one (yes l) = table-at mostListed _ 0 k l ∙ sym (if-ge k n (low + k) 0 0 h refl)
     one (no l) = List·getD-eq-default (upFrom low n) 0 (omega (arith, up-long low n))
 
--- a list of nothing has its length, too
-zeros-long : length (replicate {A = ℕ} mostListed 0) ≡ mostListed
-zeros-long = length-replicate {A = ℕ} mostListed 0
-
 -- past eight entries there is nothing
 past-eight : (k : ℕ) → mostListed ≤ k → getD allLeft k 0 ≡ 0
 unfolding allLeft
@@ -134,15 +131,13 @@ past-eight k h = List·getD-eq-default (replicate mostListed left) 0 {n = k} (om
 
 -- its tables are as long as they are to be
 full-tables : Tables fullLayout
-unfolding fullLayout fullLine fullRoute noLine noRoute allLeft
+unfolding fullLayout fullLine fullRoute allLeft
 full-tables = record {
   pointsection = length-replicate {A = ℕ} mostPoints 0;
   line = length-table mostLines fullLine;
-  lines = each-line LineTables (λ l. record { block = up-long _ _; point = up-long _ _; position = length-replicate mostListed left })
-      (record { block = zeros-long; point = zeros-long; position = zeros-long });
+  lines = each-line LineTables (λ l. record { block = up-long _ _; point = up-long _ _; position = length-replicate mostListed left }) no-line-tables;
   route = length-replicate mostTrainRoutes fullRoute;
-  routes = each-route RouteTables (record { path = up-long _ _; overlap = up-long _ _; point = up-long _ _; position = length-replicate mostListed left })
-      (record { path = zeros-long; overlap = zeros-long; point = zeros-long; position = zeros-long });
+  routes = each-route RouteTables (record { path = up-long _ _; overlap = up-long _ _; point = up-long _ _; position = length-replicate mostListed left }) no-route-tables;
   conflict = length-table mostPairs fullConflict;
 }
 

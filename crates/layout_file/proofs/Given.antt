@@ -29,7 +29,7 @@ use Rattle.layout.specs.Load.{start, heading, countsOf, whole, finished, load}
 use Rattle.layout_facts.specs.Plain.{Ranges, Conflicts}
 use Rattle.layout_facts.proofs.Conflicts.{same-entry}
 use Rattle.layout_facts.proofs.Sound.{sound-says}
-use Rattle.layout_file.specs.Written.{version, listing, itemNumbers, lineNumbers, routeNumbers, pairsOf, pairNumbers, parts, written, fileOf}
+use Rattle.layout_file.specs.Written.{versionOf, listing, itemNumbers, lineNumbers, routeNumbers, pairsOf, pairNumbers, parts, written, fileOf}
 use Rattle.layout_file.specs.Bare.{Bare}
 use Rattle.layout_file.proofs.Stands.{Stand, stand-first, stand-rest, stand-last, stand-own}
 use Rattle.layout_file.proofs.Fields.{Clear, code-gives}
@@ -79,12 +79,12 @@ module _ (s : List ℕ) (L : Layout) (ranges : Ranges L) (bare : Bare L) where
     signals : h .signals ≡ L .signals
 
   -- version, sections, points, signals
-  heading-gives : (a₁ a₂ a₃ : ℕ) → Stand s 0 (version ∷ L .sections ∷ []) a₁ → Stand s a₁ (itemNumbers (L .points) (L .pointsection)) a₂ → Stand s a₂ (L .signals ∷ []) a₃
+  heading-gives : (a₁ a₂ a₃ : ℕ) → Stand s 0 (versionOf L ∷ L .sections ∷ []) a₁ → Stand s a₁ (itemNumbers (L .points) (L .pointsection)) a₂ → Stand s a₂ (L .signals ∷ []) a₃
       → Headed (heading s) a₃
   unfolding heading
   heading-gives a₁ a₂ a₃ p₁ p₂ p₃ =
-      let v = code-gives s start 1 1 0 version _ (record { none = refl; here = refl }) (stand-first s 0 a₁ (version ∷ []) (L .sections ∷ []) p₁) (omega arith) (omega arith) (omega arith) in
-      let n = code-gives s _ 1 mostSections _ (L .sections) a₁ (v .clear) (stand-rest s 0 a₁ (version ∷ []) (L .sections ∷ []) p₁) (ranges .sectionCount .0) (ranges .sectionCount .1) (omega arith) in
+      let v = code-gives s start 1 1 0 (versionOf L) _ (record { none = refl; here = refl }) (stand-first s 0 a₁ (versionOf L ∷ []) (L .sections ∷ []) p₁) (omega arith) (omega arith) (omega arith) in
+      let n = code-gives s _ 1 mostSections _ (L .sections) a₁ (v .clear) (stand-rest s 0 a₁ (versionOf L ∷ []) (L .sections ∷ []) p₁) (ranges .sectionCount .0) (ranges .sectionCount .1) (omega arith) in
       let b : Cursor = code s (code s start 1 1) 1 mostSections in
       let o = subst (λ m. Clear (sections s b m .cur) a₂ × (sections s b m .count ≡ L .points) × (sections s b m .section ≡ L .pointsection)) (sym (n .value))
       (sections-give s L ranges bare b a₁ a₂ (n .clear) p₂) in
@@ -131,12 +131,12 @@ module _ (s : List ℕ) (L : Layout) (ranges : Ranges L) (bare : Bare L) where
   whole-gives : (C : Conflicts L) (next : ℕ) → Stand s 0 (written L) next → Clear (whole s .cur) next × (whole s .layout ≡ L)
   unfolding whole written parts flatten
   whole-gives C next p =
-      let p₁ = stand-rest s 0 next (version ∷ L .sections ∷ []) _ p in
+      let p₁ = stand-rest s 0 next (versionOf L ∷ L .sections ∷ []) _ p in
       let p₂ = stand-rest s _ next (itemNumbers (L .points) (L .pointsection)) _ p₁ in
       let p₃ = stand-rest s _ next (L .signals ∷ []) _ p₂ in
       let p₄ = stand-rest s _ next (listing (L .lines) (λ l. lineNumbers (lineIn L l))) _ p₃ in
       let p₅ = stand-rest s _ next (listing (L .routes) (λ r. routeNumbers (routeIn L r))) _ p₄ in
-      let g = heading-gives _ _ _ (stand-first s 0 next (version ∷ L .sections ∷ []) _ p) (stand-first s _ next (itemNumbers (L .points) (L .pointsection)) _ p₁)
+      let g = heading-gives _ _ _ (stand-first s 0 next (versionOf L ∷ L .sections ∷ []) _ p) (stand-first s _ next (itemNumbers (L .points) (L .pointsection)) _ p₁)
       (stand-first s _ next (L .signals ∷ []) _ p₂) in
       let l = then-lines (heading s) _ _ next next g (stand-first s _ next (listing (L .lines) (λ l. lineNumbers (lineIn L l))) _ p₃) in
       let r = then-routes (heading s) _ _ _ next g (l .0) (l .1) (stand-first s _ next (listing (L .routes) (λ r. routeNumbers (routeIn L r))) _ p₄) in

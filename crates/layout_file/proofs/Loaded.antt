@@ -1,9 +1,9 @@
 -- A layout that was loaded has nothing beside its objects.
 use Prim.Native.Nat.{ℕ}
-use mathlib.Core.Path.{_≡_, refl, sym, subst, _∙_}
+use mathlib.Core.Path.{_≡_, refl, sym, subst}
 use mathlib.Core.List.{List}
 use borrow.Author.Tests.{eq-eqb}
-use lib.ListN.{length, set, length-set, length-replicate}
+use lib.ListN.{length, length-replicate}
 use Rattle.laws.specs.Choice.{if_then_else_}
 use Rattle.laws.proofs.Arrays.{nothing-at}
 use Rattle.laws.proofs.Loops.{iter-keeps}
@@ -25,13 +25,14 @@ use Rattle.file_objects.specs.Sections.{sectionTurn, sections, noSections}
 use Rattle.file_objects.specs.Lines.{aLine, noLines, lineTurn, linesFrom, lines}
 use Rattle.file_objects.specs.Routes.{lineAndEnd, routeHead, aRoute, noRoutes, routeTurn, routesFrom, routes}
 use Rattle.pairs.specs.declared.Pairs.{Pairs}
-use Rattle.pairs.specs.Pairs.{noPairs, listed, aPair, pairTurn, pairsFrom, named, pairs}
+use Rattle.pairs.specs.Pairs.{noPairs, aPair, pairTurn, pairsFrom, named, pairs}
 use Rattle.layout.specs.Layout.{lineIn, routeIn}
 use Rattle.layout.specs.Load.{heading, whole, load}
 use Rattle.layout_facts.proofs.Loaded.{loaded-whole}
 use Rattle.layout_facts.proofs.LoadedCleared.{loaded-cleared}
 use Rattle.layout_file.specs.Bare.{LineTables, RouteTables, Tables, Bare}
 use Rattle.layout_file.proofs.Turns.{entries-long}
+use Rattle.layout_file.proofs.Pairs.{listed-long}
 
 -- ---- lists
 
@@ -64,11 +65,11 @@ module _ (s : List ℕ) (c : Cursor) where
 -- ---- lines and routes
 
 -- a line and a route of nothing
-no-line-tables : LineTables noLine
+pub no-line-tables : LineTables noLine
 unfolding noLine
 no-line-tables = record { block = refl; point = refl; position = refl }
 
-no-route-tables : RouteTables noRoute
+pub no-route-tables : RouteTables noRoute
 unfolding noRoute
 no-route-tables = record { path = refl; overlap = refl; point = refl; position = refl }
 
@@ -124,10 +125,10 @@ module _ (s : List ℕ) (n : Counts) (c : Cursor) where
 
 -- the table of conflicts
 pairs-long : (s : List ℕ) (routes : ℕ) (c : Cursor) → length (pairs s routes c .conflict) ≡ mostPairs
-unfolding pairs pairsFrom pairTurn aPair listed noPairs
+unfolding pairs pairsFrom pairTurn aPair noPairs
 pairs-long s routes c =
     iter-keeps (λ i (t : Pairs). length (t .conflict) ≡ mostPairs) (pairTurn s (named routes)) _ _ (length-replicate {A = ℕ} mostPairs 0)
-    (λ i t l e. length-set (set (t .conflict) _ 1) _ 1 ∙ length-set (t .conflict) _ 1 ∙ e)
+    (λ i t l e. listed-long (t .conflict) _ e)
 
 -- the tables of a whole file
 whole-tables : (s : List ℕ) → Tables (whole s .layout)

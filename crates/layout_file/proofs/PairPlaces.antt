@@ -3,6 +3,7 @@ use Prim.Native.Nat.{ℕ, _+_, _-_, _*_, _/_, _%_, _<_, _≤_}
 use mathlib.Core.Path.{_≡_, sym, ap, _∙_}
 use mathlib.Core.List.{List, [], _∷_}
 use mathlib.Core.Logic.{_⊎_, inl, inr, ⊎-elim}
+use native.Mathlib.Decide.{ℕ-discrete, decLt}
 use native.Mathlib.Omega.{arith}
 use borrow.Author.Tests.{lt-ltb, ltb-true, eq-eqb, eqb-true}
 use lib.Dec.{eqb, ltb}
@@ -10,8 +11,8 @@ use lib.ListN.{getD}
 use Rattle.laws.specs.Choice.{if_then_else_}
 use Rattle.laws.specs.Tests.{_and_}
 use Rattle.laws.specs.Tables.{join}
-use Rattle.laws.proofs.Choice.{chosen, passed-over, Is, which, holds, fails}
-use Rattle.laws.proofs.Tests.{and-both, and-left, and-right, fails-from, not-both}
+use Rattle.laws.proofs.Choice.{chosen, passed-over}
+use Rattle.laws.proofs.Tests.{and-both, and-left, and-right, fails-from}
 use Rattle.laws.proofs.Joins.{join-same, join-rest, join-rows}
 use Rattle.track.specs.Sizes.{mostRoutes, mostPairs}
 use Rattle.pairs.specs.declared.Pair.{Pair}
@@ -50,14 +51,14 @@ module _ (m : List ℕ) (p : ℕ) where
     oneThere : p / mostRoutes < p % mostRoutes → getD m p 0 ≡ 1 → atPlace m p ≡ pairOfPlace p ∷ [] → AtPlace
     noneThere : (p / mostRoutes < p % mostRoutes → getD m p 0 ≡ 1 → ⊥) → atPlace m p ≡ [] → AtPlace
 
-  -- by the test
+  -- by whether the first is the smaller, and whether it is listed
   pub at-place : AtPlace
-  unfolding atPlace
-  at-place = by (which (ltb (p / mostRoutes) (p % mostRoutes) and eqb (getD m p 0) 1))
+  at-place = by (decLt (p / mostRoutes) (p % mostRoutes)) (ℕ-discrete (getD m p 0) 1)
     where
-      by : Is (ltb (p / mostRoutes) (p % mostRoutes) and eqb (getD m p 0) 1) → AtPlace
-      by (holds t) = oneThere (ltb-true _ _ (and-left _ _ t)) (eqb-true _ _ (and-right _ _ t)) (chosen _ _ _ t)
-      by (fails t) = noneThere (λ h e. not-both (and-both _ _ (lt-ltb _ _ h) (eq-eqb _ _ e)) t) (passed-over _ _ _ t)
+      by : Dec (p / mostRoutes < p % mostRoutes) → Dec (getD m p 0 ≡ 1) → AtPlace
+      by (yes h) (yes e) = oneThere h e (place-listed h e)
+      by (no h) e = noneThere (λ x y. h x) (place-empty (λ x y. h x))
+      by (yes h) (no e) = noneThere (λ x y. e y) (place-empty (λ x y. e y))
 
 -- two tables with the same at a place have the same pair there
 pub place-same : (m k : List ℕ) (p : ℕ) → getD m p 0 ≡ getD k p 0 → atPlace m p ≡ atPlace k p

@@ -1,4 +1,4 @@
--- The conflicts of a file, both ways: the pairs that were read stand there and are those of the table; and pairs that stand there make the table.
+-- The conflicts of a file: the pairs that were read stand there, and are those of the table.
 use Prim.Native.Nat.{ℕ, zero, suc, _+_, _-_, _*_, _<_, _≤_}
 use mathlib.Core.Path.{_≡_, refl, sym, ap, ap₂, _∙_}
 use mathlib.Core.Bool.{true}
@@ -41,6 +41,11 @@ numbers-append (p ∷ ps) qs = ap (λ ns. p .first ∷ p .second ∷ ns) (number
 abbrev pub placed : Pair → ℕ
 placed p = placeOf (p .first) (p .second)
 
+-- the table keeps its length
+pub listed-long : (m : List ℕ) (p : Pair) → length m ≡ mostPairs → length (listed m p) ≡ mostPairs
+unfolding listed
+listed-long m p size = length-set (set m (placed p) 1) (placeOf (p .second) (p .first)) 1 ∙ length-set m (placed p) 1 ∙ size
+
 module _ (m : List ℕ) (size : length m ≡ mostPairs) (p : Pair) (smaller : p .first < p .second) (few : p .second < mostRoutes) where
   -- it is listed at its own place
   pub listed-own : getD (listed m p) (placed p) 0 ≡ 1
@@ -58,11 +63,6 @@ module _ (m : List ℕ) (size : length m ≡ mostPairs) (p : Pair) (smaller : p 
   pub listed-other : (k : ℕ) → (k ≡ placed p → ⊥) → (k ≡ placeOf (p .second) (p .first) → ⊥) → getD (listed m p) k 0 ≡ getD m k 0
   unfolding listed
   listed-other k x y = getD-set-other (set m (placed p) 1) (placeOf (p .second) (p .first)) k 1 0 y ∙ getD-set-other m (placed p) k 1 0 x
-
-  -- the table keeps its length
-  pub listed-long : length (listed m p) ≡ mostPairs
-  unfolding listed
-  listed-long = length-set (set m (placed p) 1) (placeOf (p .second) (p .first)) 1 ∙ length-set m (placed p) 1 ∙ size
 
   -- the pair of its place is the pair itself
   pub place-own : pairOfPlace (placed p) ≡ p
@@ -187,21 +187,17 @@ named-all routes few = if-both (λ r. r ≡ routes) (ltb routes mostTrainRoutes)
 -- all pairs
 pub pairs-stand : (s : List ℕ) → Bytes s → (c : Cursor) (routes : ℕ) → routes ≤ mostTrainRoutes → pairs s routes c .cur .fault ≡ 0
     → (c .fault ≡ 0) × Stand s (c .at) (length (pairsBelow (pairs s routes c .conflict) mostPairs) ∷ pairNumbers (pairsBelow (pairs s routes c .conflict) mostPairs)) (pairs s routes c .cur .at)
-unfolding pairs pairsFrom pairCount counted pairTurn aPair listed noPairs
+unfolding pairs pairsFrom pairCount counted pairTurn aPair noPairs
 pairs-stand s b c routes few =
     rw (named-all routes few) (λ e.
     let d : Cursor = code s c 0 mostConflicts in
     let r =
     iter-keeps Kept (pairTurn s routes) (d .value) (record { cur = record { at = d .at; fault = d .fault; value = 0 }; last = noPair; conflict = noPairs })
     (length-replicate {A = ℕ} mostPairs 0, told-start s b routes few d _ refl (λ z. z))
-    (λ i t l p. (long-on i t (p .0), told-on s b routes few d i t (p .0) (p .1))) .1 e in
+    (λ i t l p. (listed-long (t .conflict) _ (p .0), told-on s b routes few d i t (p .0) (p .1))) .1 e in
     let k = code-stands s b c 0 mostConflicts (r .before) in
     (k .0, rw (all-below _ _ (r .there) (r .behind), r .count) (stand-then s (k .1) (r .stand))))
   where
     -- after i turns
     Kept : ℕ → Pairs → Type 0
     Kept i t = (length (t .conflict) ≡ mostPairs) × (t .cur .fault ≡ 0 → Told s b routes few (code s c 0 mostConflicts) i t)
-
-    -- a turn keeps the table's length
-    long-on : (i : ℕ) (t : Pairs) → length (t .conflict) ≡ mostPairs → length (pairTurn s routes i t .conflict) ≡ mostPairs
-    long-on i t e = length-set (set (t .conflict) _ 1) _ 1 ∙ length-set (t .conflict) _ 1 ∙ e

@@ -105,7 +105,7 @@ module _ (s : List ℕ) (m : List ℕ) (routes : ℕ) (few : routes ≤ mostTrai
     clear = clear;
     inside = inside;
     before = omega arith;
-    long = listed-long (t .conflict) (d .long) p smaller inside;
+    long = listed-long (t .conflict) p (d .long);
     done = λ i j l u v. by i j l u v (ℕ-discrete (placeOf i j) (placed p));
     rest = λ i j l u v.
         let r = d .rest i j l u (omega arith) in

@@ -65,7 +65,7 @@ module _ (L : Layout) where
   unfolding pairAt
   pairAt-length r q = mark-list (ltb r q and conflict L r q) _
 
-  -- pairs of fewer than 128 routes have two bytes each
+  -- pairs of at most 128 routes have two bytes each
   pairs-size : L .routes ≤ 128 → size (pairNumbers (pairsOf L)) ≡ length (pairsOf L) * 2
   unfolding pairsOf
   pairs-size few =

@@ -20,7 +20,7 @@ use Rattle.layout.proofs.Laws.{whole-few}
 use Rattle.layout_facts.specs.Loaded.{ZeroPast}
 use Rattle.layout_facts.proofs.Loaded.{loaded-whole}
 use Rattle.layout_facts.proofs.LoadedCleared.{loaded-cleared}
-use Rattle.layout_file.specs.Written.{version, pairsOf, parts, written, forms, fileOf}
+use Rattle.layout_file.specs.Written.{versionOf, pairsOf, parts, written, forms, fileOf}
 use Rattle.layout_file.proofs.Stands.{Stand, stand-none, stand-then}
 use Rattle.layout_file.proofs.Fields.{code-stands}
 use Rattle.layout_file.proofs.Lines.{sections-stand, lines-stand}
@@ -31,8 +31,8 @@ use Rattle.layout_file.proofs.Pairs.{pairs-stand}
 -- ---- a file that loads
 
 -- the version that is read is the one there is
-version-read : (s : List ℕ) → code s start 1 1 .fault ≡ 0 → code s start 1 1 .value ≡ version
-version-read s e = omega (arith, code-in s start 1 1 e .1, code-most s start 1 1 refl)
+version-read : (s : List ℕ) (L : Layout) → code s start 1 1 .fault ≡ 0 → code s start 1 1 .value ≡ versionOf L
+version-read s L e = omega (arith, code-in s start 1 1 e .1, code-most s start 1 1 refl)
 
 -- the numbers of what was read stand in the file, one part after another
 whole-stands : (s : List ℕ) → Bytes s → whole s .cur .fault ≡ 0 → pairsOf (whole s .layout) ≡ pairsBelow (whole s .layout .conflict) mostPairs
@@ -46,7 +46,7 @@ whole-stands s b e f =
     let p = sections-stand s b _ _ (signals .0) in
     let n = code-stands s b _ 1 mostSections (p .0) in
     let v = code-stands s b start 1 1 (n .0) in
-    let first : Stand s 0 (version ∷ []) (code s start 1 1 .at) = subst (λ w. Stand s 0 (w ∷ []) (code s start 1 1 .at)) (version-read s (n .0)) (v .1) in
+    let first : Stand s 0 (versionOf (whole s .layout) ∷ []) (code s start 1 1 .at) = subst (λ w. Stand s 0 (w ∷ []) (code s start 1 1 .at)) (version-read s (whole s .layout) (n .0)) (v .1) in
     rw f (stand-then s (stand-then s first (n .1)) (stand-then s (p .1) (stand-then s (signals .1) (stand-then s (l .1) (stand-then s (r .1) (stand-then s (q .1) (stand-none s _)))))))
 
 -- a load that answers 0 has read to the file's end

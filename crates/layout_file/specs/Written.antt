@@ -69,14 +69,15 @@ pairNumbers ps = flatMap (λ (p : Pair). p .first ∷ p .second ∷ []) ps
 
 -- ---- the file
 
--- the version that is written
-abbrev pub version : ℕ
-version = 1
+-- the version of a layout's file: there is one, 1
+abbrev pub versionOf : Layout → ℕ
+versionOf L = 1
 
--- the parts of a file in their order; what a later version of the file adds is a part more, or more at the end of one
+-- the parts of a file in their order: version and number of sections; points, each with its own section; number of signals; lines; routes; conflicts.
+-- What a later version of the file adds is a part more, or more in one
 unfoldable pub parts : Layout → List (List ℕ)
 parts L =
-    (version ∷ L .sections ∷ [])
+    (versionOf L ∷ L .sections ∷ [])
     ∷ itemNumbers (L .points) (L .pointsection)
     ∷ (L .signals ∷ [])
     ∷ listing (L .lines) (λ l. lineNumbers (lineIn L l))

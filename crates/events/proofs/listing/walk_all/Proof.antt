@@ -7,11 +7,11 @@ use Rattle.events.proofs.listing.walk_all.Tie as tie
 
 -- the buffers keep their lengths
 abbrev Inv-loop : tie.InvT-loop
-Inv-loop fd panel layout n buf₀ out₀ w₀ turns₀ buf out w turns = (length buf ≡ length buf₀) × (length out ≡ length out₀)
+Inv-loop fd path panel layout buf₀ out₀ w₀ turns₀ buf out w turns = (length buf ≡ length buf₀) × (length out ≡ length out₀)
 
 -- the turns left
 abbrev μ-loop : tie.MeasureT-loop
-μ-loop fd panel layout n buf₀ out₀ w₀ turns₀ buf out w turns = turns
+μ-loop fd path panel layout buf₀ out₀ w₀ turns₀ buf out w turns = turns
 
 -- a turn changes the length of neither
 loop-again : tie.Need-loop-again Inv-loop μ-loop
