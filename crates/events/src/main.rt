@@ -73,8 +73,15 @@ fn with_events(file: &[u8], layout_path: &[u8], path: &[u8], panel: bool) {
     libc::close(fd);
 }
 
-// The event file is run on the layout. The first 65,536 bytes of the layout file answer for a longer one.
-fn with_layout(path: &[u8], events: &[u8], panel: bool) {
+// The layout is only loaded, and its answer printed.
+fn load_alone(file: &[u8], path: &[u8]) {
+    let loaded = layout::load(file);
+    let mut out = io::buffer();
+    print_loaded(path, loaded.number, loaded.detail, &mut out);
+}
+
+// The layout file is read, and loaded alone or with an event file that is run on it. Its first 65,536 bytes answer for a longer one.
+fn with_layout(path: &[u8], alone: bool, events: &[u8], panel: bool) {
     let mut room = io::large_buffer();
     let held = files::read_file(path, &mut room);
     let n = held.have;
@@ -82,25 +89,13 @@ fn with_layout(path: &[u8], events: &[u8], panel: bool) {
         return;
     }
     if room.len() < n {
+        return;
+    }
+    if alone {
+        load_alone(&room[0..n], path);
         return;
     }
     with_events(&room[0..n], path, events, panel);
-}
-
-// The layout is only loaded, and its answer printed.
-fn check_layout(path: &[u8]) {
-    let mut room = io::large_buffer();
-    let held = files::read_file(path, &mut room);
-    let n = held.have;
-    if !held.good {
-        return;
-    }
-    if room.len() < n {
-        return;
-    }
-    let loaded = layout::load(&room[0..n]);
-    let mut out = io::buffer();
-    print_loaded(path, loaded.number, loaded.detail, &mut out);
 }
 
 // Whether a word is `panel`.
@@ -126,12 +121,12 @@ fn with_arguments(layout: &[u8]) {
         return;
     }
     if os::arg_count() == 3 {
-        with_layout(layout, &events[..e], false);
+        with_layout(layout, false, &events[..e], false);
         return;
     }
     let w = os::arg(3, &mut word);
     if is_panel(&word[..w]) & (os::arg_count() == 4) {
-        with_layout(layout, &events[..e], true);
+        with_layout(layout, false, &events[..e], true);
         return;
     }
     usage();
@@ -146,7 +141,7 @@ fn main() {
         return;
     }
     if os::arg_count() == 2 {
-        check_layout(&layout[..l]);
+        with_layout(&layout[..l], true, b"", false);
         return;
     }
     with_arguments(&layout[..l]);

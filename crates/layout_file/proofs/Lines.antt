@@ -1,5 +1,5 @@
 -- The points' own sections and the lines of a file, both ways.
-use Prim.Native.Nat.{ℕ, suc, _<_}
+use Prim.Native.Nat.{ℕ, _<_}
 use mathlib.Core.Path.{_≡_, refl}
 use mathlib.Core.List.{List, [], _∷_, flatten}
 use native.Mathlib.Omega.{arith}
@@ -28,8 +28,8 @@ use Rattle.layout_file.specs.Written.{listing, itemNumbers, lineNumbers}
 use Rattle.layout_file.specs.Bare.{Bare}
 use Rattle.layout_file.proofs.Stands.{Stand, stand-none, stand-then, stand-first, stand-rest, stand-last}
 use Rattle.layout_file.proofs.Fields.{reference-stands, Clear, reference-gives}
-use Rattle.layout_file.proofs.Listings.{listing-stands, listing-gives}
-use Rattle.layout_file.proofs.Turns.{entries-read, Copied, copied-start, copied-on, copied-all}
+use Rattle.layout_file.proofs.Listings.{listing-stands, entries-give}
+use Rattle.layout_file.proofs.Turns.{entries-read}
 use Rattle.layout_file.proofs.Lists.{items-stand, points-stand, items-give, points-give}
 
 -- ---- what was read stands there
@@ -78,21 +78,13 @@ module _ (s : List ℕ) (L : Layout) (ranges : Ranges L) (bare : Bare L) (c : Cu
       → Clear (sections s c (L .sections) .cur) next × (sections s c (L .sections) .count ≡ L .points) × (sections s c (L .sections) .section ≡ L .pointsection)
   unfolding itemNumbers sections sectionTurn noSections ownSection
   sections-give p =
-      let r =
-      listing-gives s c 0 mostPoints (sectionTurn s (L .sections)) (λ v. record { cur = code s c 0 mostPoints; count = v; section = replicate mostPoints 0 }) Done
-      (λ i. getD (L .pointsection) i 0 ∷ []) at (L .points) next k (omega arith) (ranges .pointCount) (omega arith)
-      (λ mid d. (d, refl, copied-start mostPoints 0 (L .pointsection))) turn p in
-      (r .0, r .1, copied-all mostPoints 0 (L .pointsection) (L .points) _ (bare .tables .pointsection) (bare .past .sections) (r .2))
-    where
-      -- after i turns
-      Done : ℕ → ℕ → Owned → Type 0
-      Done i a t = Clear (t .cur) a × (t .count ≡ L .points) × Copied mostPoints 0 (L .pointsection) i (t .section)
-
-      -- a turn reads one more
-      turn : (i a b : ℕ) (t : Owned) → i < L .points → Stand s a (getD (L .pointsection) i 0 ∷ []) b → Done i a t → Done (suc i) b (sectionTurn s (L .sections) i t)
-      turn i a b t j q e =
-          let g = reference-gives s (t .cur) (L .sections) a (getD (L .pointsection) i 0) b (e .0) q (ranges .points i j) (omega (arith, ranges .sectionCount .1)) in
-          (g .clear, e .1, copied-on mostPoints 0 (L .pointsection) i (t .section) _ (omega (arith, ranges .pointCount)) (g .value) (e .2))
+      entries-give s c 0 mostPoints (λ (t : Owned). t .cur) (λ t. t .count) (λ t. t .section) (λ t. reference s (t .cur) (L .sections) .value) 0 (λ v. v ∷ [])
+      (sectionTurn s (L .sections)) (λ i t. refl) (λ i t. refl) mostPoints (λ v. record { cur = code s c 0 mostPoints; count = v; section = replicate mostPoints 0 })
+      (λ v. (refl, refl, refl)) (L .pointsection) at (L .points) next k (omega arith) (ranges .pointCount) (omega arith) (ranges .pointCount)
+      (bare .tables .pointsection) (bare .past .sections)
+      (λ i a b t j d q.
+      let g = reference-gives s (t .cur) (L .sections) a (getD (L .pointsection) i 0) b d q (ranges .points i j) (omega (arith, ranges .sectionCount .1)) in
+      (g .clear, g .value)) p
 
   -- a line: what is read of it, one after another, is what it has
   line-gives : (m l : ℕ) → l < L .lines → Stand s at (lineNumbers (lineIn L l)) next
@@ -127,18 +119,7 @@ pub lines-give : (s : List ℕ) (L : Layout) (ranges : Ranges L) (bare : Bare L)
     → Clear (lines s (objectsOf L m) c .cur) next × (lines s (objectsOf L m) c .count ≡ L .lines) × (lines s (objectsOf L m) c .line ≡ L .line)
 unfolding lines linesFrom lineTurn noLines lineIn line
 lines-give s L ranges bare c at next m k p =
-    let r =
-    listing-gives s c 0 mostLines (lineTurn s (objectsOf L m)) (λ v. record { cur = code s c 0 mostLines; count = v; line = replicate mostLines noLine }) Done
-    (λ l. lineNumbers (lineIn L l)) at (L .lines) next k (omega arith) (ranges .lineCount) (omega arith)
-    (λ mid d. (d, refl, copied-start mostLines noLine (L .line))) turn p in
-    (r .0, r .1, copied-all mostLines noLine (L .line) (L .lines) _ (bare .tables .line) (bare .past .lines) (r .2))
-  where
-    -- after i turns
-    Done : ℕ → ℕ → Lines → Type 0
-    Done i a t = Clear (t .cur) a × (t .count ≡ L .lines) × Copied mostLines noLine (L .line) i (t .line)
-
-    -- a turn reads one more
-    turn : (i a b : ℕ) (t : Lines) → i < L .lines → Stand s a (lineNumbers (lineIn L i)) b → Done i a t → Done (suc i) b (lineTurn s (objectsOf L m) i t)
-    turn i a b t j q e =
-        let g = line-gives s L ranges bare (t .cur) a b (e .0) m i j q in
-        (g .0, e .1, copied-on mostLines noLine (L .line) i (t .line) _ (omega (arith, ranges .lineCount)) (g .1) (e .2))
+    entries-give s c 0 mostLines (λ (t : Lines). t .cur) (λ t. t .count) (λ t. t .line) (λ t. aLine s (objectsOf L m) (t .cur) .line) noLine lineNumbers
+    (lineTurn s (objectsOf L m)) (λ i t. refl) (λ i t. refl) mostLines (λ v. record { cur = code s c 0 mostLines; count = v; line = replicate mostLines noLine })
+    (λ v. (refl, refl, refl)) (L .line) at (L .lines) next k (omega arith) (ranges .lineCount) (omega arith) (ranges .lineCount) (bare .tables .line) (bare .past .lines)
+    (λ i a b t j d q. line-gives s L ranges bare (t .cur) a b d m i j q) p

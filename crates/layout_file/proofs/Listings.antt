@@ -1,7 +1,9 @@
 -- A count and the entries after it, both ways.
 use Prim.Native.Nat.{ℕ, suc, _<_, _≤_}
-use mathlib.Core.Path.{_≡_, sym, subst}
+use mathlib.Core.Path.{_≡_, sym, subst, _∙_}
 use mathlib.Core.List.{List, [], _∷_}
+use native.Mathlib.Omega.{arith}
+use lib.ListN.{length, getD, set, replicate}
 use Rattle.laws.specs.Tables.{join, iter}
 use Rattle.numbers.specs.Number.{largest}
 use Rattle.numbers.specs.Form.{Bytes}
@@ -10,6 +12,7 @@ use Rattle.fields.specs.Fields.{code}
 use Rattle.layout_file.specs.Written.{listing}
 use Rattle.layout_file.proofs.Stands.{Stand, stand-then, stand-first, stand-rest, turns-stand}
 use Rattle.layout_file.proofs.Fields.{code-stands, Clear, code-gives}
+use Rattle.layout_file.proofs.Turns.{Copied, copied-start, copied-on, copied-all}
 
 module _ (s : List ℕ) (c : Cursor) (low high : ℕ) where
   -- entries that stand after the count that was read are a list of the file
@@ -29,3 +32,30 @@ module _ (s : List ℕ) (c : Cursor) (low high : ℕ) where
       let d = code-gives s c low high at n _ k (stand-first s at next (n ∷ []) (join n each) p) l h m in
       subst (λ v. Done n next (iter turn v (begun v))) (sym (d .value))
       (turns-stand s turn Done each n step _ next (begun n) (stand-rest s at next (n ∷ []) (join n each) p) (first _ (d .clear)))
+
+-- where turn i stores one entry at i, and stores the entry wanted where that one's numbers stand: the list that stands in the file is stored whole
+module _ (s : List ℕ) (c : Cursor) (low high : ℕ) {T B : Type 0} (cur : T → Cursor) (count : T → ℕ) (list : T → List B) (value : T → B) (none : B)
+    (each : B → List ℕ) (turn : ℕ → T → T) (stores : (i : ℕ) (t : T) → list (turn i t) ≡ set (list t) i (value t)) (counts : (i : ℕ) (t : T) → count (turn i t) ≡ count t)
+    (size : ℕ) (begun : ℕ → T) (begins : (v : ℕ) → (cur (begun v) ≡ code s c low high) × (count (begun v) ≡ v) × (list (begun v) ≡ replicate size none)) where
+  pub entries-give : (want : List B) (at n next : ℕ) → Clear c at → low ≤ n → n ≤ high → high < largest → n ≤ size → length want ≡ size
+      → ((k : ℕ) → n ≤ k → getD want k none ≡ none)
+      → ((i a b : ℕ) (t : T) → i < n → Clear (cur t) a → Stand s a (each (getD want i none)) b → Clear (cur (turn i t)) b × (value t ≡ getD want i none))
+      → Stand s at (listing n (λ k. each (getD want k none))) next
+      → Clear (cur (iter turn (code s c low high .value) (begun (code s c low high .value)))) next
+      × (count (iter turn (code s c low high .value) (begun (code s c low high .value))) ≡ n)
+      × (list (iter turn (code s c low high .value) (begun (code s c low high .value))) ≡ want)
+  entries-give want at n next k l h m few long past gives p =
+      let r =
+      listing-gives s c low high turn begun Done (λ k. each (getD want k none)) at n next k l h m
+      (λ mid d. (subst (λ x. Clear x mid) (sym (begins n .0)) d, begins n .1, rw (begins n .2) (copied-start size none want))) step p in
+      (r .0, r .1, copied-all size none want n _ long past (r .2))
+    where
+      -- after i turns
+      Done : ℕ → ℕ → T → Type 0
+      Done i a t = Clear (cur t) a × (count t ≡ n) × Copied size none want i (list t)
+
+      -- one turn more
+      step : (i a b : ℕ) (t : T) → i < n → Stand s a (each (getD want i none)) b → Done i a t → Done (suc i) b (turn i t)
+      step i a b t j q e =
+          let g = gives i a b t j (e .0) q in
+          (g .0, counts i t ∙ e .1, rw (stores i t) (copied-on size none want i (list t) (value t) (omega arith) (g .1) (e .2)))

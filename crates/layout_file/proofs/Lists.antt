@@ -18,7 +18,7 @@ use Rattle.fields.proofs.Ranges.{code-most, items-count, points-count}
 use Rattle.layout_file.specs.Written.{itemNumbers, pointNumbers}
 use Rattle.layout_file.proofs.Stands.{Stand, stand-then, stand-first, stand-rest}
 use Rattle.layout_file.proofs.Fields.{code-stands, reference-stands, Clear, code-gives, reference-gives}
-use Rattle.layout_file.proofs.Listings.{listing-stands, listing-gives}
+use Rattle.layout_file.proofs.Listings.{listing-stands, listing-gives, entries-give}
 use Rattle.layout_file.proofs.Turns.{turns-read, entries-read, Copied, copied-start, copied-on, copied-all}
 
 -- ---- what was read stands there
@@ -69,20 +69,10 @@ module _ (s : List ℕ) (c : Cursor) (objects at next n : ℕ) (k : Clear c at) 
       → Clear (items s c low high objects .cur) next × (items s c low high objects .count ≡ n) × (items s c low high objects .item ≡ xs)
   unfolding itemNumbers items itemTurn
   items-give low high xs l h m there long past p =
-      let r =
-      listing-gives s c low high (itemTurn s objects) (λ v. record { cur = code s c low high; count = v; item = replicate mostListed 0 }) Done (λ i. getD xs i 0 ∷ []) at n next
-      k l h (omega arith) (λ mid d. (d, refl, copied-start mostListed 0 xs)) turn p in
-      (r .0, r .1, copied-all mostListed 0 xs n _ long past (r .2))
-    where
-      -- after i turns
-      Done : ℕ → ℕ → Items → Type 0
-      Done i a t = Clear (t .cur) a × (t .count ≡ n) × Copied mostListed 0 xs i (t .item)
-
-      -- a turn reads one more
-      turn : (i a b : ℕ) (t : Items) → i < n → Stand s a (getD xs i 0 ∷ []) b → Done i a t → Done (suc i) b (itemTurn s objects i t)
-      turn i a b t j q e =
-          let g = reference-gives s (t .cur) objects a (getD xs i 0) b (e .0) q (there i j) (omega arith) in
-          (g .clear, e .1, copied-on mostListed 0 xs i (t .item) _ (omega arith) (g .value) (e .2))
+      entries-give s c low high (λ (t : Items). t .cur) (λ t. t .count) (λ t. t .item) (λ t. reference s (t .cur) objects .value) 0 (λ v. v ∷ []) (itemTurn s objects)
+      (λ i t. refl) (λ i t. refl) mostListed (λ v. record { cur = code s c low high; count = v; item = replicate mostListed 0 }) (λ v. (refl, refl, refl))
+      xs at n next k l h (omega arith) (omega arith) long past
+      (λ i a b t j d q. let g = reference-gives s (t .cur) objects a (getD xs i 0) b d q (there i j) (omega arith) in (g .clear, g .value)) p
 
   -- points with positions
   pub points-give : (xs ys : List ℕ) → n ≤ mostListed → ((i : ℕ) → i < n → getD xs i 0 < objects) → ((i : ℕ) → i < n → getD ys i 0 ≡ left ⊎ getD ys i 0 ≡ right)

@@ -52,13 +52,18 @@ twice-adds = record { none = refl; sum = λ ps qs. omega (arith, length-append p
 length-adds : Adds (λ (ps : List Pair). length ps)
 length-adds = record { none = refl; sum = length-append }
 
+-- a pair of numbers below 128 has two bytes
+pair-size : (r q : ℕ) → r < 128 → q < 128 → size (pairNumbers (record { first = r; second = q } ∷ [])) ≡ 2
+unfolding pairNumbers flatMap
+pair-size r q a b = short-sized a (short-sized b none-sized) .bytes
+
 module _ (L : Layout) where
   -- two routes are one pair or none, of which each number has one byte
   pairAt-size : (r q : ℕ) → r < 128 → q < 128 → size (pairNumbers (pairAt L r q)) ≡ length (pairAt L r q) * 2
   unfolding pairAt pairNumbers flatMap
   pairAt-size r q a b =
       if-both (λ ps. size (pairNumbers ps) ≡ length ps * 2) (ltb r q and conflict L r q)
-      (λ t. short-sized a (short-sized b none-sized) .bytes) (λ t. size-none)
+      (λ t. pair-size _ _ (omega arith) (omega arith)) (λ t. size-none)
 
   -- one where the first is the smaller and they conflict
   pub pairAt-length : (r q : ℕ) → length (pairAt L r q) ≡ mark (ltb r q and conflict L r q)

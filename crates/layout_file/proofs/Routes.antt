@@ -1,5 +1,5 @@
 -- The routes of a file, both ways.
-use Prim.Native.Nat.{ℕ, suc, _<_, _≤_}
+use Prim.Native.Nat.{ℕ, _<_, _≤_}
 use mathlib.Core.Path.{_≡_, refl, sym, subst, _∙_}
 use mathlib.Core.List.{List, [], _∷_, flatten}
 use mathlib.Core.Logic.{_⊎_}
@@ -29,8 +29,8 @@ use Rattle.layout_file.specs.Written.{listing, itemNumbers, endNumbers, 
 use Rattle.layout_file.specs.Bare.{Bare}
 use Rattle.layout_file.proofs.Stands.{Stand, stand-none, stand-here, stand-then, stand-first, stand-rest, stand-last}
 use Rattle.layout_file.proofs.Fields.{code-stands, reference-stands, Clear, code-gives, reference-gives}
-use Rattle.layout_file.proofs.Turns.{entries-read, Copied, copied-start, copied-on, copied-all}
-use Rattle.layout_file.proofs.Listings.{listing-stands, listing-gives}
+use Rattle.layout_file.proofs.Turns.{entries-read}
+use Rattle.layout_file.proofs.Listings.{listing-stands, entries-give}
 use Rattle.layout_file.proofs.Lists.{items-stand, points-stand, items-give, points-give}
 use Rattle.layout_file.proofs.Lines.{objectsOf}
 
@@ -145,19 +145,8 @@ module _ (s : List ℕ) (L : Layout) (ranges : Ranges L) (bare : Bare L) where
       × (routes s (objectsOf L (L .lines)) c .route ≡ L .route)
   unfolding routes routesFrom routeTurn noRoutes routeIn route
   routes-give c at next k p =
-      let r =
-      listing-gives s c 0 mostTrainRoutes (routeTurn s (objectsOf L (L .lines)))
-      (λ v. record { cur = code s c 0 mostTrainRoutes; count = v; route = replicate mostTrainRoutes noRoute }) Done
-      (λ r. routeNumbers (routeIn L r)) at (L .routes) next k (omega arith) (ranges .routeCount) (omega arith)
-      (λ mid d. (d, refl, copied-start mostTrainRoutes noRoute (L .route))) turn p in
-      (r .0, r .1, copied-all mostTrainRoutes noRoute (L .route) (L .routes) _ (bare .tables .route) (bare .past .routes) (r .2))
-    where
-      -- after i turns
-      Done : ℕ → ℕ → Routes → Type 0
-      Done i a t = Clear (t .cur) a × (t .count ≡ L .routes) × Copied mostTrainRoutes noRoute (L .route) i (t .route)
-
-      -- a turn reads one more
-      turn : (i a b : ℕ) (t : Routes) → i < L .routes → Stand s a (routeNumbers (routeIn L i)) b → Done i a t → Done (suc i) b (routeTurn s (objectsOf L (L .lines)) i t)
-      turn i a b t j q e =
-          let g = route-gives (t .cur) a b i (e .0) j q in
-          (g .0, e .1, copied-on mostTrainRoutes noRoute (L .route) i (t .route) _ (omega (arith, ranges .routeCount)) (g .1) (e .2))
+      entries-give s c 0 mostTrainRoutes (λ (t : Routes). t .cur) (λ t. t .count) (λ t. t .route) (λ t. aRoute s (objectsOf L (L .lines)) (t .cur) .route) noRoute
+      routeNumbers (routeTurn s (objectsOf L (L .lines))) (λ i t. refl) (λ i t. refl) mostTrainRoutes
+      (λ v. record { cur = code s c 0 mostTrainRoutes; count = v; route = replicate mostTrainRoutes noRoute }) (λ v. (refl, refl, refl))
+      (L .route) at (L .routes) next k (omega arith) (ranges .routeCount) (omega arith) (ranges .routeCount) (bare .tables .route) (bare .past .routes)
+      (λ i a b t j d q. route-gives (t .cur) a b i d j q) p
