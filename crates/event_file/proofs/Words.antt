@@ -1,59 +1,37 @@
--- Words written byte for byte, and the lines that stand before those of the events and after them.
+-- The lines that stand before those of the events and after them.
 use Prim.Native.Nat.{ℕ, _+_, _<_, _≤_}
-use mathlib.Core.Path.{_≡_, refl, sym, ap, subst, _∙_}
+use mathlib.Core.Path.{_≡_, _∙_}
 use mathlib.Core.Bool.{Bool, true, false}
-use mathlib.Core.List.{List, [], _∷_, _++_}
-use native.Mathlib.Numerals.{add-one}
+use mathlib.Core.List.{List}
 use native.Mathlib.Omega.{arith}
 use borrow.Author.Needs.{needs}
-use lib.ListN.{length, take, getD, set, length-set}
-use lib.Seq.{take-suc, take-length}
+use lib.ListN.{length, set, length-set}
 use Rattle.laws.specs.Choice.{if_then_else_}
 use Rattle.layout.specs.declared.Layout.{Layout}
 use Rattle.interlocking.specs.State.{cold}
 use Rattle.event_file.specs.Lines.{twoNumbers, shown, lineOf, mostLine}
 use Rattle.event_file.specs.List.{header, faultLine, mostFault, opening, openingIn}
+use Rattle.numerals.specs.Digits.{fitting}
 use Rattle.numerals.specs.Writes.{Put}
 use Rattle.numerals.proofs.Writes.{put-one, put-then, put-within}
-use Rattle.numerals.proofs.Numerals.{put-no-room, put-room}
+use Rattle.numerals.proofs.Numerals.{put-no-room, put-room, put-fitting}
 use Rattle.event_file.proofs.PanelText.{text-room, line-room}
-
--- ---- a word
-
-module _ (xs a : List ℕ) (at : ℕ) where
-  -- none yet
-  pub word-start : Put a at (take 0 xs) 0 a (at + 0)
-  word-start = record { buffer = refl; place = refl; near = omega arith; long = refl }
-
-  -- one more byte
-  pub word-on : (b : List ℕ) (i v : ℕ) → i < length xs → Put a at (take i xs) i b (at + i) → v ≡ getD xs i 0
-      → Put a at (take (i + 1) xs) (i + 1) (set b (at + i) v) (at + (i + 1))
-  word-on b i v h p e =
-      let there : at + (i + 1) ≡ at + i + 1 = omega arith in
-      let grown : take (i + 1) xs ≡ take i xs ++ (v ∷ []) =
-      ap (λ k. take k xs) (add-one i) ∙ take-suc xs i 0 h ∙ ap (λ x. take i xs ++ (x ∷ [])) (sym e) in
-      rw (there, grown) (put-then p (put-one v))
-
-  -- all of them
-  pub word-end : (b : List ℕ) (i n : ℕ) → n ≡ length xs → i ≤ n → n ≤ i → Put a at (take i xs) i b (at + i) → Put a at xs (length xs) b (at + i)
-  word-end b i n e h k p =
-      let all : i ≡ length xs = omega arith in
-      subst (λ ys. Put a at ys (length xs) b (at + i)) (ap (λ m. take m xs) all ∙ take-length xs) (put-within (length xs) (omega arith) p)
-
-pub ruleset words = (needs, word-start, word-on, word-end)
 
 -- ---- the line of a file's fault
 
-module _ (word a b : List ℕ) (number detail m : ℕ) where
-  -- the word, the two numbers and the end
-  pub fault-made : (c : List ℕ) (k : ℕ) → length word ≡ 7 → Put a 0 word (length word) b m → Put b m (twoNumbers number detail) 41 c k
+module _ (a b c : List ℕ) (m k : ℕ) where
+  -- room for the line is room for the word, so it was written; then the two numbers and the end
+  pub fault-made : (word : List ℕ) (number detail : ℕ) → length word ≡ 7 → mostFault ≤ length a
+      → Put a 0 (fitting (length a) 0 (length word) word) (length word) b m → Put b m (twoNumbers number detail) 41 c k
       → Put a 0 (faultLine word number detail) mostFault (set c k 10) (k + 1)
   unfolding faultLine
-  fault-made c k e p q = put-within mostFault (omega arith) (put-then (put-then p q) (put-one 10))
+  fault-made word number detail e h p q =
+      let said : Put a 0 word (length word) b m = put-fitting a 0 (length word) word b m (omega arith) p in
+      put-within mostFault (omega arith) (put-then (put-then said q) (put-one 10))
 
-  -- the buffer keeps its length
-  pub fault-long : (c : List ℕ) (k : ℕ) → Put a 0 word (length word) b m → Put b m (twoNumbers number detail) 41 c k → length (set c k 10) ≡ length a
-  fault-long c k p q = length-set c k 10 ∙ q .long ∙ p .long
+  -- the buffer keeps its length, whatever the two texts before the end are
+  pub fault-long : (xs ys : List ℕ) (i j : ℕ) → Put a 0 xs i b m → Put b m ys j c k → length (set c k 10) ≡ length a
+  fault-long xs ys i j p q = length-set c k 10 ∙ q .long ∙ p .long
 
 pub ruleset faults = (needs, put-no-room, put-room)
 

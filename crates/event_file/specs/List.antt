@@ -6,6 +6,7 @@ use lib.ListN.{length}
 use lib.Dec.{eqb}
 use Rattle.laws.specs.Choice.{if_then_else_}
 use Rattle.numerals.specs.Digits.{fitting}
+use Rattle.numerals.specs.Words.{ascii}
 use Rattle.layout.specs.declared.Layout.{Layout}
 use Rattle.layout.specs.declared.Loaded.{Loaded}
 use Rattle.layout.specs.Load.{load}
@@ -18,15 +19,17 @@ use Rattle.event_file.specs.declared.Next.the-variants.{Taken, Bad, Noth
 use Rattle.event_file.specs.Read.{eventAt}
 use Rattle.event_file.specs.Lines.{twoNumbers, lineEnd, nextCount, shown, lineOf, mostLine}
 
--- the words `layout ` and `events `, and the header `event answer detail` with its line's end
+-- what begins the line of a layout file's answer
 unfoldable pub layoutWord : List ℕ
-layoutWord = 108 ∷ 97 ∷ 121 ∷ 111 ∷ 117 ∷ 116 ∷ 32 ∷ []
+layoutWord = ascii "layout "
 
+-- what begins the line of a fault in an event file
 unfoldable pub eventsWord : List ℕ
-eventsWord = 101 ∷ 118 ∷ 101 ∷ 110 ∷ 116 ∷ 115 ∷ 32 ∷ []
+eventsWord = ascii "events "
 
+-- the header of a list without panels
 unfoldable pub header : List ℕ
-header = 101 ∷ 118 ∷ 101 ∷ 110 ∷ 116 ∷ 32 ∷ 97 ∷ 110 ∷ 115 ∷ 119 ∷ 101 ∷ 114 ∷ 32 ∷ 100 ∷ 101 ∷ 116 ∷ 97 ∷ 105 ∷ 108 ∷ 10 ∷ []
+header = ascii "event answer detail\n"
 
 -- a word with an answer and its detail
 unfoldable pub faultLine : List ℕ → ℕ → ℕ → List ℕ

@@ -5,33 +5,19 @@ use interlocking::State;
 use layout::Layout;
 ghost use mathlib.Core.Path.{_≡_};
 ghost use mathlib.Core.Bool.{true};
-ghost use Prim.Native.Nat.{_+_, _≤_};
+ghost use Prim.Native.Nat.{_≤_};
 ghost use lib.ListN.{length};
 ghost use Rattle.interlocking.specs.State.{cold};
 ghost use Rattle.event_file.specs.Lines.{shown, lineOf, mostLine};
 ghost use Rattle.event_file.specs.List.{layoutWord, eventsWord, header, faultLine, mostFault, faultIn, openingIn};
 ghost use Rattle.numerals.specs.Writes.{Put};
 
-// The bytes of a word, from a place on.
-fn put_word(word: &[u8], out: &mut [u8], at: usize) -> usize
-    requires { ⌜ at + length (now word) ≤ length (now out) ⌝ }
-    ensures { λ r. ⌜ Put (now (out .entry)) at (now (word .entry)) (length (now (word .entry))) (now (out .exit)) r ⌝ }
-{
-    let n = word.len();
-    let mut i: usize = 0;
-    while i < n {
-        out[at + i] = word[i];
-        i += 1;
-    }
-    at + i
-}
-
 // The header.
 fn put_header(out: &mut [u8]) -> usize
     requires { ⌜ 20 ≤ length (now out) ⌝ }
     ensures { λ r. ⌜ Put (now (out .entry)) 0 header 20 (now (out .exit)) r ⌝ }
 {
-    put_word(b"event answer detail\n", out, 0)
+    numerals::put_word(b"event answer detail\n", out, 0)
 }
 
 // The line of the cold start with its panel.
@@ -63,7 +49,7 @@ fn put_fault(word: &[u8], number: u64, detail: u64, out: &mut [u8]) -> usize
     requires { ⌜ (length (now word) ≡ 7) × (mostFault ≤ length (now out)) ⌝ }
     ensures { λ r. ⌜ Put (now (out .entry)) 0 (faultLine (now (word .entry)) number detail) mostFault (now (out .exit)) r ⌝ }
 {
-    let after = put_word(word, out, 0);
+    let after = numerals::put_word(word, out, 0);
     let end = lines::put_two(number, detail, out, after);
     out[end] = 10;
     end + 1

@@ -1,3 +1,4 @@
 pub mod Writes
 pub mod Numerals
+pub mod Words
 pub mod Unique

@@ -1,4 +1,4 @@
-// Numbers in decimal, written into a lent buffer.
+// Text written into a lent buffer: numbers in decimal, and words.
 ghost use Prim.Native.Nat.{_+_, _≤_};
 ghost use lib.ListN.{length};
 ghost use Rattle.numerals.specs.Digits.{decimalDigits, fitting};
@@ -32,4 +32,31 @@ pub fn put_digits(places: u8, n: u64, out: &mut [u8], at: usize) -> usize
         return at;
     }
     write_digits(places, n, out, at)
+}
+
+// The bytes of a word, from a place on; the place after them.
+fn write_word(word: &[u8], out: &mut [u8], at: usize) -> usize
+    requires { ⌜ at + length (now word) ≤ length (now out) ⌝ }
+    ensures { λ r. ⌜ Put (now (out .entry)) at (now (word .entry)) (length (now (word .entry))) (now (out .exit)) r ⌝ }
+{
+    let n = word.len();
+    let mut i: usize = 0;
+    while i < n {
+        out[at + i] = word[i];
+        i += 1;
+    }
+    at + i
+}
+
+// The same where the buffer has room for the word, and nothing where it has not.
+pub fn put_word(word: &[u8], out: &mut [u8], at: usize) -> usize
+    ensures { λ r. ⌜ Put (now (out .entry)) at (fitting (length (now (out .entry))) at (length (now (word .entry))) (now (word .entry))) (length (now (word .entry))) (now (out .exit)) r ⌝ }
+{
+    if out.len() < at {
+        return at;
+    }
+    if out.len() - at < word.len() {
+        return at;
+    }
+    write_word(word, out, at)
 }

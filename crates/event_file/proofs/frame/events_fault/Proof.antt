@@ -1,9 +1,10 @@
 -- No room, or the line with the word.
+use Rattle.numerals.specs.Words.{ascii}
 use Rattle.event_file.specs.List.{eventsWord}
 use Rattle.event_file.proofs.Words.{faults}
 use Rattle.event_file.proofs.frame.events_fault.Statement.{statement}
 use Rattle.event_file.proofs.frame.events_fault.Tie as tie
 
 pub events-fault-spec : {M : Type 1} → statement M
-unfolding eventsWord
+unfolding eventsWord ascii
 events-fault-spec = tie.close (tie.spec (λ c. search faults) (λ c. search faults) (λ c κs. search faults) (λ c. search faults) (λ c. search faults))
