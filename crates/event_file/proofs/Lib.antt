@@ -2,7 +2,7 @@ pub mod Reading
 pub mod Numerals
 pub mod PanelText
 pub mod Shown
-pub mod Words
+pub mod Framing
 pub mod Rest
 pub mod Turns
 pub mod Prefix

@@ -1,5 +1,5 @@
 -- No room, the cold start's line, or the header.
-use Rattle.event_file.proofs.Words.{openings, cold-room, header-room}
+use Rattle.event_file.proofs.Framing.{openings, cold-room, header-room}
 use Rattle.event_file.proofs.frame.opening_line.Statement.{statement}
 use Rattle.event_file.proofs.frame.opening_line.Tie as tie
 

@@ -1,6 +1,6 @@
 -- The word, the two numbers, the end.
 use borrow.Author.Needs.{needs}
-use Rattle.event_file.proofs.Words.{fault-long, fault-made}
+use Rattle.event_file.proofs.Framing.{fault-long, fault-made}
 use Rattle.event_file.proofs.frame.put_fault.Statement.{statement}
 use Rattle.event_file.proofs.frame.put_fault.Tie as tie
 
