@@ -53,7 +53,11 @@ enum {
     HIRUKETAWHA_BYTES_LEFT = 26,         /* bytes are left over; the detail is the offset of the first of them */
 
     /* Of the panel (section 7), length 0 with it. */
-    HIRUKETAWHA_BUFFER_SHORT = 27        /* the lent buffer is too short */
+    HIRUKETAWHA_BUFFER_SHORT = 27,       /* the lent buffer is too short */
+
+    /* Of the lengths of two blocks (request L13), in this order, each with a record of zeros. */
+    HIRUKETAWHA_BAD_HEADWAY = 28,        /* the headway is not one of 120 to 600 seconds */
+    HIRUKETAWHA_BAD_SPEED = 29           /* the speed is none of 70, 90, 100, 130, 160 and 200 km/h */
 };
 
 /* ---- The kinds of events, with their first and second number (section 3). A number that is not used must be 0. */
@@ -179,6 +183,30 @@ struct hiruketawha_reply hiruketawha_event(struct hiruketawha_state *state, cons
  * signal from B to A; a block signal 20 or 22, or 0 where it is dark or there is none. */
 struct hiruketawha_drawn hiruketawha_panel(const struct hiruketawha_state *state, const struct hiruketawha_layout *layout, uint8_t *image,
                                            size_t length);
+
+/* ---- For planners: how long two blocks one after the other may be (request L13, tables 7.1 and 7.2 of JD 550 chapter 7). It is in an archive
+ * of its own, libblock_lengths.a, which a cabinet does without; the two archives may be linked together. */
+
+/* Headway in seconds, speed in km/h, and both tables' lengths in metres: `plain` where there is no stopping place (7.1), `stopping` next to
+ * a stopping place and past it (7.2). 24 bytes. */
+struct hiruketawha_block_lengths {
+    uint32_t headway;
+    uint32_t speed;
+    double plain;
+    double stopping;
+};
+
+/* What is told of a headway and a speed: 0 and the lengths; 28 or 29 and a record of zeros. 32 bytes, of which the second to the eighth have
+ * no meaning. */
+struct hiruketawha_lengths_answer {
+    uint8_t number;
+    struct hiruketawha_block_lengths lengths;
+};
+
+/* The lengths for a headway and a speed; numbers of any size. At 120, 180, .., 600 seconds the table's own lengths, exactly; between them one
+ * rounded division and one rounded sum, within 2^-35 m of the straight line. Two misprints of the tables are put right: 180 s, 90 km/h in 7.1
+ * is 3030 m, 180 s, 100 km/h in 7.2 is 2900 m. */
+struct hiruketawha_lengths_answer hiruketawha_lengths(uint32_t headway, uint32_t speed);
 
 #ifdef __cplusplus
 }

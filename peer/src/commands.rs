@@ -1,10 +1,10 @@
 // The commands of the stored cases, of the benchmarks, and of a program beside the peer.
 use crate::lbox::Var;
 use crate::level::LEVEL;
-use crate::{bench, beside, cases, runs, slurp};
+use crate::{bench, beside, cases, lengths, runs, slurp};
 
 pub const USAGE: &str = "beside PROGRAM [FIRST-SEED [COUNT [LENGTH]]] [max] | layouts DATA EXPECTED [SEED] | answers DATA | runs DATA EXPECTED [SEED] | \
-    played DATA | bench LAYOUT PREFIX EVENTS TURNS | bench-files FOLDER";
+    played DATA | all-lengths | bench LAYOUT PREFIX EVENTS TURNS | bench-files FOLDER";
 
 /// The number at a place of the words, or another where there is none.
 pub fn number(words: &[&str], place: usize, other: u64) -> u64 {
@@ -21,6 +21,7 @@ pub fn done(words: &[&str], v: &Var) -> bool {
         ["answers", data] => print!("{}", cases::answers(&slurp(data), v.n)),
         ["runs", data, expected, seed @ ..] => runs::store(data, expected, number(seed, 0, 1)),
         ["played", data] => print!("{}", runs::played(&slurp(data), v)),
+        ["all-lengths"] => print!("{}", lengths::lines()),
         ["bench", layout, prefix, events, turns] => println!("{}", bench::play(layout, prefix, events, number(&[turns], 0, 0), v)),
         ["bench-files", folder] => bench::files(folder),
         _ => return false,

@@ -8,6 +8,7 @@ mod hand_cases;
 mod judge;
 mod layout;
 mod lbox;
+mod lengths;
 mod level;
 mod num;
 mod number_cases;

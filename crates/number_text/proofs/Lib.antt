@@ -4,4 +4,5 @@ pub mod Packing
 pub mod Turns
 pub mod Digits
 pub mod Trip
+pub mod Words
 pub mod Unique

@@ -11,6 +11,7 @@ use Rattle.number_text.specs.declared.unpack.Unpacked.{Unpacked}
 use Rattle.number_text.proofs.pack.start.Reads as start
 use Rattle.number_text.proofs.pack.pack_piece.Reads as pack-piece
 use Rattle.number_text.proofs.unpack.unpack_piece.Reads as unpack-piece
+use Rattle.number_text.proofs.word.read_word.Reads as read-word
 
 -- before the first byte of a text
 pub start-determined : Determines start.Post
@@ -40,3 +41,7 @@ unpack-piece-determined κs a r q s t p o = (
   same-unpacked (only (p .column) (o .column)) (only (p .at) (o .at)) (only (p .text .place) (o .text .place)) (only (p .stop) (o .stop)),
   only (p .text .buffer) (o .text .buffer),
 )
+
+-- a word for one number
+pub read-word-determined : Determines read-word.Post
+read-word-determined κs a r q s = only

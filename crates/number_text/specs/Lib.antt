@@ -2,3 +2,4 @@ pub mod Text
 pub mod Lines
 pub mod Pieces
 pub mod Trip
+pub mod Word

@@ -46,7 +46,7 @@ fn is_end(byte: u8) -> bool
 }
 
 // A decimal digit.
-fn is_digit(byte: u8) -> bool
+pub fn is_digit(byte: u8) -> bool
     ensures { λ r. ⌜ r ≡ isDigit byte ⌝ }
 {
     (48 <= byte) & (byte <= 57)
@@ -80,7 +80,7 @@ fn start_line(line: u64) -> Reader
 }
 
 // The number with one more digit, as far as it is not too large already.
-fn next_value(value: u64, byte: u8) -> u64
+pub fn next_value(value: u64, byte: u8) -> u64
     requires { ⌜ 48 ≤ byte ⌝ }
     ensures { λ r. ⌜ r ≡ nextValue value byte ⌝ }
 {

@@ -1,0 +1,10 @@
+pub mod Laws
+pub mod Examples
+pub mod Rounding
+pub mod Fractions
+pub mod Line
+pub mod Tables
+pub mod Bits
+pub mod Nearest
+pub mod Right
+pub mod Unique

@@ -1,0 +1,4 @@
+pub mod Writing
+pub mod Texts
+pub mod Metres
+pub mod Unique
