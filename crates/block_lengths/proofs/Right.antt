@@ -90,7 +90,7 @@ module _ (t : List (List ℕ)) (rises : Rises t) (short : Short t) (headway colu
   own-number s = chosen _ _ _ (eq-eqb (secondsOver headway) 0 s)
 
   -- the line is no longer than 65,536 m
-  line-short : sixtieths t headway column ≤ 3932160
+  pub line-short : sixtieths t headway column ≤ 3932160
   unfolding sixtieths
   line-short = elim (which (eqb (secondsOver headway) 0)) [
     | holds e ↦

@@ -1,4 +1,5 @@
 pub mod Writing
 pub mod Texts
 pub mod Metres
+pub mod Legible
 pub mod Unique

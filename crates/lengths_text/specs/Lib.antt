@@ -1,3 +1,4 @@
 pub mod Places
+pub mod ReadBack
 pub mod Answer
 pub mod Sheet
