@@ -31,7 +31,11 @@ static void lines(uint32_t headway) {
     for (size_t i = 0; i < sizeof speeds / sizeof speeds[0]; i++) line(headway, speeds[i]);
 }
 
+static struct hiruketawha_state state;
+static struct hiruketawha_layout layout;
+
 int main(void) {
+    hiruketawha_power_on(&state, &layout); /* of the other archive: both are linked */
     EXPECT(sizeof(struct hiruketawha_block_lengths) == 24);
     EXPECT(sizeof(struct hiruketawha_lengths_answer) == 32);
     for (uint32_t headway = 119; headway <= 601; headway++) lines(headway);

@@ -184,8 +184,9 @@ struct hiruketawha_reply hiruketawha_event(struct hiruketawha_state *state, cons
 struct hiruketawha_drawn hiruketawha_panel(const struct hiruketawha_state *state, const struct hiruketawha_layout *layout, uint8_t *image,
                                            size_t length);
 
-/* ---- For planners: how long two blocks one after the other may be (request L13, tables 7.1 and 7.2 of JD 550 chapter 7). It is in an archive
- * of its own, libblock_lengths.a, which a cabinet does without; the two archives may be linked together. */
+/* ---- For planners: how long two blocks one after the other may be, for trains that follow one another (request L13, tables 7.1 and 7.2 of
+ * JD 550 chapter 7). The stopping distance is to be checked apart. It is in an archive of its own, libblock_lengths.a, which a cabinet does
+ * without; the two archives may be linked together. */
 
 /* Headway in seconds, speed in km/h, and both tables' lengths in metres: `plain` where there is no stopping place (7.1), `stopping` next to
  * a stopping place and past it (7.2). 24 bytes. */

@@ -19,7 +19,7 @@ use Rattle.block_lengths.specs.Bits.{shiftOf, halvesOf}
 
 -- ---- below 2 ^ 53 m the exponent's field is 1075 at most
 
--- at most 1074 digits are dropped of the units
+-- of 1127 digits at most 53 are kept, so 1074 are dropped at most
 dropped : (z : ℕ) → z ≤ 1127 → z - 53 ≤ 1074
 dropped z h = omega arith
 
@@ -72,18 +72,18 @@ same-whole : (x b y d : ℕ) → 0 < b → 0 < d → x * d ≡ y * b → x / b �
 same-whole x b y d B D e =
     sym (mul-div-mul-right x b D) ∙ ap (λ z. z / (b * d)) e ∙ ap (λ z. y * b / z) (mul-comm b d) ∙ mul-div-mul-right y d B
 
--- and so have two thousand times each
+-- two thousand times equal fractions are equal fractions too
 two-thousand : (x b y d : ℕ) → 0 < b → 0 < d → x * d ≡ y * b → 2000 * x / b ≡ 2000 * y / d
 two-thousand x b y d B D e = same-whole (2000 * x) b (2000 * y) d B D (mul-assoc 2000 x d ∙ ap (λ z. 2000 * z) e ∙ sym (mul-assoc 2000 y b))
 
--- a length of 2 ^ 53 of the shifted metres has no half millimetre where it is shifted by 64 or more
+-- digits below 2 ^ 53, shifted by 64 or more, are less than half a millimetre: two thousand times they are below 2 ^ 64
 no-halves : (q s : ℕ) → q < 9007199254740992 → 64 ≤ s → 2000 * q / 2 ^ s ≡ 0
 no-halves q s h l = div-eq-of-lt (lt-of-lt-of-le (below q h) (pow-mono l))
   where
     below : (q : ℕ) → q < 9007199254740992 → 2000 * q < 2 ^ 64
     below q h = omega arith
 
--- of the digits of a field x and the shift, with the power that they share
+-- a float of value a / d, by bits b whose exponent's field is x + 1
 module _ (a d b x : ℕ) (D : 0 < d) (f : b / 4503599627370496 ≡ suc x) (h : suc x ≤ 1075) where
   -- the shift and the field are 1075
   shift-is : x + shiftOf b ≡ 1074

@@ -9,11 +9,11 @@ use lib.Ieee.Exact.{HasValue}
 use Rattle.laws.proofs.Tests.{and-both}
 use Rattle.block_lengths.specs.Fractions.{near, within, exactly}
 
--- a / b is h / m, and c / d is the fraction it is to be near
+-- a / b and h / m are one fraction, so what is said of its distance from c / d in the one form holds in the other: both sides times m and b
 module _ (n a b h m c d : ℕ) (p : 0 < m) (v : a * m ≡ h * b) where
-  -- n times a / b over d, and n times h / m
-  over : n * a * d * m ≡ n * (h * d) * b
-  over =
+  -- n times a / b and n times h / m, over the same
+  both-over : n * a * d * m ≡ n * (h * d) * b
+  both-over =
       let l : n * a * d * m ≡ n * d * (a * m) = simp (mul-assoc, mul-comm, mul-left-comm) in
       let r : n * d * (h * b) ≡ n * (h * d) * b = simp (mul-assoc, mul-comm, mul-left-comm) in
       l ∙ ap (λ z. n * d * z) v ∙ r
@@ -22,14 +22,14 @@ module _ (n a b h m c d : ℕ) (p : 0 < m) (v : a * m ≡ h * b) where
   not-above : n * (h * d) ≤ n * (c * m) + m * d → n * a * d ≤ n * c * b + b * d
   not-above k =
       let same : (n * (c * m) + m * d) * b ≡ (n * c * b + b * d) * m = simp (add-mul, mul-assoc, mul-comm, mul-left-comm) in
-      le-of-mul-le-mul-right (le-trans (le-of-eq over) (le-trans (mul-le-mul-right b k) (le-of-eq same))) p
+      le-of-mul-le-mul-right (le-trans (le-of-eq both-over) (le-trans (mul-le-mul-right b k) (le-of-eq same))) p
 
   -- and what is not below it is not
   not-below : n * (c * m) ≤ n * (h * d) + m * d → n * c * b ≤ n * a * d + b * d
   not-below k =
       let left : n * c * b * m ≡ n * (c * m) * b = simp (mul-assoc, mul-comm, mul-left-comm) in
       let right : (n * (h * d) + m * d) * b ≡ n * (h * d) * b + b * d * m = simp (add-mul, mul-assoc, mul-comm, mul-left-comm) in
-      let all : (n * a * d + b * d) * m ≡ n * (h * d) * b + b * d * m = add-mul (n * a * d) (b * d) m ∙ ap (λ z. z + b * d * m) over in
+      let all : (n * a * d + b * d) * m ≡ n * (h * d) * b + b * d * m = add-mul (n * a * d) (b * d) m ∙ ap (λ z. z + b * d * m) both-over in
       le-of-mul-le-mul-right (le-trans (le-of-eq left) (le-trans (mul-le-mul-right b k) (le-of-eq (right ∙ sym all)))) p
 
 -- a float whose value is h / m, at most 1 / n from c / d

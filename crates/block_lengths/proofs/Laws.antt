@@ -1,13 +1,12 @@
 -- What the proofs of the functions cite.
-use Prim.Native.Nat.{ℕ, _+_, _-_, _*_, _/_, _%_, _<_, _≤_}
+use Prim.Native.Nat.{ℕ, _+_, _*_, _<_, _≤_}
 use mathlib.Core.Path.{_≡_, refl, sym, subst}
 use mathlib.Core.Bool.{Bool, true, false, true≢false}
-use mathlib.Core.List.{List, []}
+use mathlib.Core.List.{List}
 use native.Mathlib.Nat.{mul-le-mul}
 use native.Mathlib.Omega.{arith}
 use borrow.Author.Tests.{ltb-false}
 use lib.Dec.{ltb}
-use lib.ListN.{getD}
 use lib.Ieee.{Float}
 use Rattle.laws.specs.Tests.{_or_}
 use Rattle.laws.proofs.Choice.{if-ne, if-false, if-le, if-gt}
@@ -44,17 +43,15 @@ rises-too t u e r = subst Rises (sym e) r
 
 module _ (t : List (List ℕ)) (headway column : ℕ) where
   -- between two headways the upper of the two entries is no lower
-  pub no-lower : Rises t → headway ≤ 600 → column < 6 → ((headway - 120) % 60 ≡ 0 → ⊥)
-      → getD (getD t ((headway - 120) / 60) []) column 0 ≤ getD (getD t ((headway - 120) / 60 + 1) []) column 0
-  unfolding Rises entry
-  no-lower r h c s = r ((headway - 120) / 60) column (omega (arith, s)) c
+  pub no-lower : Rises t → headway ≤ 600 → column < 6 → (secondsOver headway ≡ 0 → ⊥) → entry t (rowOf headway) column ≤ entry t (rowOf headway + 1) column
+  unfolding Rises rowOf secondsOver
+  no-lower r h c s = r (rowOf headway) column (omega (arith, s)) c
 
-  -- and the length is between the two
-  pub on-the-line : (r : Float) → ((headway - 120) % 60 ≡ 0 → ⊥)
-      → r ≡ interpolated (getD (getD t ((headway - 120) / 60) []) column 0) (getD (getD t ((headway - 120) / 60 + 1) []) column 0) ((headway - 120) % 60)
-      → r ≡ lengthIn t headway column
-  unfolding entry rowOf secondsOver lengthIn
-  on-the-line r s e = if-ne ((headway - 120) % 60) 0 _ _ r s e
+  -- and the length is interpolated
+  pub between-rows : (r : Float) → (secondsOver headway ≡ 0 → ⊥)
+      → r ≡ interpolated (entry t (rowOf headway) column) (entry t (rowOf headway + 1) column) (secondsOver headway) → r ≡ lengthIn t headway column
+  unfolding lengthIn
+  between-rows r s e = if-ne (secondsOver headway) 0 _ _ r s e
 
 -- a headway from 120 to 600, and the column that the code found
 module _ (headway speed column : ℕ) (e : column ≡ columnOf speed) (n : ltb headway 120 or ltb 600 headway ≡ false) where

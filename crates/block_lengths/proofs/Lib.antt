@@ -1,5 +1,4 @@
 pub mod Laws
-pub mod Examples
 pub mod Rounding
 pub mod Fractions
 pub mod Line
@@ -8,3 +7,4 @@ pub mod Bits
 pub mod Nearest
 pub mod Right
 pub mod Unique
+pub mod Examples

@@ -30,7 +30,7 @@ is-number nan y e = absurd (true≢false (sym e))
 is-number (inf s) y e = tt
 is-number (fin s m n) y e = tt
 
--- the second test, of a number that is not negative
+-- whether a number that is not negative is below 2 ^ 53 m
 below-limit : (m : ℕ) (e : ℤ) → lt (fin false m e) limit ≡ ltb (m * up e) (2 ^ 53 * down e)
 unfolding lt ofBits
 below-limit m e = rw (mul-one (m * up e), one-mul (2 ^ 53))
@@ -44,7 +44,7 @@ halves-up a d D = ap (λ z. (2000 * a + d) / z) (mul-comm 2 d) ∙ sym (div-div-
 upper-half : (h k : ℕ) → h ≡ k → h / 2 + h % 2 ≡ (k + 1) / 2
 upper-half h k e = omega (arith, e)
 
--- above 0 and below 2 ^ 53 m: the bits' half millimetres
+-- above 0 and below 2 ^ 53 m the bits are those of such a length: the tests leave no other float
 pub bits-short : (x : Float) → lt nothing x ≡ true → lt x limit ≡ true → toBits binary64 x < 4845873199050653696
 unfolding lt ofBits
 bits-short nan p l = absurd (true≢false (sym l))
@@ -53,6 +53,7 @@ bits-short (inf false) p l = absurd (true≢false (sym l))
 bits-short (fin true m e) p l = absurd (true≢false (sym p))
 bits-short (fin false m e) p l = bits-below m e (ltb-true (m * up e) (2 ^ 53 * down e) (sym (below-limit m e) ∙ l))
 
+-- and the upper half of the bits' half millimetres is its nearest millimetre
 pub millimetres-are : (x : Float) (h : ℕ) → T (fits binary64 x) → lt nothing x ≡ true → lt x limit ≡ true → h ≡ halvesOf (toBits binary64 x) → h / 2 + h % 2 ≡ millimetres x
 unfolding lt ofBits millimetres
 millimetres-are nan h F p l e = absurd (true≢false (sym l))

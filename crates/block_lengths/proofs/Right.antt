@@ -20,7 +20,7 @@ use Rattle.block_lengths.specs.Lengths.{float, interpolated, lengthIn, r
 use Rattle.block_lengths.specs.Fractions.{within, exactly}
 use Rattle.block_lengths.specs.Millimetres.{nearestMillimetre, millimetres}
 use Rattle.block_lengths.specs.Tables.{Rises}
-use Rattle.block_lengths.specs.Right.{sixtieths, OnTheLine, Right}
+use Rattle.block_lengths.specs.Right.{sixtieths, On, OnTheLine, Right}
 use Rattle.block_lengths.proofs.Laws.{no-column, both-lengths}
 use Rattle.block_lengths.proofs.Tables.{Short, rises71, rises72, short71, short72}
 use Rattle.block_lengths.proofs.Line.{float-exact, float-on-line, next-to-line}
@@ -43,6 +43,21 @@ seconds-below : (headway : ℕ) → secondsOver headway < 60
 unfolding secondsOver
 seconds-below headway = omega arith
 
+-- a headway that is so many seconds on from a row has that row
+on-row : (row seconds headway : ℕ) → On row seconds headway → rowOf headway ≡ row
+unfolding On rowOf
+on-row row seconds headway o = omega (arith, o .0, o .1)
+
+-- and is so many seconds over it
+on-seconds : (row seconds headway : ℕ) → On row seconds headway → secondsOver headway ≡ seconds
+unfolding On secondsOver
+on-seconds row seconds headway o = omega (arith, o .0, o .1)
+
+-- a headway from 120 on is as many seconds as it is over its row on from that
+pub on-its-row : (headway : ℕ) → 120 ≤ headway → On (rowOf headway) (secondsOver headway) headway
+unfolding On rowOf secondsOver
+on-its-row headway l = (omega arith, omega arith)
+
 -- ---- a line between two lengths of 16 bits is no longer than they are
 
 short-line : (low high s : ℕ) → low ≤ 65535 → high ≤ 65535 → s < 60 → low * (60 - s) + high * s ≤ 3932160
@@ -62,7 +77,7 @@ module _ (t : List (List ℕ)) (rises : Rises t) (short : Short t) (headway colu
   next-short s = let r : rowOf headway < 8 = row-after headway h s in short (rowOf headway + 1) column (omega arith) c
 
   -- at one of its headways the length is its number, and on the line
-  own-on-line : (k : ℕ) → secondsOver headway ≡ 0 → within k (float (entry t (rowOf headway) column)) (sixtieths t headway column) 60 ≡ true
+  own-on-line : (k : ℕ) → secondsOver headway ≡ 0 → within k (float (entry t (rowOf headway) column)) (sixtieths t (rowOf headway) (secondsOver headway) column) 60 ≡ true
   unfolding sixtieths
   own-on-line k s =
       let low = entry t (rowOf headway) column in
@@ -71,17 +86,17 @@ module _ (t : List (List ℕ)) (rises : Rises t) (short : Short t) (headway colu
 
   -- between two of them it is next to the line
   next-on-line : (k : ℕ) → k ≤ 2 ^ 35 → (secondsOver headway ≡ 0 → ⊥)
-      → within k (interpolated (entry t (rowOf headway) column) (entry t (rowOf headway + 1) column) (secondsOver headway)) (sixtieths t headway column) 60 ≡ true
+      → within k (interpolated (entry t (rowOf headway) column) (entry t (rowOf headway + 1) column) (secondsOver headway)) (sixtieths t (rowOf headway) (secondsOver headway) column) 60 ≡ true
   unfolding sixtieths Rises
   next-on-line k K s =
       next-to-line k (entry t (rowOf headway) column) (entry t (rowOf headway + 1) column) (secondsOver headway) K
       (rises (rowOf headway) column (row-after headway h s) c) (next-short s) (seconds-below headway)
 
   -- so every length is within 1 / k of it for any k up to 2 ^ 35
-  pub on-line : (k : ℕ) → k ≤ 2 ^ 35 → within k (lengthIn t headway column) (sixtieths t headway column) 60 ≡ true
+  pub on-line : (k : ℕ) → k ≤ 2 ^ 35 → within k (lengthIn t headway column) (sixtieths t (rowOf headway) (secondsOver headway) column) 60 ≡ true
   unfolding lengthIn
   on-line k K =
-      if-both (λ x. within k x (sixtieths t headway column) 60 ≡ true) (eqb (secondsOver headway) 0)
+      if-both (λ x. within k x (sixtieths t (rowOf headway) (secondsOver headway) column) 60 ≡ true) (eqb (secondsOver headway) 0)
       (λ e. own-on-line k (eqb-true (secondsOver headway) 0 e)) (λ e. next-on-line k K (eqb-false (secondsOver headway) 0 e))
 
   -- at the table's headways it is the table's number
@@ -90,7 +105,7 @@ module _ (t : List (List ℕ)) (rises : Rises t) (short : Short t) (headway colu
   own-number s = chosen _ _ _ (eq-eqb (secondsOver headway) 0 s)
 
   -- the line is no longer than 65,536 m
-  pub line-short : sixtieths t headway column ≤ 3932160
+  pub line-short : sixtieths t (rowOf headway) (secondsOver headway) column ≤ 3932160
   unfolding sixtieths
   line-short = elim (which (eqb (secondsOver headway) 0)) [
     | holds e ↦
@@ -101,29 +116,36 @@ module _ (t : List (List ℕ)) (rises : Rises t) (short : Short t) (headway colu
         (omega (arith, next-short (eqb-false (secondsOver headway) 0 e))) (seconds-below headway)
   ]
 
-  -- all that is asked of a length
+  -- all that is asked of a length, for the row and the seconds that the headway is on
   pub on-the-line : OnTheLine t headway column (lengthIn t headway column)
   on-the-line =
-      let m = next-millimetre (lengthIn t headway column) (sixtieths t headway column) line-short (on-line 10000 (lit≤ tt)) in
+      let x = lengthIn t headway column in
+      let m = next-millimetre x (sixtieths t (rowOf headway) (secondsOver headway) column) line-short (on-line 10000 (lit≤ tt)) in
       record {
-        exact = λ s. subst (λ x. exactly x (entry t (rowOf headway) column) ≡ true) (sym (own-number s)) (float-exact _ own-short);
-        straight = on-line 1000 (lit≤ tt);
+        exact =
+            λ row o.
+            subst (λ r. exactly x (entry t r column) ≡ true) (on-row row 0 headway o)
+            (subst (λ y. exactly y (entry t (rowOf headway) column) ≡ true) (sym (own-number (on-seconds row 0 headway o))) (float-exact _ own-short));
+        straight =
+            λ row seconds o.
+            subst (λ n. within 1000 x n 60 ≡ true) (same-line row seconds o) (on-line 1000 (lit≤ tt));
         half = m .0;
-        nearest = m .1;
+        nearest = λ row seconds o. m .1 ∙ ap (λ n. nearestMillimetre n 60) (same-line row seconds o);
       }
+    where
+      same-line : (row seconds : ℕ) → On row seconds headway → sixtieths t (rowOf headway) (secondsOver headway) column ≡ sixtieths t row seconds column
+      same-line row seconds o = rw (on-row row seconds headway o, on-seconds row seconds headway o)
 
--- at the table's headways such a length has the thousands of its number, so in whole metres it is that number
+-- a whole number of metres on the line
 own-nearest : (e high : ℕ) → nearestMillimetre (e * (60 - 0) + high * 0) 60 ≡ 1000 * e
 unfolding nearestMillimetre
 own-nearest e high = omega arith
 
-pub own-millimetres : (t : List (List ℕ)) (headway column : ℕ) (x : Float) → OnTheLine t headway column x → secondsOver headway ≡ 0
-    → millimetres x ≡ 1000 * entry t (rowOf headway) column
+-- at the table's headways a length that is right has the thousands of the table's number
+pub own-millimetres : (t : List (List ℕ)) (headway column row : ℕ) (x : Float) → OnTheLine t headway column x → On row 0 headway
+    → millimetres x ≡ 1000 * entry t row column
 unfolding sixtieths
-own-millimetres t headway column x p s =
-    p .nearest
-    ∙ ap (λ z. nearestMillimetre (entry t (rowOf headway) column * (60 - z) + entry t (rowOf headway + 1) column * z) 60) s
-    ∙ own-nearest (entry t (rowOf headway) column) (entry t (rowOf headway + 1) column)
+own-millimetres t headway column row x p o = p .nearest row 0 o ∙ own-nearest (entry t row column) (entry t (row + 1) column)
 
 -- ---- the answer
 

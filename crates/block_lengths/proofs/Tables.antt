@@ -90,3 +90,8 @@ as-printed71 row column = as-printed printed71 (rowOf 180) (columnOf 90) 3030 ro
 pub as-printed72 : (row column : ℕ) → (row ≡ rowOf 180 → column ≡ columnOf 100 → ⊥) → entry table72 row column ≡ entry printed72 row column
 unfolding table72
 as-printed72 row column = as-printed printed72 (rowOf 180) (columnOf 100) 2900 row column
+
+-- and there are 3030 and 2900
+pub put-right : (entry table71 (rowOf 180) (columnOf 90) ≡ 3030) × (entry table72 (rowOf 180) (columnOf 100) ≡ 2900)
+unfolding printed71 printed72 table71 table72 speeds rowOf columnOf lowest lowestFrom if_then_else_ corrected entry
+put-right = (refl, refl)

@@ -25,7 +25,7 @@ fn tell(out: &[u8], n: usize) {
 fn usage() {
     io::write_all(
         STDERR_FILENO,
-        b"usage: lengths [HEADWAY SPEED], in seconds and km/h\n",
+        b"usage: lengths [HEADWAY SPEED], in whole seconds and km/h\n",
     );
 }
 

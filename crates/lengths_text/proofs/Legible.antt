@@ -1,13 +1,13 @@
--- What is printed of a length, read back, is its millimetres, and so within half a millimetre of it.
+-- What is printed of a length, read back by its point, is its millimetres, and so within half a millimetre of it.
 use Prim.Native.Nat.{ℕ, zero, suc, _+_, _-_, _*_, _/_, _%_, _^_, _≤_, _<_}
 use mathlib.Core.Path.{_≡_, refl, sym, ap, subst, _∙_}
-use mathlib.Core.Bool.{true}
+use mathlib.Core.Bool.{Bool, true, false, not, _&&_, true≢false}
 use mathlib.Core.List.{List, [], _∷_, _++_}
 use native.Mathlib.Omega.{arith}
 use native.Mathlib.Nat.{div-lt-iff-lt-mul, mul-comm, pow-succ'}
-use borrow.Author.Tests.{le-leb, eqb-true}
+use borrow.Author.Tests.{le-leb, eqb-true, ne-eqb}
 use lib.Dec.{eqb, leb, lit<}
-use lib.ListN.{getD}
+use lib.ListN.{length, getD}
 use lib.Ieee.{Float}
 use Rattle.laws.specs.Choice.{if_then_else_}
 use Rattle.laws.specs.Tests.{_and_}
@@ -18,12 +18,12 @@ use Rattle.numerals.specs.Words.{ascii}
 use Rattle.block_lengths.specs.Fractions.{within}
 use Rattle.block_lengths.specs.Lengths.{answer}
 use Rattle.block_lengths.specs.Millimetres.{nearestMillimetre, millimetres}
-use Rattle.block_lengths.specs.Paper.{speeds, table71, table72}
-use Rattle.block_lengths.specs.Right.{sixtieths, OnTheLine}
-use Rattle.block_lengths.proofs.Right.{right, line-short}
+use Rattle.block_lengths.specs.Paper.{speeds, rowOf, secondsOver, table71, table72}
+use Rattle.block_lengths.specs.Right.{sixtieths, On, OnTheLine}
+use Rattle.block_lengths.proofs.Right.{right, line-short, on-its-row}
 use Rattle.block_lengths.proofs.Tables.{rises71, rises72, short71, short72}
 use Rattle.lengths_text.specs.Places.{place, places, filled, metresText}
-use Rattle.lengths_text.specs.ReadBack.{withByte, readOn, readBack, Legible}
+use Rattle.lengths_text.specs.ReadBack.{before, behind, withByte, readOn, readBack, Printed, Legible}
 
 -- a text and one behind it are read one after the other
 read-both : (n : ℕ) (xs ys : List ℕ) → readOn n (xs ++ ys) ≡ readOn (readOn n xs) ys
@@ -58,15 +58,15 @@ tenth : (n k : ℕ) → n < 10 ^ suc k → n / 10 < 10 ^ k
 tenth n k h = div-lt-iff-lt-mul (lit< tt) .1 (subst (λ z. n < z) (pow-succ' 10 k ∙ mul-comm 10 (10 ^ k)) h)
 
 -- a space adds nothing to a number that is over
-over : (n : ℕ) → n ≡ 0 → withByte (n / 10) 32 ≡ n
+space-over : (n : ℕ) → n ≡ 0 → withByte (n / 10) 32 ≡ n
 unfolding withByte isDigit _and_ if_then_else_
-over n e = omega (arith, e)
+space-over n e = omega (arith, e)
 
 -- a place before the last: a space where the number is over, else its digit
 space-read : (n : ℕ) → withByte (n / 10) (place 32 n) ≡ n
 unfolding place
 space-read n = elim (which (eqb n 0)) [
-  | holds e ↦ ap (λ z. withByte (n / 10) z) (chosen (eqb n 0) 32 (48 + n % 10) e) ∙ over n (eqb-true n 0 e)
+  | holds e ↦ ap (λ z. withByte (n / 10) z) (chosen (eqb n 0) 32 (48 + n % 10) e) ∙ space-over n (eqb-true n 0 e)
   | fails e ↦ ap (λ z. withByte (n / 10) z) (passed-over (eqb n 0) 32 (48 + n % 10) e) ∙ last-read n
 ]
 
@@ -88,46 +88,104 @@ zero-place n = elim (which (eqb n 0)) [
     none : (n : ℕ) → n ≡ 0 → 48 ≡ 48 + n % 10
     none n e = omega (arith, e)
 
--- so two of them and the last digit stand for the hundreds, tens and ones behind a number
-thousands-read : (m n : ℕ) → n < 1000 → readOn m (filled 48 2 n) ≡ 1000 * m + n
+-- so two of them and the last digit stand for the hundreds, tens and ones
+ones-read : (n : ℕ) → n < 1000 → readOn 0 (filled 48 2 n) ≡ n
 unfolding filled places readOn
-thousands-read m n h =
-    ap (λ z. withByte (withByte (withByte m z) (place 48 (n / 10))) (48 + n % 10)) (zero-place (n / 10 / 10))
-    ∙ ap (λ z. withByte (withByte (withByte m (48 + n / 10 / 10 % 10)) z) (48 + n % 10)) (zero-place (n / 10))
-    ∙ ap (λ z. withByte (withByte z (48 + n / 10 % 10)) (48 + n % 10)) (digit-read m (n / 10 / 10 % 10) (omega arith))
-    ∙ ap (λ z. withByte z (48 + n % 10)) (digit-read (10 * m + n / 10 / 10 % 10) (n / 10 % 10) (omega arith))
-    ∙ digit-read (10 * (10 * m + n / 10 / 10 % 10) + n / 10 % 10) (n % 10) (omega arith)
-    ∙ three m n h
+ones-read n h =
+    ap (λ z. withByte (withByte (withByte 0 z) (place 48 (n / 10))) (48 + n % 10)) (zero-place (n / 10 / 10))
+    ∙ ap (λ z. withByte (withByte (withByte 0 (48 + n / 10 / 10 % 10)) z) (48 + n % 10)) (zero-place (n / 10))
+    ∙ ap (λ z. withByte (withByte z (48 + n / 10 % 10)) (48 + n % 10)) (digit-read 0 (n / 10 / 10 % 10) (omega arith))
+    ∙ ap (λ z. withByte z (48 + n % 10)) (digit-read (10 * 0 + n / 10 / 10 % 10) (n / 10 % 10) (omega arith))
+    ∙ digit-read (10 * (10 * 0 + n / 10 / 10 % 10) + n / 10 % 10) (n % 10) (omega arith)
+    ∙ three n h
   where
-    three : (m n : ℕ) → n < 1000 → 10 * (10 * (10 * m + n / 10 / 10 % 10) + n / 10 % 10) + n % 10 ≡ 1000 * m + n
-    three m n h = omega arith
+    three : (n : ℕ) → n < 1000 → 10 * (10 * (10 * 0 + n / 10 / 10 % 10) + n / 10 % 10) + n % 10 ≡ n
+    three n h = omega arith
 
--- a point adds nothing
-point-read : (n : ℕ) → withByte n 46 ≡ n
-unfolding withByte isDigit _and_ if_then_else_
-point-read n = refl
-
--- metres in eight places, and the point behind them
-metres-read : (n : ℕ) → n < 100000000 → readOn 0 (filled 32 7 n ++ (46 ∷ [])) ≡ n
+-- metres in eight places
+metres-read : (n : ℕ) → n < 100000000 → readOn 0 (filled 32 7 n) ≡ n
 unfolding filled
 metres-read n h =
-    read-last 0 46 (filled 32 7 n)
-    ∙ point-read (readOn 0 (filled 32 7 n))
-    ∙ read-last 0 (48 + n % 10) (places 32 7 (n / 10))
+    read-last 0 (48 + n % 10) (places 32 7 (n / 10))
     ∙ ap (λ z. withByte z (48 + n % 10)) (spaces-read 7 (n / 10) (tenth n 7 h))
     ∙ last-read n
 
--- a length of less than 10 ^ 11 mm, in metres and millimetres, is read back as it is
-pub read-back : (mm : ℕ) → mm < 100000000000 → readBack (metresText mm) ≡ mm
-unfolding readBack metresText ascii
-read-back mm h =
-    read-both 0 (filled 32 7 (mm / 1000) ++ (46 ∷ [])) (filled 48 2 (mm % 1000))
-    ∙ ap (λ z. readOn z (filled 48 2 (mm % 1000))) (metres-read (mm / 1000) (omega arith))
-    ∙ thousands-read (mm / 1000) (mm % 1000) (omega arith)
-    ∙ both mm
+-- ---- the point
+
+-- a text without a point
+noPoint : List ℕ → Bool
+noPoint [] = true
+noPoint (x ∷ xs) = not (eqb x 46) && noPoint xs
+
+-- a byte behind it that is no point leaves it without one
+no-point-last : (xs : List ℕ) (x : ℕ) → noPoint xs ≡ true → eqb x 46 ≡ false → noPoint (xs ++ (x ∷ [])) ≡ true
+unfolding noPoint
+no-point-last [] x p e = rw e
+no-point-last (y ∷ xs) x p e = both (not (eqb y 46)) (noPoint xs) (noPoint (xs ++ (x ∷ []))) p (λ q. no-point-last xs x q e)
   where
-    both : (mm : ℕ) → 1000 * (mm / 1000) + mm % 1000 ≡ mm
-    both mm = omega arith
+    both : (a b c : Bool) → a && b ≡ true → (b ≡ true → c ≡ true) → a && c ≡ true
+    both true b c q f = f q
+    both false b c q f = q
+
+-- a digit is no point
+digit-no-point : (d : ℕ) → eqb (48 + d) 46 ≡ false
+digit-no-point d = ne-eqb (48 + d) 46 (λ e. let f : 48 + d ≡ 46 = e in omega arith)
+
+-- nor is a space
+place-no-point : (n : ℕ) → eqb (place 32 n) 46 ≡ false
+unfolding place
+place-no-point n = elim (which (eqb n 0)) [
+  | holds e ↦ ap (λ z. eqb z 46) (chosen (eqb n 0) 32 (48 + n % 10) e)
+  | fails e ↦ ap (λ z. eqb z 46) (passed-over (eqb n 0) 32 (48 + n % 10) e) ∙ digit-no-point (n % 10)
+]
+
+-- so no place is
+places-no-point : (k n : ℕ) → noPoint (places 32 k n) ≡ true
+unfolding places noPoint
+places-no-point zero n = refl
+places-no-point (suc k) n = no-point-last (places 32 k (n / 10)) (place 32 n) (places-no-point k (n / 10)) (place-no-point n)
+
+-- and no metres have one
+metres-no-point : (n : ℕ) → noPoint (filled 32 7 n) ≡ true
+unfolding filled
+metres-no-point n = no-point-last (places 32 7 (n / 10)) (48 + n % 10) (places-no-point 7 (n / 10)) (digit-no-point (n % 10))
+
+-- a text without a point, a point, and a text: the first stands before the point, and the second behind it
+split : (xs ys : List ℕ) → noPoint xs ≡ true → (before (xs ++ (46 ∷ []) ++ ys) ≡ xs) × (behind (xs ++ (46 ∷ []) ++ ys) ≡ ys)
+unfolding noPoint before behind if_then_else_
+split [] ys p = (refl, refl)
+split (x ∷ xs) ys p = further (eqb x 46) p (split xs ys)
+  where
+    further : (t : Bool) → not t && noPoint xs ≡ true → (noPoint xs ≡ true → (before (xs ++ (46 ∷ []) ++ ys) ≡ xs) × (behind (xs ++ (46 ∷ []) ++ ys) ≡ ys))
+        → ((if t then [] else x ∷ before (xs ++ (46 ∷ []) ++ ys)) ≡ x ∷ xs) × ((if t then xs ++ (46 ∷ []) ++ ys else behind (xs ++ (46 ∷ []) ++ ys)) ≡ ys)
+    further true q f = absurd (true≢false (sym q))
+    further false q f = let r = f q in (ap (λ zs. x ∷ zs) (r .0), r .1)
+
+-- ---- a length
+
+module _ (mm : ℕ) where
+  -- its metres, the point, its millimetres
+  parts : (before (metresText mm) ≡ filled 32 7 (mm / 1000)) × (behind (metresText mm) ≡ filled 48 2 (mm % 1000))
+  unfolding metresText ascii
+  parts = split (filled 32 7 (mm / 1000)) (filled 48 2 (mm % 1000)) (metres-no-point (mm / 1000))
+
+  -- three places behind the point
+  three-places : length (behind (metresText mm)) ≡ 3
+  unfolding filled places
+  three-places = ap length (parts .1)
+
+  -- of less than 10 ^ 11 mm it is read back as it is
+  pub read-back : mm < 100000000000 → readBack (metresText mm) ≡ mm
+  unfolding readBack
+  read-back h =
+      ap (λ xs. 1000 * readOn 0 xs + readOn 0 (behind (metresText mm))) (parts .0)
+      ∙ ap (λ xs. 1000 * readOn 0 (filled 32 7 (mm / 1000)) + readOn 0 xs) (parts .1)
+      ∙ ap (λ n. 1000 * n + readOn 0 (filled 48 2 (mm % 1000))) (metres-read (mm / 1000) (omega arith))
+      ∙ ap (λ n. 1000 * (mm / 1000) + n) (ones-read (mm % 1000) (omega arith))
+      ∙ whole
+    where
+      whole : 1000 * (mm / 1000) + mm % 1000 ≡ mm
+      whole = omega arith
 
 -- a line of at most 65,536 m has no more millimetres
 few : (n : ℕ) → n ≤ 3932160 → nearestMillimetre n 60 < 100000000000
@@ -135,18 +193,22 @@ unfolding nearestMillimetre
 few n h = omega arith
 
 -- so what is printed of a length of a table is within half a millimetre of it
-printed-half : (t : List (List ℕ)) (headway column : ℕ) (x : Float) → sixtieths t headway column ≤ 3932160 → OnTheLine t headway column x
-    → within 2000 x (readBack (metresText (millimetres x))) 1000 ≡ true
-printed-half t headway column x h p =
-    subst (λ n. within 2000 x n 1000 ≡ true)
-    (sym (read-back (millimetres x) (subst (λ n. n < 100000000000) (sym (p .nearest)) (few (sixtieths t headway column) h))))
-    (p .half)
+printed-half : (t : List (List ℕ)) (headway column row seconds : ℕ) (x : Float) → sixtieths t row seconds column ≤ 3932160 → On row seconds headway
+    → OnTheLine t headway column x → Printed x
+printed-half t headway column row seconds x h o p = record {
+  three = three-places (millimetres x);
+  half =
+      subst (λ n. within 2000 x n 1000 ≡ true)
+      (sym (read-back (millimetres x) (subst (λ n. n < 100000000000) (sym (p .nearest row seconds o)) (few (sixtieths t row seconds column) h))))
+      (p .half);
+}
 
 -- and so of every answer that is no refusal
 pub legible : (headway column : ℕ) → 120 ≤ headway → headway ≤ 600 → column < 6 → Legible (answer headway (getD speeds column 0) .lengths)
 legible headway column l h c =
     let r = right headway column l h c in
+    let o = on-its-row headway l in
     record {
-      plain-read = printed-half table71 headway column _ (line-short table71 rises71 short71 headway column h c) (r .plain-line);
-      stopping-read = printed-half table72 headway column _ (line-short table72 rises72 short72 headway column h c) (r .stopping-line);
+      plain-printed = printed-half table71 headway column (rowOf headway) (secondsOver headway) _ (line-short table71 rises71 short71 headway column h c) o (r .plain-line);
+      stopping-printed = printed-half table72 headway column (rowOf headway) (secondsOver headway) _ (line-short table72 rises72 short72 headway column h c) o (r .stopping-line);
     }

@@ -8,21 +8,17 @@ use lib.ListN.{getD}
 use lib.Ieee.{Float}
 use Rattle.laws.specs.Choice.{if_then_else_}
 use Rattle.block_lengths.specs.declared.LengthsAnswer.{LengthsAnswer}
-use Rattle.block_lengths.specs.Paper.{speeds, rowOf, secondsOver, entry, table71, table72}
+use Rattle.block_lengths.specs.Paper.{speeds, entry, table71, table72}
 use Rattle.block_lengths.specs.Lengths.{answer}
 use Rattle.block_lengths.specs.Millimetres.{millimetres}
-use Rattle.block_lengths.specs.Right.{OnTheLine, Right}
+use Rattle.block_lengths.specs.Right.{On, OnTheLine, Right}
 use Rattle.block_lengths.proofs.Right.{right, own-millimetres}
 use Rattle.lengths_text.specs.Sheet.{tableOf}
 
--- the headway of a row is no second over it
-row-of : (row : ℕ) → rowOf (60 * (row + 2)) ≡ row
-unfolding rowOf
-row-of row = omega arith
-
-on-the-minute : (row : ℕ) → secondsOver (60 * (row + 2)) ≡ 0
-unfolding secondsOver
-on-the-minute row = omega arith
+-- the headway of a row is that of the row, and no second over it
+on-the-minute : (row : ℕ) → On row 0 (60 * (row + 2))
+unfolding On
+on-the-minute row = (omega arith, omega arith)
 
 -- a thousandth of a thousand times a number
 thousandth : (m e : ℕ) → m ≡ 1000 * e → m / 1000 ≡ e
@@ -31,8 +27,7 @@ thousandth m e p = omega (arith, p)
 -- the whole metres of a length that is right for a row's headway
 whole : (t : List (List ℕ)) (row column : ℕ) (x : Float) → OnTheLine t (60 * (row + 2)) column x → millimetres x / 1000 ≡ entry t row column
 whole t row column x p =
-    thousandth (millimetres x) (entry t (rowOf (60 * (row + 2))) column) (own-millimetres t (60 * (row + 2)) column x p (on-the-minute row))
-    ∙ ap (λ r. entry t r column) (row-of row)
+    thousandth (millimetres x) (entry t row column) (own-millimetres t (60 * (row + 2)) column row x p (on-the-minute row))
 
 module _ (row column speed m : ℕ) (a : LengthsAnswer) (r : row < 9) (c : column < 6) (s : speed ≡ getD speeds column 0) (e : a ≡ answer (60 * (row + 2)) speed) where
   -- the answer for a row's headway and a column's speed is right

@@ -97,8 +97,8 @@ module _ (a b : List ℕ) (at i : ℕ) (stopping : Bool) where
   rows-end row p g h = let e : row ≡ 9 = omega arith in subst (λ k. Put a at (join k (rowText stopping)) (60 * k) b i) e p
 
   -- a table
-  pub table-made : (c d e : List ℕ) (j k l : ℕ) → Put a at (ascii "  min     s") 11 b i → Put b i (sideBySide 6 (λ column. getD speeds column 0)) 48 c j
-      → Put c j (ascii " km/h\n") 6 d k → Put d k (join 9 (rowText stopping)) 540 e l → Put a at (tableText stopping) 605 e l
+  pub table-made : (c d e : List ℕ) (j k l : ℕ) → Put a at (ascii "    headway   speed in km/h\n  min     s") 39 b i → Put b i (sideBySide 6 (λ column. getD speeds column 0)) 48 c j
+      → Put c j (ascii "\n") 1 d k → Put d k (join 9 (rowText stopping)) 540 e l → Put a at (tableText stopping) 628 e l
   unfolding tableText
   table-made c d e j k l p q r s = put-then (put-then (put-then p q) r) s
 

@@ -9,12 +9,12 @@ use Rattle.numerals.specs.Words.{ascii}
 unfoldable pub place : ℕ → ℕ → ℕ
 place fill n = if eqb n 0 then fill else 48 + n % 10
 
--- so many places before the last
+-- so many places before the last, of a number without its last digit
 unfoldable pub places : ℕ → ℕ → ℕ → List ℕ
 places fill zero n = []
 places fill (suc k) n = places fill k (n / 10) ++ (place fill n ∷ [])
 
--- a number with so many places before its last digit, which are filled
+-- the last digit of a number and so many places before it, which are filled; a number of more digits loses its first
 unfoldable pub filled : ℕ → ℕ → ℕ → List ℕ
 filled fill k n = places fill k (n / 10) ++ ((48 + n % 10) ∷ [])
 

@@ -25,16 +25,16 @@ rowText stopping row = filled 32 4 (row + 2) ++ filled 32 5 (60 * (row + 2)) ++ 
 -- a table with the head of its columns
 unfoldable pub tableText : Bool → List ℕ
 tableText stopping =
-    ascii "  min     s" ++ sideBySide 6 (λ column. getD speeds column 0) ++ ascii " km/h\n" ++ join 9 (rowText stopping)
+    ascii "    headway   speed in km/h\n  min     s" ++ sideBySide 6 (λ column. getD speeds column 0) ++ ascii "\n" ++ join 9 (rowText stopping)
 
 -- the sheet
 unfoldable pub sheet : List ℕ
 sheet =
-    ascii "Greatest length in metres of two blocks one after the other\n\nTable 7.1: where there is no stopping place\n"
+    ascii "JD 550 chapter 7: greatest length in metres of two blocks one after the other\n\nTable 7.1: where there is no stopping place\n"
     ++ tableText false
     ++ ascii "\nTable 7.2: next to a stopping place and past it\n"
     ++ tableText true
-    ++ ascii "\nTwo misprints are put right: table 7.1, 180 s, 90 km/h, 3030 for 3930;\ntable 7.2, 180 s, 100 km/h, 2900 for 2290. Between two headways the length\nis on the straight line: lengths HEADWAY SPEED, in seconds and km/h.\n"
+    ++ ascii "\nFor trains that follow one another. One block may be half as long, as a rule;\nthe stopping distance is to be checked apart (chapter 6).\nTwo misprints are put right: table 7.1, 180 s, 90 km/h, 3030 for 3930; table\n7.2, 180 s, 100 km/h, 2900 for 2290. Between two headways the length is on the\nstraight line: lengths HEADWAY SPEED, in whole seconds and km/h.\n"
 
 -- the most bytes of it
 abbrev pub mostSheet : ℕ

@@ -11,7 +11,7 @@ fn put_named(word: &[u8], n: u32, out: &mut [u8], at: usize) -> usize
     requires { ⌜ at + (length (now word) + 10) ≤ length (now out) ⌝ }
     ensures { λ r. ⌜ Put (now (out .entry)) at (named (now (word .entry)) n) (length (now (word .entry)) + 10) (now (out .exit)) r ⌝ }
 {
-    let end = places::put_word(word, out, at);
+    let end = places::write_word(word, out, at);
     numerals::put_digits(10, n as u64, out, end)
 }
 
@@ -22,9 +22,9 @@ fn put_length(metres: f64, word: &[u8], out: &mut [u8], at: usize) -> usize
 {
     let mm = block_lengths::millimetres(metres);
     let point = places::put_filled(32, 7, mm / 1000, out, at);
-    let rest = places::put_word(b".", out, point);
+    let rest = places::write_word(b".", out, point);
     let end = places::put_filled(48, 2, mm % 1000, out, rest);
-    places::put_word(word, out, end)
+    places::write_word(word, out, end)
 }
 
 // The lengths, each with its table.
@@ -34,7 +34,7 @@ fn put_lengths(b: BlockLengths, out: &mut [u8]) -> usize
 {
     let speed = put_named(b"headway ", b.headway, out, 0);
     let rest = put_named(b" s, speed ", b.speed, out, speed);
-    let plain = places::put_word(
+    let plain = places::write_word(
         b" km/h: two blocks one after the other may be as long as\n",
         out,
         rest,
@@ -58,14 +58,14 @@ fn put_refusal(number: u8, out: &mut [u8]) -> usize
     requires { ⌜ mostAnswer ≤ length (now out) ⌝ }
     ensures { λ r. ⌜ Put (now (out .entry)) 0 (refusalText number) mostAnswer (now (out .exit)) r ⌝ }
 {
-    if number == 28 {
-        return places::put_word(
+    if number == block_lengths::BAD_HEADWAY {
+        return places::write_word(
             b"28: the headway is not one of 120 to 600 seconds\n",
             out,
             0,
         );
     }
-    places::put_word(
+    places::write_word(
         b"29: the speed is none of 70, 90, 100, 130, 160 and 200 km/h\n",
         out,
         0,

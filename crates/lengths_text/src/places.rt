@@ -6,7 +6,7 @@ ghost use Rattle.numerals.specs.Writes.{Put};
 ghost use Rattle.lengths_text.specs.Places.{place, places, filled};
 
 // A word.
-pub fn put_word(word: &[u8], out: &mut [u8], at: usize) -> usize
+pub fn write_word(word: &[u8], out: &mut [u8], at: usize) -> usize
     requires { ⌜ at + length (now word) ≤ length (now out) ⌝ }
     ensures { λ r. ⌜ Put (now (out .entry)) at (now (word .entry)) (length (now (word .entry))) (now (out .exit)) r ⌝ }
 {

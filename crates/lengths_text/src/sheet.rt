@@ -59,7 +59,7 @@ fn put_row(stopping: bool, row: u32, out: &mut [u8], at: usize) -> usize
     let seconds = places::put_filled(32, 4, minutes, out, at);
     let lengths = places::put_filled(32, 5, 60 * minutes, out, seconds);
     let end = put_entries(stopping, row, out, lengths);
-    places::put_word(b"\n", out, end)
+    places::write_word(b"\n", out, end)
 }
 
 // The nine rows.
@@ -78,12 +78,12 @@ fn put_rows(stopping: bool, out: &mut [u8], at: usize) -> usize
 
 // A table with the head of its columns.
 fn put_table(stopping: bool, out: &mut [u8], at: usize) -> usize
-    requires { ⌜ at + 605 ≤ length (now out) ⌝ }
-    ensures { λ r. ⌜ Put (now (out .entry)) at (tableText stopping) 605 (now (out .exit)) r ⌝ }
+    requires { ⌜ at + 628 ≤ length (now out) ⌝ }
+    ensures { λ r. ⌜ Put (now (out .entry)) at (tableText stopping) 628 (now (out .exit)) r ⌝ }
 {
-    let speeds = places::put_word(b"  min     s", out, at);
+    let speeds = places::write_word(b"    headway   speed in km/h\n  min     s", out, at);
     let unit = put_speeds(out, speeds);
-    let rows = places::put_word(b" km/h\n", out, unit);
+    let rows = places::write_word(b"\n", out, unit);
     put_rows(stopping, out, rows)
 }
 
@@ -94,20 +94,20 @@ pub fn put_sheet(out: &mut [u8]) -> usize
     if out.len() < 2048 {
         return 0;
     }
-    let plain = places::put_word(
-        b"Greatest length in metres of two blocks one after the other\n\nTable 7.1: where there is no stopping place\n",
+    let plain = places::write_word(
+        b"JD 550 chapter 7: greatest length in metres of two blocks one after the other\n\nTable 7.1: where there is no stopping place\n",
         out,
         0,
     );
     let between = put_table(false, out, plain);
-    let stopping = places::put_word(
+    let stopping = places::write_word(
         b"\nTable 7.2: next to a stopping place and past it\n",
         out,
         between,
     );
     let notes = put_table(true, out, stopping);
-    places::put_word(
-        b"\nTwo misprints are put right: table 7.1, 180 s, 90 km/h, 3030 for 3930;\ntable 7.2, 180 s, 100 km/h, 2900 for 2290. Between two headways the length\nis on the straight line: lengths HEADWAY SPEED, in seconds and km/h.\n",
+    places::write_word(
+        b"\nFor trains that follow one another. One block may be half as long, as a rule;\nthe stopping distance is to be checked apart (chapter 6).\nTwo misprints are put right: table 7.1, 180 s, 90 km/h, 3030 for 3930; table\n7.2, 180 s, 100 km/h, 2900 for 2290. Between two headways the length is on the\nstraight line: lengths HEADWAY SPEED, in whole seconds and km/h.\n",
         out,
         notes,
     )

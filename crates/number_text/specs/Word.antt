@@ -10,11 +10,11 @@ use Rattle.laws.specs.Tests.{allBelow}
 use Rattle.number_text.specs.declared.word.Word.{Word}
 use Rattle.number_text.specs.Text.{isDigit, nextValue}
 
--- it is a number where all of it are digits, one at least
+-- it is a number where all its bytes are digits, and there is at least one
 unfoldable pub isNumber : List ℕ → Bool
 isNumber word = if eqb (length word) 0 then false else allBelow (length word) (λ i. isDigit (getD word i 0))
 
--- the number of a word of digits; one that is too large stays too large
+-- the number of a word of digits; of one above 65,535 some number above 65,535
 unfoldable pub numberOf : List ℕ → ℕ
 numberOf word = iter (λ i value. nextValue value (getD word i 0)) (length word) 0
 

@@ -16,7 +16,7 @@ returns c =
     let speed = rest .before .before .before .before .before in
     let headway = speed .before .before .before .before .before in
     put-within mostAnswer (lit≤ tt)
-    (put-then (put-then (put-then (put-then (headway .put-named .ensures) (speed .put-named2 .ensures)) (rest .put-word .ensures)) (plain .put-length .ensures)) (stopping .put-length2 .ensures))
+    (put-then (put-then (put-then (put-then (headway .put-named .ensures) (speed .put-named2 .ensures)) (rest .write-word .ensures)) (plain .put-length .ensures)) (stopping .put-length2 .ensures))
 
 pub put-lengths-spec : {M : Type 1} → statement M
 put-lengths-spec =

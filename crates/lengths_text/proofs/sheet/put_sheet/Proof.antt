@@ -20,7 +20,7 @@ returns-2 c =
     let title = plain .before .before .before .before in
     put-room _ 0 mostSheet sheet _ _ (omega arith)
     (put-within mostSheet (lit≤ tt)
-    (put-then (put-then (put-then (put-then (title .put-word .ensures) (plain .put-table .ensures)) (between .put-word2 .ensures)) (stopping .put-table2 .ensures)) (notes .put-word3 .ensures)))
+    (put-then (put-then (put-then (put-then (title .write-word .ensures) (plain .put-table .ensures)) (between .write-word2 .ensures)) (stopping .put-table2 .ensures)) (notes .write-word3 .ensures)))
 
 pub put-sheet-spec : {M : Type 1} → statement M
 put-sheet-spec =
