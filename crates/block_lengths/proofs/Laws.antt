@@ -1,7 +1,7 @@
 -- What the proofs of the functions cite.
 use Prim.Native.Nat.{ℕ, _+_, _*_, _<_, _≤_}
-use mathlib.Core.Path.{_≡_, refl, sym, subst}
-use mathlib.Core.Bool.{Bool, true, false, true≢false}
+use mathlib.Core.Path.{_≡_, sym, subst}
+use mathlib.Core.Bool.{false}
 use mathlib.Core.List.{List}
 use native.Mathlib.Nat.{mul-le-mul}
 use native.Mathlib.Omega.{arith}
@@ -10,6 +10,7 @@ use lib.Dec.{ltb}
 use lib.Ieee.{Float}
 use Rattle.laws.specs.Tests.{_or_}
 use Rattle.laws.proofs.Choice.{if-ne, if-false, if-le, if-gt}
+use Rattle.laws.proofs.Tests.{or-neither}
 use Rattle.block_lengths.specs.declared.LengthsAnswer.{LengthsAnswer}
 use Rattle.block_lengths.specs.Paper.{columnOf, rowOf, secondsOver, entry, table71, table72}
 use Rattle.block_lengths.specs.Lengths.{interpolated, lengthIn, refusal, answer}
@@ -23,29 +24,28 @@ small-product rise seconds p q =
     let m : rise * seconds ≤ 65535 * 59 = mul-le-mul r s in
     omega arith
 
--- where neither of two tests holds each fails
-or-none : (a b : Bool) → a or b ≡ false → (a ≡ false) × (b ≡ false)
-unfolding _or_
-or-none true b e = absurd (true≢false e)
-or-none false b e = (refl, e)
-
 -- a headway that is not refused is one from 120 to 600
 module _ (headway : ℕ) (e : ltb headway 120 or ltb 600 headway ≡ false) where
   pub from-120 : 120 ≤ headway
-  from-120 = ltb-false headway 120 (or-none (ltb headway 120) (ltb 600 headway) e .0)
+  from-120 = ltb-false headway 120 (or-neither (ltb headway 120) (ltb 600 headway) e .0)
 
   pub to-600 : headway ≤ 600
-  to-600 = ltb-false 600 headway (or-none (ltb headway 120) (ltb 600 headway) e .1)
+  to-600 = ltb-false 600 headway (or-neither (ltb headway 120) (ltb 600 headway) e .1)
 
 -- a table that is one that rises, rises
 pub rises-too : (t u : List (List ℕ)) → t ≡ u → Rises u → Rises t
 rises-too t u e r = subst Rises (sym e) r
 
+-- a headway that is none of the table's has a row after its own
+pub row-after : (headway : ℕ) → headway ≤ 600 → (secondsOver headway ≡ 0 → ⊥) → rowOf headway < 8
+unfolding rowOf secondsOver
+row-after headway h s = omega (arith, s)
+
 module _ (t : List (List ℕ)) (headway column : ℕ) where
   -- between two headways the upper of the two entries is no lower
   pub no-lower : Rises t → headway ≤ 600 → column < 6 → (secondsOver headway ≡ 0 → ⊥) → entry t (rowOf headway) column ≤ entry t (rowOf headway + 1) column
-  unfolding Rises rowOf secondsOver
-  no-lower r h c s = r (rowOf headway) column (omega (arith, s)) c
+  unfolding Rises
+  no-lower r h c s = r (rowOf headway) column (row-after headway h s) c
 
   -- and the length is interpolated
   pub between-rows : (r : Float) → (secondsOver headway ≡ 0 → ⊥)

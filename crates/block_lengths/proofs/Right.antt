@@ -21,7 +21,7 @@ use Rattle.block_lengths.specs.Fractions.{within, exactly}
 use Rattle.block_lengths.specs.Millimetres.{nearestMillimetre, millimetres}
 use Rattle.block_lengths.specs.Tables.{Rises}
 use Rattle.block_lengths.specs.Right.{sixtieths, On, OnTheLine, Right}
-use Rattle.block_lengths.proofs.Laws.{no-column, both-lengths}
+use Rattle.block_lengths.proofs.Laws.{row-after, no-lower, no-column, both-lengths}
 use Rattle.block_lengths.proofs.Tables.{Short, rises71, rises72, short71, short72}
 use Rattle.block_lengths.proofs.Line.{float-exact, float-on-line, next-to-line}
 use Rattle.block_lengths.proofs.Nearest.{next-millimetre}
@@ -32,11 +32,6 @@ use Rattle.block_lengths.proofs.Nearest.{next-millimetre}
 row-below : (headway : ℕ) → headway ≤ 600 → rowOf headway < 9
 unfolding rowOf
 row-below headway h = omega arith
-
--- a headway that is none of the table's has a row after its own
-row-after : (headway : ℕ) → headway ≤ 600 → (secondsOver headway ≡ 0 → ⊥) → rowOf headway < 8
-unfolding rowOf secondsOver
-row-after headway h s = omega (arith, s)
 
 -- seconds over a headway are below 60
 seconds-below : (headway : ℕ) → secondsOver headway < 60
@@ -87,10 +82,10 @@ module _ (t : List (List ℕ)) (rises : Rises t) (short : Short t) (headway colu
   -- between two of them it is next to the line
   next-on-line : (k : ℕ) → k ≤ 2 ^ 35 → (secondsOver headway ≡ 0 → ⊥)
       → within k (interpolated (entry t (rowOf headway) column) (entry t (rowOf headway + 1) column) (secondsOver headway)) (sixtieths t (rowOf headway) (secondsOver headway) column) 60 ≡ true
-  unfolding sixtieths Rises
+  unfolding sixtieths
   next-on-line k K s =
       next-to-line k (entry t (rowOf headway) column) (entry t (rowOf headway + 1) column) (secondsOver headway) K
-      (rises (rowOf headway) column (row-after headway h s) c) (next-short s) (seconds-below headway)
+      (no-lower t headway column rises h c s) (next-short s) (seconds-below headway)
 
   -- so every length is within 1 / k of it for any k up to 2 ^ 35
   pub on-line : (k : ℕ) → k ≤ 2 ^ 35 → within k (lengthIn t headway column) (sixtieths t (rowOf headway) (secondsOver headway) column) 60 ≡ true

@@ -49,10 +49,11 @@ fn length_in(table: [[u16; 6]; 9], headway: u32, column: usize) -> f64
 {
     let row = ((headway - 120) / 60) as usize;
     let seconds = (headway - 120) % 60;
+    let low = table[row][column];
     if seconds == 0 {
-        return table[row][column] as f64;
+        return low as f64;
     }
-    interpolate(table[row][column], table[row + 1][column], seconds)
+    interpolate(low, table[row + 1][column], seconds)
 }
 
 // A refusal, with the record of zeros.

@@ -57,58 +57,41 @@ last-read n = digit-read (n / 10) (n % 10) (omega arith) ∙ whole n
 tenth : (n k : ℕ) → n < 10 ^ suc k → n / 10 < 10 ^ k
 tenth n k h = div-lt-iff-lt-mul (lit< tt) .1 (subst (λ z. n < z) (pow-succ' 10 k ∙ mul-comm 10 (10 ^ k)) h)
 
--- a space adds nothing to a number that is over
-space-over : (n : ℕ) → n ≡ 0 → withByte (n / 10) 32 ≡ n
-unfolding withByte isDigit _and_ if_then_else_
-space-over n e = omega (arith, e)
+-- what fills a place where the number is over adds nothing: a space, and a zero before any digit
+module _ (fill : ℕ) (nothing : withByte 0 fill ≡ 0) where
+  -- a place before the last: the fill where the number is over, else its digit
+  place-read : (n : ℕ) → withByte (n / 10) (place fill n) ≡ n
+  unfolding place
+  place-read n = elim (which (eqb n 0)) [
+    | holds e ↦ ap (λ z. withByte (n / 10) z) (chosen (eqb n 0) fill (48 + n % 10) e) ∙ over (eqb-true n 0 e)
+    | fails e ↦ ap (λ z. withByte (n / 10) z) (passed-over (eqb n 0) fill (48 + n % 10) e) ∙ last-read n
+  ]
+    where
+      over : n ≡ 0 → withByte (n / 10) fill ≡ n
+      over e = ap (λ z. withByte (z / 10) fill) e ∙ nothing ∙ sym e
 
--- a place before the last: a space where the number is over, else its digit
-space-read : (n : ℕ) → withByte (n / 10) (place 32 n) ≡ n
-unfolding place
-space-read n = elim (which (eqb n 0)) [
-  | holds e ↦ ap (λ z. withByte (n / 10) z) (chosen (eqb n 0) 32 (48 + n % 10) e) ∙ space-over n (eqb-true n 0 e)
-  | fails e ↦ ap (λ z. withByte (n / 10) z) (passed-over (eqb n 0) 32 (48 + n % 10) e) ∙ last-read n
-]
+  -- so the places of a number that has no more digits are the number
+  places-read : (k n : ℕ) → n < 10 ^ k → readOn 0 (places fill k n) ≡ n
+  unfolding readOn places
+  places-read zero n h = omega (arith, h)
+  places-read (suc k) n h =
+      read-last 0 (place fill n) (places fill k (n / 10)) ∙ ap (λ z. withByte z (place fill n)) (places-read k (n / 10) (tenth n k h)) ∙ place-read n
 
--- so the places of a number that has no more digits are the number
-spaces-read : (k n : ℕ) → n < 10 ^ k → readOn 0 (places 32 k n) ≡ n
-unfolding readOn places
-spaces-read zero n h = omega (arith, h)
-spaces-read (suc k) n h =
-    read-last 0 (place 32 n) (places 32 k (n / 10)) ∙ ap (λ z. withByte z (place 32 n)) (spaces-read k (n / 10) (tenth n k h)) ∙ space-read n
-
--- a place that is filled with zeros is always a digit
-zero-place : (n : ℕ) → place 48 n ≡ 48 + n % 10
-unfolding place
-zero-place n = elim (which (eqb n 0)) [
-  | holds e ↦ chosen (eqb n 0) 48 (48 + n % 10) e ∙ none n (eqb-true n 0 e)
-  | fails e ↦ passed-over (eqb n 0) 48 (48 + n % 10) e
-]
-  where
-    none : (n : ℕ) → n ≡ 0 → 48 ≡ 48 + n % 10
-    none n e = omega (arith, e)
-
--- so two of them and the last digit stand for the hundreds, tens and ones
-ones-read : (n : ℕ) → n < 1000 → readOn 0 (filled 48 2 n) ≡ n
-unfolding filled places readOn
-ones-read n h =
-    ap (λ z. withByte (withByte (withByte 0 z) (place 48 (n / 10))) (48 + n % 10)) (zero-place (n / 10 / 10))
-    ∙ ap (λ z. withByte (withByte (withByte 0 (48 + n / 10 / 10 % 10)) z) (48 + n % 10)) (zero-place (n / 10))
-    ∙ ap (λ z. withByte (withByte z (48 + n / 10 % 10)) (48 + n % 10)) (digit-read 0 (n / 10 / 10 % 10) (omega arith))
-    ∙ ap (λ z. withByte z (48 + n % 10)) (digit-read (10 * 0 + n / 10 / 10 % 10) (n / 10 % 10) (omega arith))
-    ∙ digit-read (10 * (10 * 0 + n / 10 / 10 % 10) + n / 10 % 10) (n % 10) (omega arith)
-    ∙ three n h
-  where
-    three : (n : ℕ) → n < 1000 → 10 * (10 * (10 * 0 + n / 10 / 10 % 10) + n / 10 % 10) + n % 10 ≡ n
-    three n h = omega arith
+  -- and with its last digit too
+  filled-read : (k n : ℕ) → n < 10 ^ suc k → readOn 0 (filled fill k n) ≡ n
+  unfolding filled
+  filled-read k n h =
+      read-last 0 (48 + n % 10) (places fill k (n / 10)) ∙ ap (λ z. withByte z (48 + n % 10)) (places-read k (n / 10) (tenth n k h)) ∙ last-read n
 
 -- metres in eight places
 metres-read : (n : ℕ) → n < 100000000 → readOn 0 (filled 32 7 n) ≡ n
-unfolding filled
-metres-read n h =
-    read-last 0 (48 + n % 10) (places 32 7 (n / 10))
-    ∙ ap (λ z. withByte z (48 + n % 10)) (spaces-read 7 (n / 10) (tenth n 7 h))
-    ∙ last-read n
+unfolding withByte isDigit _and_ if_then_else_
+metres-read n h = filled-read 32 refl 7 n h
+
+-- millimetres in three
+millimetres-read : (n : ℕ) → n < 1000 → readOn 0 (filled 48 2 n) ≡ n
+unfolding withByte isDigit _and_ if_then_else_
+millimetres-read n h = filled-read 48 refl 2 n h
 
 -- ---- the point
 
@@ -181,7 +164,7 @@ module _ (mm : ℕ) where
       ap (λ xs. 1000 * readOn 0 xs + readOn 0 (behind (metresText mm))) (parts .0)
       ∙ ap (λ xs. 1000 * readOn 0 (filled 32 7 (mm / 1000)) + readOn 0 xs) (parts .1)
       ∙ ap (λ n. 1000 * n + readOn 0 (filled 48 2 (mm % 1000))) (metres-read (mm / 1000) (omega arith))
-      ∙ ap (λ n. 1000 * (mm / 1000) + n) (ones-read (mm % 1000) (omega arith))
+      ∙ ap (λ n. 1000 * (mm / 1000) + n) (millimetres-read (mm % 1000) (omega arith))
       ∙ whole
     where
       whole : 1000 * (mm / 1000) + mm % 1000 ≡ mm

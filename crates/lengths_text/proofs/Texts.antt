@@ -1,6 +1,6 @@
 -- Pieces of text, one behind the other, are the text.
 use Prim.Native.Nat.{ℕ, _+_, _*_, _/_, _%_, _<_, _≤_}
-use mathlib.Core.Path.{_≡_, refl, subst}
+use mathlib.Core.Path.{_≡_, refl, ap, subst, _∙_}
 use mathlib.Core.Bool.{Bool}
 use mathlib.Core.List.{List, [], _∷_, _++_}
 use native.Mathlib.Omega.{arith}
@@ -22,7 +22,7 @@ use Rattle.block_lengths.specs.Millimetres.{millimetres}
 use Rattle.lengths_text.specs.Places.{filled, metresText}
 use Rattle.lengths_text.specs.Answer.{named, measured, lengthsText, refusalText, answerText, mostAnswer, answerIn}
 use Rattle.lengths_text.specs.Sheet.{tableOf, sideBySide, rowText, tableText, sheet, mostSheet, sheetIn}
-use Rattle.lengths_text.proofs.Writing.{join-start, join-next}
+use Rattle.lengths_text.proofs.Writing.{join-start, join-next, join-end}
 
 module _ (a b : List ℕ) (at i : ℕ) where
   -- a word and a number
@@ -62,19 +62,20 @@ pub answer-none : (a : List ℕ) (headway speed : ℕ) → length a < 256 → Pu
 answer-none a headway speed h = put-no-room a 0 mostAnswer (answerText (answer headway speed)) (omega arith)
 
 module _ (a b : List ℕ) (i headway speed : ℕ) (r : LengthsAnswer) (e : r ≡ answer headway speed) where
+  -- the text of what is answered, where there is room for it
+  answer-told : 256 ≤ length a → (xs : List ℕ) → xs ≡ answerText r → Put a 0 xs mostAnswer b i → Put a 0 (answerIn (length a) headway speed) mostAnswer b i
+  answer-told h xs t p =
+      put-room a 0 mostAnswer (answerText (answer headway speed)) b i (omega arith) (subst (λ zs. Put a 0 zs mostAnswer b i) (t ∙ ap answerText e) p)
+
   -- the lengths
   pub answer-granted : 256 ≤ length a → r .number ≡ 0 → Put a 0 (lengthsText (r .lengths)) mostAnswer b i → Put a 0 (answerIn (length a) headway speed) mostAnswer b i
   unfolding answerText
-  answer-granted h z p =
-      put-room a 0 mostAnswer (answerText (answer headway speed)) b i (omega arith)
-      (subst (λ x. Put a 0 (answerText x) mostAnswer b i) e (subst (λ xs. Put a 0 xs mostAnswer b i) (if-eq (r .number) 0 _ _ _ z refl) p))
+  answer-granted h z p = answer-told h (lengthsText (r .lengths)) (if-eq (r .number) 0 _ _ _ z refl) p
 
   -- the refusal
   pub answer-refused : 256 ≤ length a → (r .number ≡ 0 → ⊥) → Put a 0 (refusalText (r .number)) mostAnswer b i → Put a 0 (answerIn (length a) headway speed) mostAnswer b i
   unfolding answerText
-  answer-refused h z p =
-      put-room a 0 mostAnswer (answerText (answer headway speed)) b i (omega arith)
-      (subst (λ x. Put a 0 (answerText x) mostAnswer b i) e (subst (λ xs. Put a 0 xs mostAnswer b i) (if-ne (r .number) 0 _ _ _ z refl) p))
+  answer-refused h z p = answer-told h (refusalText (r .number)) (if-ne (r .number) 0 _ _ _ z refl) p
 
 -- ---- the sheet
 
@@ -94,7 +95,7 @@ module _ (a b : List ℕ) (at i : ℕ) (stopping : Bool) where
   rows-next c row n p q = join-next (rowText stopping) 60 a at b c row i n p q
 
   pub rows-end : (row : ℕ) → Put a at (join row (rowText stopping)) (60 * row) b i → row ≤ 9 → 9 ≤ row → Put a at (join 9 (rowText stopping)) 540 b i
-  rows-end row p g h = let e : row ≡ 9 = omega arith in subst (λ k. Put a at (join k (rowText stopping)) (60 * k) b i) e p
+  rows-end row p g h = join-end (rowText stopping) 60 a at 9 b row i p g h
 
   -- a table
   pub table-made : (c d e : List ℕ) (j k l : ℕ) → Put a at (ascii "    headway   speed in km/h\n  min     s") 39 b i → Put b i (sideBySide 6 (λ column. getD speeds column 0)) 48 c j

@@ -60,6 +60,10 @@ module _ (f : ℕ → List ℕ) (w : ℕ) (a : List ℕ) (at : ℕ) where
       let r : w * i + w ≤ w * (i + 1) = omega arith in
       subst (λ xs. Put a at xs (w * (i + 1)) c n) (sym (join-more i f)) (put-within (w * (i + 1)) r (put-then p q))
 
+  -- all n of them
+  pub join-end : (n : ℕ) (b : List ℕ) (i m : ℕ) → Put a at (join i f) (w * i) b m → i ≤ n → n ≤ i → Put a at (join n f) (w * n) b m
+  join-end n b i m p g h = let e : i ≡ n = omega arith in subst (λ k. Put a at (join k f) (w * k) b m) e p
+
 -- ---- numbers side by side
 
 module _ (f : ℕ → ℕ) (a : List ℕ) (at : ℕ) where
@@ -76,7 +80,8 @@ module _ (f : ℕ → ℕ) (a : List ℕ) (at : ℕ) where
 
   -- all six
   pub side-end : (b : List ℕ) (i m : ℕ) → Put a at (sideBySide i f) (8 * i) b m → i ≤ 6 → 6 ≤ i → Put a at (sideBySide 6 f) 48 b m
-  side-end b i m p g h = let e : i ≡ 6 = omega arith in subst (λ k. Put a at (sideBySide k f) (8 * k) b m) e p
+  unfolding sideBySide
+  side-end b i m p g h = join-end (λ k. filled 32 7 (f k)) 8 a at 6 b i m p g h
 
 -- for the functions that write numbers side by side
 pub ruleset sides = (needs, side-start, side-next, side-end)
