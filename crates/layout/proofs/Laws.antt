@@ -26,16 +26,17 @@ use Rattle.layout.specs.declared.Layout.{Layout}
 use Rattle.layout.specs.declared.Loaded.{Loaded}
 use Rattle.layout.specs.declared.file.Heading.{Heading}
 use Rattle.layout.specs.declared.file.Whole.{Whole}
+use Rattle.layout.specs.Layout.{noneFitted}
 use Rattle.layout.specs.Rules.{rule1, rule2, rule3, rule4, rule5, rule6, firstFailed, broken}
 use Rattle.layout.specs.Sound.{fits, rowMirrors, mirrored, sound}
 use Rattle.layout.specs.Load.{heading, countsOf, wholeOf, whole, refused, finished}
 
--- the file, from its four parts
-pub whole-made : (s : List ℕ) (h : Heading) (a b : Counts) (l : Lines) (r : Routes) (p : Pairs)
-    → h ≡ heading s → a ≡ countsOf h 0 → l ≡ lines s a (h .cur) → b ≡ countsOf h (l .count) → r ≡ routes s b (l .cur) → p ≡ pairs s (r .count) (r .cur)
-    → wholeOf h l r p ≡ whole s
+-- the file, from its four parts, with no section fitted
+pub whole-made : (s : List ℕ) (h : Heading) (a b : Counts) (l : Lines) (r : Routes) (p : Pairs) (f : List ℕ)
+    → h ≡ heading s → a ≡ countsOf h 0 → l ≡ lines s a (h .cur) → b ≡ countsOf h (l .count) → r ≡ routes s b (l .cur) → p ≡ pairs s (r .count) (r .cur) → f ≡ noneFitted
+    → wholeOf h l r p f ≡ whole s
 unfolding whole
-whole-made s h a b l r p e₁ e₂ e₃ e₄ e₅ e₆ = rw (e₆, e₅, e₄, e₃, e₂, e₁)
+whole-made s h a b l r p f e₁ e₂ e₃ e₄ e₅ e₆ e₇ = rw (e₇, e₆, e₅, e₄, e₃, e₂, e₁)
 
 -- a file has no more routes than there may be: the count says so, and no turn changes it
 routes-few : (s : List ℕ) (n : Counts) (c : Cursor) → routes s n c .count ≤ mostTrainRoutes

@@ -4,12 +4,12 @@ use mathlib.Core.Path.{_≡_, refl, sym, ap, ap₂, _∙_}
 use mathlib.Core.Bool.{Bool, true, false, not, _&&_}
 use mathlib.Core.List.{List}
 use native.Mathlib.Omega.{arith}
-use borrow.Author.Tests.{eq-eqb, ne-eqb}
+use borrow.Author.Tests.{eq-eqb, ne-eqb, lt-leb}
 use lib.Dec.{eqb, leb}
 use lib.ListN.{length, getD}
 use Rattle.laws.specs.Choice.{if_then_else_}
 use Rattle.laws.specs.Tests.{_and_, implies, every, allBelow}
-use Rattle.laws.proofs.Tests.{implies-from, all-same}
+use Rattle.laws.proofs.Tests.{and-right, implies-from, not-both, fails-from, every-fails, all-same}
 use Rattle.laws.proofs.Loops.{SoFar, held-on, all-stops, all-done}
 use Rattle.laws.proofs.Tables.{table-at}
 use Rattle.laws.proofs.Arrays.{read-in}
@@ -140,9 +140,15 @@ module _ (L : Layout) where
   unfolding routeIn routeKeeps if_then_else_
   routes-fit-is = all-same _ _ _ (λ r h. refl)
 
+  -- too many sections: not in range
+  pub sections-many : mostSections < L .sections → false ≡ fits L
+  unfolding fits between
+  sections-many h = every-fails _ 0 (fails-from _ (λ t. not-both (and-right _ _ t) (lt-leb _ mostSections h)))
+
   -- the walks over lines and routes, with the other tests, are the whole test
-  pub fits-made : (c : Counts) (a b d e : Bool) → c ≡ counts L → a ≡ between 1 mostSections (L .sections) → b ≡ sectionsFit (L .points) (L .sections) (L .pointsection)
+  pub fits-made : (c : Counts) (a b d e f : Bool) → c ≡ counts L → a ≡ between 1 mostSections (L .sections) → b ≡ sectionsFit (L .points) (L .sections) (L .pointsection)
       → d ≡ allBelow (c .lines) (lineKeeps 0 c (L .line)) → e ≡ allBelow (L .routes) (λ r. routeKeeps 0 c (L .line) 0 (route (L .route) r))
-      → a && (leb (L .points) mostPoints && (b && (leb (L .signals) mostSignals && (leb (L .lines) mostLines && (d && (leb (L .routes) mostTrainRoutes && e)))))) ≡ fits L
+      → f ≡ allBelow (L .sections) (λ g. leb (getD (L .fitted) g 0) 1)
+      → a && (leb (L .points) mostPoints && (b && (leb (L .signals) mostSignals && (leb (L .lines) mostLines && (d && (leb (L .routes) mostTrainRoutes && (e && (f && eqb (L .lacking) 0)))))))) ≡ fits L
   unfolding fits every counts
-  fits-made c a b d e same p q x y = rw (p, q, (rw same at x) ∙ lines-fit-is, (rw same at y) ∙ routes-fit-is)
+  fits-made c a b d e f same p q x y z = rw (p, q, (rw same at x) ∙ lines-fit-is, (rw same at y) ∙ routes-fit-is, z)

@@ -3,16 +3,21 @@ use Prim.Native.Nat.{ℕ}
 use mathlib.Core.Bool.{Bool}
 use mathlib.Core.List.{List}
 use lib.Dec.{eqb}
-use lib.ListN.{getD}
+use lib.ListN.{getD, replicate}
 use Rattle.track.specs.declared.Counts.{Counts}
 use Rattle.track.specs.declared.Line.{Line}
 use Rattle.track.specs.declared.Route.{Route}
+use Rattle.track.specs.Sizes.{mostSections}
 use Rattle.track.specs.Objects.{line, route}
 use Rattle.file_objects.specs.Sections.{noSections}
 use Rattle.file_objects.specs.Lines.{noLines}
 use Rattle.file_objects.specs.Routes.{noRoutes}
 use Rattle.pairs.specs.Pairs.{placeOf, noPairs}
 use Rattle.layout.specs.declared.Layout.{Layout}
+
+-- no section has heads (L1)
+unfoldable pub noneFitted : List ℕ
+noneFitted = replicate mostSections 0
 
 -- the layout with no objects
 unfoldable pub noLayout : Layout
@@ -26,6 +31,8 @@ noLayout = record {
   routes = 0;
   route = noRoutes;
   conflict = noPairs;
+  fitted = noneFitted;
+  lacking = 0;
 }
 
 -- how many objects of each kind there are to refer to
@@ -45,3 +52,7 @@ entryOf m r q = getD m (placeOf r q) 0
 
 unfoldable pub conflict : Layout → ℕ → ℕ → Bool
 conflict L r q = eqb (entryOf (L .conflict) r q) 1
+
+-- section g has heads (L1)
+unfoldable pub isFitted : Layout → ℕ → Bool
+isFitted L g = eqb (getD (L .fitted) g 0) 1

@@ -19,7 +19,7 @@ use Rattle.pairs.specs.Pairs.{pairs}
 use Rattle.layout.specs.declared.Loaded.{Loaded}
 use Rattle.layout.specs.declared.file.Heading.{Heading}
 use Rattle.layout.specs.declared.file.Whole.{Whole}
-use Rattle.layout.specs.Layout.{noLayout}
+use Rattle.layout.specs.Layout.{noneFitted, noLayout}
 use Rattle.layout.specs.Rules.{broken}
 
 -- the file's first byte
@@ -39,9 +39,9 @@ heading s =
 unfoldable pub countsOf : Heading → ℕ → Counts
 countsOf h lines = record { sections = h .sections; points = h .points; signals = h .signals; lines = lines }
 
--- a layout from its parts
-abbrev pub wholeOf : Heading → Lines → Routes → Pairs → Whole
-wholeOf h l r p = record {
+-- a layout from its parts, and the table of heads
+abbrev pub wholeOf : Heading → Lines → Routes → Pairs → List ℕ → Whole
+wholeOf h l r p fitted = record {
   cur = p .cur;
   layout = record {
     sections = h .sections;
@@ -53,16 +53,18 @@ wholeOf h l r p = record {
     routes = r .count;
     route = r .route;
     conflict = p .conflict;
+    fitted = fitted;
+    lacking = 0;
   };
 }
 
--- then lines, routes and conflicts
+-- then lines, routes and conflicts; a file tells of no heads (L1)
 unfoldable pub whole : List ℕ → Whole
 whole s =
     let h : Heading = heading s in
     let l : Lines = lines s (countsOf h 0) (h .cur) in
     let r : Routes = routes s (countsOf h (l .count)) (l .cur) in
-    wholeOf h l r (pairs s (r .count) (r .cur))
+    wholeOf h l r (pairs s (r .count) (r .cur)) noneFitted
 
 -- a refused load gives the layout with no objects
 unfoldable pub refused : ℕ → ℕ → Loaded

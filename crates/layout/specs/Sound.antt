@@ -16,7 +16,8 @@ use Rattle.layout.specs.Rules.{broken}
 unfoldable pub sectionsFit : ℕ → ℕ → List ℕ → Bool
 sectionsFit n sections own = allBelow n (λ p. ltb (getD own p 0) sections)
 
--- every count, code and reference is in its range: sections 1..64, points 0..32, signals 0..32, lines 0..8, routes 0..48
+-- every count, code and reference is in its range: sections 1..64, points 0..32, signals 0..32, lines 0..8, routes 0..48;
+-- each section has heads or not, and none is told as fitted that there is not (L1)
 unfoldable pub fits : Layout → Bool
 fits L = every (
     between 1 mostSections (L .sections)
@@ -27,6 +28,8 @@ fits L = every (
     ∷ allBelow (L .lines) (λ l. lineFits (counts L) (lineIn L l))
     ∷ leb (L .routes) mostTrainRoutes
     ∷ allBelow (L .routes) (λ r. routeFits (counts L) (routeIn L r))
+    ∷ allBelow (L .sections) (λ g. leb (getD (L .fitted) g 0) 1)
+    ∷ eqb (L .lacking) 0
     ∷ [])
 
 -- the table of conflicts says 0 or 1 of the routes r and q, and the same of q and r

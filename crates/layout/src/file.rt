@@ -1,5 +1,6 @@
 // The layout file from its first number to its last.
 use super::Layout;
+use super::none_fitted;
 use fields::Cursor;
 use fields::read_code;
 use track::Counts;
@@ -76,6 +77,7 @@ pub fn read_whole(s: &[u8]) -> Whole
     let line = l.line;
     let route = r.route;
     let conflict = p.conflict;
+    let fitted = none_fitted();
     let layout = Layout {
         sections: h.sections,
         points: h.points,
@@ -86,6 +88,8 @@ pub fn read_whole(s: &[u8]) -> Whole
         routes: r.count,
         route,
         conflict,
+        fitted,
+        lacking: 0,
     };
     Whole { cur, layout }
 }

@@ -14,17 +14,19 @@ use track::sizes::MOST_SIGNALS;
 use track::sizes::MOST_TRAIN_ROUTES;
 use track::sizes::PAIRS;
 use track::sizes::POINTS;
+use track::sizes::SECTIONS;
 use track::sizes::TRAIN_ROUTES;
 ghost use mathlib.Core.Path.{_≡_};
 ghost use mathlib.Core.List.{[], _∷_};
 ghost use Prim.Native.Nat.{_≤_};
 ghost use Rattle.track.specs.Sizes.{mostTrainRoutes};
-ghost use Rattle.layout.specs.Layout.{noLayout, counts};
+ghost use Rattle.layout.specs.Layout.{noneFitted, noLayout, counts};
 ghost use Rattle.layout.specs.Rules.{rule1, rule2, rule3, rule4, rule5, rule6, firstFailed, broken};
 ghost use Rattle.layout.specs.Sound.{fits, sound};
 ghost use Rattle.layout.specs.Load.{refused, finished, load};
 
 // conflict: 1 at 48 * i + j where the routes i and j conflict, else 0.
+// fitted: 1 where a section has heads, else 0. lacking: 1 where a section was told as fitted that there is not, else 0.
 // Entries past a count are not looked at; in a layout that was loaded they are 0.
 #[repr(C)]
 pub struct Layout {
@@ -37,6 +39,8 @@ pub struct Layout {
     pub routes: u8,
     pub route: [Route; TRAIN_ROUTES],
     pub conflict: [u8; PAIRS],
+    pub fitted: [u8; SECTIONS],
+    pub lacking: u8,
 }
 
 // The answer to a layout file: 0, 0 and the layout; or a fault's number with its detail, and the layout with no objects.
@@ -44,6 +48,13 @@ pub struct Loaded {
     pub number: u8,
     pub detail: usize,
     pub layout: Layout,
+}
+
+// No section has heads.
+pub fn none_fitted() -> [u8; SECTIONS]
+    ensures { λ r. ⌜ r ≡ noneFitted ⌝ }
+{
+    [0; SECTIONS]
 }
 
 // The layout with no objects.
@@ -54,6 +65,7 @@ pub fn no_layout() -> Layout
     let line = file_objects::no_lines();
     let route = file_objects::no_routes();
     let conflict = pairs::no_pairs();
+    let fitted = none_fitted();
     Layout {
         sections: 0,
         points: 0,
@@ -64,6 +76,8 @@ pub fn no_layout() -> Layout
         routes: 0,
         route,
         conflict,
+        fitted,
+        lacking: 0,
     }
 }
 
@@ -137,22 +151,27 @@ fn first_broken(l: Layout) -> u8
 fn in_range(l: Layout) -> bool
     ensures { λ r. ⌜ r ≡ fits l ⌝ }
 {
-    let c = counts_of(l);
-    let own = l.pointsection;
-    let ls = l.line;
-    let rs = l.route;
     let n = l.routes;
+    if MOST_SECTIONS < l.sections {
+        return false;
+    }
     if MOST_POINTS < l.points {
         return false;
     }
     if MOST_TRAIN_ROUTES < n {
         return false;
     }
+    let c = counts_of(l);
+    let own = l.pointsection;
+    let ls = l.line;
+    let rs = l.route;
+    let fitted = l.fitted;
     let sections = track::is_between(1, MOST_SECTIONS, l.sections);
     let points = walks::sections_fit(own, l.points, l.sections);
     let lines = walks::lines_keep(0, c, ls);
     let routes = walks::routes_keep(0, c, ls, 0, n, rs);
-    let rest = (l.lines <= MOST_LINES) & (lines & ((n <= MOST_TRAIN_ROUTES) & routes));
+    let heads = walks::heads_fit(fitted, l.sections) & (l.lacking == 0);
+    let rest = (l.lines <= MOST_LINES) & (lines & ((n <= MOST_TRAIN_ROUTES) & (routes & heads)));
     sections & ((l.points <= MOST_POINTS) & (points & ((l.signals <= MOST_SIGNALS) & rest)))
 }
 

@@ -4,13 +4,14 @@ use track::Line;
 use track::Route;
 use track::sizes::LINES;
 use track::sizes::POINTS;
+use track::sizes::SECTIONS;
 use track::sizes::TRAIN_ROUTES;
 ghost use mathlib.Core.Path.{_≡_};
 ghost use Prim.Native.Nat.{_<_, _≤_};
-ghost use lib.Dec.{ltb};
+ghost use lib.Dec.{ltb, leb};
 ghost use lib.ListN.{getD};
 ghost use Rattle.laws.specs.Tests.{allBelow};
-ghost use Rattle.track.specs.Sizes.{mostPoints, mostTrainRoutes};
+ghost use Rattle.track.specs.Sizes.{mostSections, mostPoints, mostTrainRoutes};
 ghost use Rattle.track.specs.Objects.{line, route};
 ghost use Rattle.track.specs.Ranges.{lineFits};
 ghost use Rattle.layout.specs.Walks.{lineKeeps, routeKeeps, blocksApart, listsDiffer};
@@ -139,6 +140,29 @@ pub fn sections_fit(own: [u8; POINTS], n: u8, sections: u8) -> bool
             return false;
         }
         i += 1;
+    }
+    true
+}
+
+// The table of heads says 0 or 1 of section g.
+fn head_fits(fitted: [u8; SECTIONS], g: u8) -> bool
+    requires { ⌜ g < mostSections ⌝ }
+    ensures { λ r. ⌜ r ≡ leb (getD fitted g 0) 1 ⌝ }
+{
+    fitted[g as usize] <= 1
+}
+
+// It says so of each section.
+pub fn heads_fit(fitted: [u8; SECTIONS], n: u8) -> bool
+    requires { ⌜ n ≤ mostSections ⌝ }
+    ensures { λ r. ⌜ r ≡ allBelow n (λ g. leb (getD fitted g 0) 1) ⌝ }
+{
+    let mut g: u8 = 0;
+    while g < n {
+        if !head_fits(fitted, g) {
+            return false;
+        }
+        g += 1;
     }
     true
 }

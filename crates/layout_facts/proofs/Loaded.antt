@@ -6,10 +6,11 @@ use mathlib.Core.List.{List, [], _∷_}
 use mathlib.Core.Logic.{inl, inr}
 use native.Mathlib.Omega.{arith}
 use borrow.Author.Tests.{lt-ltb, le-leb, eq-eqb, eqb-true, eqb-false}
-use lib.Dec.{eqb}
-use lib.ListN.{length}
+use lib.Dec.{eqb, leb}
+use lib.ListN.{length, getD}
 use Rattle.laws.specs.Tests.{_and_, every}
 use Rattle.laws.proofs.Choice.{if-both}
+use Rattle.laws.proofs.Arrays.{nothing-at}
 use Rattle.laws.proofs.Tests.{and-both, every-one, every-more, all-from}
 use Rattle.track.specs.Sizes.{mostSections, mostPoints, mostSignals, mostLines, mostTrainRoutes}
 use Rattle.track.specs.Lists.{between}
@@ -19,7 +20,7 @@ use Rattle.file_objects.proofs.Ranges.{between-from, sections-known, sections-i
 use Rattle.pairs.proofs.Ranges.{Said, neither, both, pairs-known, pairs-in}
 use Rattle.layout.specs.declared.Loaded.{Loaded}
 use Rattle.layout.specs.declared.file.Whole.{Whole}
-use Rattle.layout.specs.Layout.{noLayout, counts, lineIn, routeIn, entryOf}
+use Rattle.layout.specs.Layout.{noneFitted, noLayout, counts, lineIn, routeIn, entryOf}
 use Rattle.layout.specs.Rules.{firstFailed, broken}
 use Rattle.layout.specs.Sound.{sectionsFit, fits, pairMirrors, rowMirrors, mirrored, sound}
 use Rattle.layout.specs.Load.{start, heading, countsOf, whole, refused, finished, load}
@@ -34,6 +35,11 @@ unfolding whole heading
 whole-known s =
     pairs-known s _ _ (routes-known s _ _ (lines-known s _ _ (code-known s _ 0 mostSignals (sections-known s _ _ (code-known s _ 1 mostSections (code-known s start 1 1 (inl refl)))))))
 
+-- where no section is told as fitted, the table of heads says 0 of each
+none-fit : (g : ℕ) → leb (getD noneFitted g 0) 1 ≡ true
+unfolding noneFitted
+none-fit g = rw (nothing-at {A = ℕ} mostSections 0 g)
+
 -- with no fault it is in range
 whole-fits : (s : List ℕ) → whole s .cur .fault ≡ 0 → fits (whole s .layout) ≡ true
 unfolding whole heading countsOf fits counts sectionsFit lineIn routeIn lineFits
@@ -46,7 +52,8 @@ whole-fits s e =
     every-more _ _ _ (between-from 1 mostSections _ (sections .1) (code-most s _ 1 mostSections refl)) (every-more _ _ _ (le-leb _ mostPoints (p .1 .most))
     (every-more _ _ _ (all-from _ _ (λ k h. lt-ltb _ _ (p .1 .each k h))) (every-more _ _ _ (le-leb _ mostSignals (code-most s _ 0 mostSignals refl))
     (every-more _ _ _ (le-leb _ mostLines (l .1 .most)) (every-more _ _ _ (all-from _ _ (l .1 .each))
-    (every-more _ _ _ (le-leb _ mostTrainRoutes (r .1 .most)) (every-one _ (all-from _ _ (r .1 .each)))))))))
+    (every-more _ _ _ (le-leb _ mostTrainRoutes (r .1 .most)) (every-more _ _ _ (all-from _ _ (r .1 .each))
+    (every-more _ _ _ (all-from _ _ (λ g h. none-fit g)) (every-one _ refl)))))))))
 
 -- no route is listed with itself
 own-none : (m : List ℕ) (n r : ℕ) → Said m n r r → entryOf m r r ≡ 0

@@ -1,4 +1,4 @@
--- In a layout that was loaded there is nothing past a count.
+-- In a layout that was loaded there is nothing past a count, and no section is told as fitted.
 use Prim.Native.Nat.{ℕ, _≤_}
 use mathlib.Core.Path.{_≡_, refl}
 use mathlib.Core.List.{List}
@@ -8,7 +8,7 @@ use Rattle.pairs.proofs.Ranges.{Said, neither, both, pairs-in}
 use Rattle.layout.specs.Layout.{lineIn, routeIn, entryOf}
 use Rattle.layout.specs.Load.{heading, whole, load}
 use Rattle.layout.proofs.Laws.{whole-few}
-use Rattle.layout_facts.specs.Loaded.{ZeroPast}
+use Rattle.layout_facts.specs.Loaded.{NoneTold, ZeroPast}
 use Rattle.layout_facts.proofs.Loaded.{loaded-whole}
 
 -- a route that there is not is listed with none
@@ -35,3 +35,12 @@ whole-cleared s e = record {
 -- in a layout that loads with 0 there is nothing past a count
 pub loaded-cleared : (s : List ℕ) → load s .number ≡ 0 → ZeroPast (load s .layout)
 loaded-cleared s e = let p = loaded-whole s e in rw (p .2) (whole-cleared s (p .0))
+
+-- what is read of a file tells of no heads
+whole-none-told : (s : List ℕ) → NoneTold (whole s .layout)
+unfolding whole
+whole-none-told s = record { fitted = refl; noneLacking = refl }
+
+-- in a layout that loads with 0 no section is told as fitted
+pub loaded-none-told : (s : List ℕ) → load s .number ≡ 0 → NoneTold (load s .layout)
+loaded-none-told s e = rw (loaded-whole s e .2) (whole-none-told s)

@@ -79,8 +79,9 @@ fits-means L =
     Iff·trans (every-means (
     between-means _ _ _ also leb-means _ _ also all-means (λ p h. ltb-means _ _) also leb-means _ _
     also leb-means _ _ also all-means (λ l h. lineFits-means L l)
-    also leb-means _ _ also lastly (all-means (λ r h. routeFits-means L r)))) (
-      λ (sections, (points, (point, (signals, (lines, (line, (routes, route))))))). record {
+    also leb-means _ _ also all-means (λ r h. routeFits-means L r)
+    also all-means (λ g h. leb-means _ _) also lastly (eqb-means _ _))) (
+      λ (sections, (points, (point, (signals, (lines, (line, (routes, (route, (fitted, lacking))))))))). record {
         sectionCount = sections;
         pointCount = points;
         points = point;
@@ -89,6 +90,8 @@ fits-means L =
         lines = line;
         routeCount = routes;
         routes = route;
+        fitted = fitted;
+        noneLacking = lacking;
       },
-      λ s. s .sectionCount & s .pointCount & s .points & s .signalCount & s .lineCount & s .lines & s .routeCount & s .routes,
+      λ s. s .sectionCount & s .pointCount & s .points & s .signalCount & s .lineCount & s .lines & s .routeCount & s .routes & s .fitted & s .noneLacking,
     )

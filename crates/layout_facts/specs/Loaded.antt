@@ -7,13 +7,18 @@ use Rattle.track.specs.Sizes.{mostRoutes}
 use Rattle.track.specs.Objects.{noLine, noRoute}
 use Rattle.layout.specs.declared.Layout.{Layout}
 use Rattle.layout.specs.declared.Loaded.{Loaded}
-use Rattle.layout.specs.Layout.{lineIn, routeIn, entryOf}
+use Rattle.layout.specs.Layout.{noneFitted, lineIn, routeIn, entryOf}
 
 -- the answer is 0 or one of 21 to 26; the detail of 0 is 0, and that of 25 is the number of one of the six rules
 pub record Answered (a : Loaded) : Type 0 where
   pub numbers : (a .number ≡ 0) ⊎ ((21 ≤ a .number) × (a .number ≤ 26))
   pub well : a .number ≡ 0 → a .detail ≡ 0
   pub rule : a .number ≡ 25 → (1 ≤ a .detail) × (a .detail ≤ 6)
+
+-- no section is told as fitted: what a layout file cannot say (L1)
+pub record NoneTold (L : Layout) : Type 0 where
+  pub fitted : L .fitted ≡ noneFitted
+  pub noneLacking : L .lacking ≡ 0
 
 -- past each count there is nothing, and in the lists of a line or a route 0
 pub record ZeroPast (L : Layout) : Type 0 where

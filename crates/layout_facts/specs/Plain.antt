@@ -83,7 +83,8 @@ pub record RouteRanges (L : Layout) (r : ℕ) : Type 0 where
   pub points : (i : ℕ) → i < routeIn L r .points → routePoint L r i < L .points
   pub positions : (i : ℕ) → i < routeIn L r .points → routePosition L r i ≡ left ⊎ routePosition L r i ≡ right
 
--- sections 1..64, points 0..32 each with its own section, signals 0..32, lines 0..8, routes 0..48
+-- sections 1..64, points 0..32 each with its own section, signals 0..32, lines 0..8, routes 0..48;
+-- the table of heads says 0 or 1 of each section, and none is told as fitted that there is not (L1)
 pub record Ranges (L : Layout) : Type 0 where
   pub sectionCount : (1 ≤ L .sections) × (L .sections ≤ mostSections)
   pub pointCount : L .points ≤ mostPoints
@@ -93,6 +94,8 @@ pub record Ranges (L : Layout) : Type 0 where
   pub lines : (l : ℕ) → l < L .lines → LineRanges L l
   pub routeCount : L .routes ≤ mostTrainRoutes
   pub routes : (r : ℕ) → r < L .routes → RouteRanges L r
+  pub fitted : (g : ℕ) → g < L .sections → getD (L .fitted) g 0 ≤ 1
+  pub noneLacking : L .lacking ≡ 0
 
 -- ---- conflicts
 

@@ -20,7 +20,7 @@ use Rattle.track.specs.Ranges.{pointsFit, lineFits, routeFits}
 use Rattle.rules.specs.Rules.{share, hasBlock, isBlock, hasInner, isInner, inPath, hasEntrance, isEntrance}
 use Rattle.rules.specs.Rules.{once, lineEnds, linePoints, routeLists, routeLength, routeEnds}
 use Rattle.pairs.specs.Pairs.{placeOf}
-use Rattle.layout.specs.Layout.{counts, lineIn, routeIn, entryOf, conflict}
+use Rattle.layout.specs.Layout.{noneFitted, counts, lineIn, routeIn, entryOf, conflict}
 use Rattle.layout.specs.Rules.{rule1, rule2, rule3, rule4, rule5, rule6}
 use Rattle.layout.specs.Sound.{sectionsFit, fits, pairMirrors, rowMirrors, mirrored, sound}
 use Rattle.layout_facts.proofs.Sound.{broken-means}
@@ -75,7 +75,7 @@ full-routes p e = all-from mostTrainRoutes _ (λ r h. rw (full-route r h) e)
 -- every number is in its range
 full-fits : fits fullLayout ≡ true
 unfolding fits every between _and_ _or_ allBelow sectionsFit lineFits routeFits pointsFit referring positions counts lineIn line
-    table tableFrom upFrom allLeft fullLine fullRoute fullLayout if_then_else_
+    table tableFrom upFrom allLeft fullLine fullRoute fullLayout noneFitted if_then_else_
 full-fits = rw (full-routes (routeFits (counts fullLayout)) refl)
 
 -- rule 1: every block has a section of its own

@@ -17,7 +17,7 @@ use Rattle.track.specs.Sizes.{mostPoints, mostLines, mostTrainRoutes, mostPairs
 use Rattle.track.specs.Objects.{noLine, noRoute, line, route}
 use Rattle.layout.specs.Layout.{lineIn, routeIn, conflict}
 use Rattle.layout_facts.specs.Plain.{Ranges}
-use Rattle.layout_facts.specs.Loaded.{ZeroPast}
+use Rattle.layout_facts.specs.Loaded.{NoneTold, ZeroPast}
 use Rattle.layout_facts.proofs.Sound.{sound-says}
 use Rattle.layout_file.specs.Written.{routeNumbers, pairsOf, fileOf}
 use Rattle.layout_file.specs.Bare.{LineTables, RouteTables, Tables, Bare}
@@ -158,11 +158,17 @@ full-past = record {
   conflicts = λ r q h l m. absurd (omega arith);
 }
 
+-- no section is told as fitted
+full-none-told : NoneTold fullLayout
+unfolding fullLayout
+full-none-told = record { fitted = refl; noneLacking = refl }
+
 -- all of it
 pub full-bare : Bare fullLayout
 unfolding fullRoute noRoute
 full-bare = record {
   tables = full-tables;
   past = full-past;
+  noneTold = full-none-told;
   ends = each-route (λ a. a .kind ≡ innerRoute → (a .line ≡ 0) × (a .end ≡ endA)) (λ e. absurd (omega arith)) (λ e. (refl, refl));
 }

@@ -141,7 +141,7 @@ module _ (s : List ℕ) (L : Layout) (ranges : Ranges L) (bare : Bare L) where
       let l = then-lines (heading s) _ _ next next g (stand-first s _ next (listing (L .lines) (λ l. lineNumbers (lineIn L l))) _ p₃) in
       let r = then-routes (heading s) _ _ _ next g (l .0) (l .1) (stand-first s _ next (listing (L .routes) (λ r. routeNumbers (routeIn L r))) _ p₄) in
       let q = then-pairs (heading s) _ next _ next g C (r .0) (r .1) p₅ in
-      (q .0, rw (q .1, r .2, r .1, l .2, l .1, g .signals, g .pointsection, g .points, g .sections))
+      (q .0, rw (bare .noneTold .noneLacking, bare .noneTold .fitted, q .1, r .2, r .1, l .2, l .1, g .signals, g .pointsection, g .points, g .sections))
 
 -- ---- the file of a layout
 

@@ -29,7 +29,7 @@ use Rattle.pairs.specs.Pairs.{noPairs, aPair, pairTurn, pairsFrom, named, pairs
 use Rattle.layout.specs.Layout.{lineIn, routeIn}
 use Rattle.layout.specs.Load.{heading, whole, load}
 use Rattle.layout_facts.proofs.Loaded.{loaded-whole}
-use Rattle.layout_facts.proofs.LoadedCleared.{loaded-cleared}
+use Rattle.layout_facts.proofs.LoadedCleared.{loaded-cleared, loaded-none-told}
 use Rattle.layout_file.specs.Bare.{LineTables, RouteTables, Tables, Bare}
 use Rattle.layout_file.proofs.Turns.{entries-long}
 use Rattle.layout_file.proofs.Pairs.{listed-long}
@@ -149,4 +149,4 @@ whole-ends s = routes-ends s _ _
 
 -- a layout that loads with 0 has nothing beside its objects
 pub loaded-bare : (s : List ℕ) → load s .number ≡ 0 → Bare (load s .layout)
-loaded-bare s e = let p = loaded-whole s e in record { tables = rw (p .2) (whole-tables s); past = loaded-cleared s e; ends = rw (p .2) (whole-ends s) }
+loaded-bare s e = let p = loaded-whole s e in record { tables = rw (p .2) (whole-tables s); past = loaded-cleared s e; noneTold = loaded-none-told s e; ends = rw (p .2) (whole-ends s) }

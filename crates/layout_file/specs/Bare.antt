@@ -8,7 +8,7 @@ use Rattle.track.specs.Codes.{endA, innerRoute}
 use Rattle.track.specs.Sizes.{mostPoints, mostLines, mostTrainRoutes, mostPairs, mostListed}
 use Rattle.layout.specs.declared.Layout.{Layout}
 use Rattle.layout.specs.Layout.{lineIn, routeIn}
-use Rattle.layout_facts.specs.Loaded.{ZeroPast}
+use Rattle.layout_facts.specs.Loaded.{NoneTold, ZeroPast}
 
 -- the lists of a line, as long as the record has them
 pub record LineTables (a : Line) : Type 0 where
@@ -32,8 +32,9 @@ pub record Tables (L : Layout) : Type 0 where
   pub routes : (r : ℕ) → RouteTables (routeIn L r)
   pub conflict : length (L .conflict) ≡ mostPairs
 
--- past each count there is nothing, and a route of kind 0, which has no line and no end, says 0 for both
+-- past each count there is nothing, no section is told as fitted (L1), and a route of kind 0, which has no line and no end, says 0 for both
 pub record Bare (L : Layout) : Type 0 where
   pub tables : Tables L
   pub past : ZeroPast L
+  pub noneTold : NoneTold L
   pub ends : (r : ℕ) → routeIn L r .kind ≡ innerRoute → (routeIn L r .line ≡ 0) × (routeIn L r .end ≡ endA)

@@ -10,6 +10,7 @@ use Rattle.track.specs.declared.Route.{Route}
 use Rattle.track.specs.Codes.{left, endB, exitRoute}
 use Rattle.track.specs.Sizes.{mostSections, mostPoints, mostSignals, mostLines, mostBlocks, mostTrainRoutes, mostRoutes, mostPairs, mostListed, mostOverlap}
 use Rattle.layout.specs.declared.Layout.{Layout}
+use Rattle.layout.specs.Layout.{noneFitted}
 
 -- the n numbers from low on, and nothing past them
 unfoldable pub upFrom : ℕ → ℕ → List ℕ
@@ -74,4 +75,6 @@ fullLayout = record {
   routes = mostTrainRoutes;
   route = replicate mostTrainRoutes fullRoute;
   conflict = table mostPairs fullConflict;
+  fitted = noneFitted;
+  lacking = 0;
 }

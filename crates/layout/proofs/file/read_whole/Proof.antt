@@ -5,4 +5,4 @@ use Rattle.layout.proofs.file.read_whole.Statement.{statement}
 use Rattle.layout.proofs.file.read_whole.Tie as tie
 
 pub read-whole-spec : {M : Type 1} → statement M
-read-whole-spec = tie.close (tie.spec (λ c κs. search needs) (λ c κs. search needs) (λ c κs. search needs) (λ c κs. search needs) (λ c κs. search needs) (λ c κs. search needs) (λ c. search whole-made))
+read-whole-spec = tie.close (tie.spec (λ c κs. search needs) (λ c κs. search needs) (λ c κs. search needs) (λ c κs. search needs) (λ c κs. search needs) (λ c κs. search needs) (λ c κs. search needs) (λ c. search whole-made))
