@@ -1,0 +1,9 @@
+pub mod Rounds
+pub mod Signed
+pub mod Laws
+pub mod Unique
+pub mod Since
+pub mod HeadLog
+pub mod GivesNone
+pub mod FreeNeeds
+pub mod Cases
