@@ -20,8 +20,9 @@ use Rattle.tables.specs.Blocks.{place}
 use Rattle.tables.specs.declared.Gives.{Gives}
 use Rattle.passage.specs.Passage.{ownStage}
 use Rattle.line_block.proofs.FarSections.{line-in}
-use Rattle.interlocking.specs.declared.State.{State}
+use Rattle.interlocking.specs.declared.Core.{Core}
 use Rattle.interlocking.specs.State.{codes, routesAndLinesInRange, withSections, withPoints, withRoutes, withLines, withBars}
+use Rattle.interlocking.specs.Parts.{coreOf, bare}
 use Rattle.interlocking.specs.Own.{ownGiven, ownStageAt, ownSection, ownPoint, throwReading, ownThrow, ownSet, ownCancel, ownSecure, openAt, ownManual, ownBar}
 
 -- ---- one store
@@ -75,55 +76,55 @@ module _ (ls : List Line) (l k was r : ℕ) (b : Line) (e : b ≡ line ls l) whe
 
 -- ---- what each event itself does, put together from its stores
 
-module _ (s : State) where
+module _ (s : Core) where
   -- 1: the reading stored, and the stages
   pub section-made : (ls : List Line) (n g v : ℕ) (section stage : List ℕ) → section ≡ put mostSections (s .section) g v
-      → stage ≡ each (mostBlocks * n) (ownStageAt ls (record { section = g; reading = v; tick = 0 })) (s .stage) → withSections s section stage ≡ ownSection ls n s g v
+      → stage ≡ each (mostBlocks * n) (ownStageAt ls (record { section = g; reading = v; tick = 0 })) (s .stage) → coreOf (withSections (bare s) section stage) ≡ coreOf (ownSection ls n (bare s) g v)
   unfolding ownSection
   section-made ls n g v section stage p q = rw (p, q)
 
   -- 2: the reading stored
-  pub point-made : (a v : ℕ) (point : List ℕ) → point ≡ put mostPoints (s .point) a v → withPoints s point (s .order) ≡ ownPoint s a v
+  pub point-made : (a v : ℕ) (point : List ℕ) → point ≡ put mostPoints (s .point) a v → coreOf (withPoints (bare s) point (s .order)) ≡ coreOf (ownPoint (bare s) a v)
   unfolding ownPoint
   point-made a v point p = rw p
 
   -- 3: the reading and the order stored
   pub throw-made : (a w x : ℕ) (point order : List ℕ) → x ≡ throwReading (s .point) a w → point ≡ put mostPoints (s .point) a x → order ≡ put mostPoints (s .order) a w
-      → withPoints s point order ≡ ownThrow s a w
+      → coreOf (withPoints (bare s) point order) ≡ coreOf (ownThrow (bare s) a w)
   unfolding ownThrow
   throw-made a w x point order e p q = rw (p, q, e)
 
   -- 4: phase, step and seconds stored
   pub set-made : (r : ℕ) (phase step second : List ℕ) → phase ≡ put mostRoutes (s .phase) r atProceed → step ≡ put mostTrainRoutes (s .steps) r 0 → second ≡ put mostTrainRoutes (s .seconds) r 0
-      → withRoutes s phase step second ≡ ownSet s r
+      → coreOf (withRoutes (bare s) phase step second) ≡ coreOf (ownSet (bare s) r)
   unfolding ownSet
   set-made r phase step second p q t = rw (p, q, t)
 
   -- 5: phase and seconds stored
   pub cancel-made : (r : ℕ) (phase second : List ℕ) → phase ≡ put mostRoutes (s .phase) r cancelling → second ≡ put mostTrainRoutes (s .seconds) r 0
-      → withRoutes s phase (s .steps) second ≡ ownCancel s r
+      → coreOf (withRoutes (bare s) phase (s .steps) second) ≡ coreOf (ownCancel (bare s) r)
   unfolding ownCancel
   cancel-made r phase second p q = rw (p, q)
 
   -- 6: the direction stored
-  pub secure-made : (l w : ℕ) (direction : List ℕ) → direction ≡ put mostLines (s .direction) l w → withLines s direction (s .stage) ≡ ownSecure s l w
+  pub secure-made : (l w : ℕ) (direction : List ℕ) → direction ≡ put mostLines (s .direction) l w → coreOf (withLines (bare s) direction (s .stage)) ≡ coreOf (ownSecure (bare s) l w)
   unfolding ownSecure
   secure-made l w direction p = rw p
 
   -- 7: the direction stored, and the stages
   pub manual-made : (ls : List Line) (n l : ℕ) (direction stage : List ℕ) → direction ≡ put mostLines (s .direction) l neutral
-      → stage ≡ each (mostBlocks * n) (openAt ls l) (s .stage) → withLines s direction stage ≡ ownManual ls n s l
+      → stage ≡ each (mostBlocks * n) (openAt ls l) (s .stage) → coreOf (withLines (bare s) direction stage) ≡ coreOf (ownManual ls n (bare s) l)
   unfolding ownManual
   manual-made ls n l direction stage p q = rw (p, q)
 
   -- 8, 9: the bar stored
-  pub bar-made : (l i b : ℕ) (bar : List ℕ) → bar ≡ put mostPlaces (s .bar) (place l i) b → withBars s bar ≡ ownBar s l i b
+  pub bar-made : (l i b : ℕ) (bar : List ℕ) → bar ≡ put mostPlaces (s .bar) (place l i) b → coreOf (withBars (bare s) bar) ≡ coreOf (ownBar (bare s) l i b)
   unfolding ownBar
   bar-made l i b bar p = rw p
 
 -- the codes of routes, lines and blocks, from their six tests
-pub range-made : (s : State) (phase step second direction stage bar : Bool) → phase ≡ codes mostRoutes idle cancelling (s .phase) → step ≡ codes mostTrainRoutes 0 3 (s .steps)
+pub range-made : (s : Core) (phase step second direction stage bar : Bool) → phase ≡ codes mostRoutes idle cancelling (s .phase) → step ≡ codes mostTrainRoutes 0 3 (s .steps)
     → second ≡ codes mostTrainRoutes 0 89 (s .seconds) → direction ≡ codes mostLines neutral bToA (s .direction) → stage ≡ codes mostPlaces openBlock stage2 (s .stage) → bar ≡ codes mostPlaces 0 1 (s .bar)
-    → phase && (step && (second && (direction && (stage && bar)))) ≡ routesAndLinesInRange s
+    → phase && (step && (second && (direction && (stage && bar)))) ≡ routesAndLinesInRange (bare s)
 unfolding routesAndLinesInRange every
 range-made s phase step second direction stage bar e₁ e₂ e₃ e₄ e₅ e₆ = rw (e₁, e₂, e₃, e₄, e₅, e₆)

@@ -2,18 +2,21 @@
 use Prim.Native.Nat.{ℕ}
 use mathlib.Core.Path.{_≡_, refl, sym, ap, _∙_}
 use mathlib.Core.Bool.{Bool}
-use mathlib.Core.Logic.{_≢_}
+use mathlib.Core.Logic.{_≢_, _⊎_, inl, inr}
 use borrow.Author.Tests.{eqb-true, eqb-false}
 use lib.Dec.{eqb}
 use Rattle.laws.proofs.Choice.{if-both, if-ne}
-use Rattle.track.specs.Codes.{readSection, readPoint, throwPoint, setRoute, cancelRoute, secureLine, releaseLine, barBlock, unbarBlock, oneSecond}
+use Rattle.track.specs.Codes.{readSection, readPoint, throwPoint, setRoute, cancelRoute, secureLine, releaseLine, barBlock, unbarBlock, oneSecond, axlesIn, axlesOut, headSilent, resetAxles}
+use Rattle.axles.specs.declared.Axles.{Axles}
 use Rattle.layout.specs.declared.Layout.{Layout}
 use Rattle.interlocking.specs.declared.State.{State}
+use Rattle.interlocking.specs.declared.Core.{Core}
 use Rattle.interlocking.specs.declared.Tried.{Tried}
-use Rattle.interlocking.specs.Rows.{Row, sectionRow, pointRow, throwRow, setRow, cancelRow, secureRow, manualRow, barRow, secondRow, noRow, rowOf}
-use Rattle.interlocking.specs.Step.{tried}
+use Rattle.interlocking.specs.Own.{headsOf, headsBy}
+use Rattle.interlocking.specs.Rows.{Row, sectionRow, pointRow, throwRow, setRow, cancelRow, secureRow, manualRow, barRow, secondRow, countRow, silentRow, resetRow, noRow, rowWith, rowOf}
+use Rattle.interlocking.specs.Parts.{bare, tried}
 
--- k is none of the ten kinds
+-- k is none of the fourteen kinds
 pub record Unknown (k : ℕ) : Type 0 where
   pub no-section : k ≢ readSection
   pub no-point : k ≢ readPoint
@@ -25,25 +28,32 @@ pub record Unknown (k : ℕ) : Type 0 where
   pub no-bar : k ≢ barBlock
   pub no-unbar : k ≢ unbarBlock
   pub no-second : k ≢ oneSecond
+  pub no-in : k ≢ axlesIn
+  pub no-out : k ≢ axlesOut
+  pub no-silent : k ≢ headSilent
+  pub no-reset : k ≢ resetAxles
 
--- the rows, each with its kind; a kind that is none of these has no row
-pub data OfKind (L : Layout) (s : State) (a b k : ℕ) : Row → Type 0 where
-  section-row : k ≡ readSection → OfKind L s a b k (sectionRow L s a b)
-  point-row : k ≡ readPoint → OfKind L s a b k (pointRow L s a b)
-  throw-row : k ≡ throwPoint → OfKind L s a b k (throwRow L s a b)
-  set-row : k ≡ setRoute → OfKind L s a b k (setRow L s a b)
-  cancel-row : k ≡ cancelRoute → OfKind L s a b k (cancelRow L s a b)
-  secure-row : k ≡ secureLine → OfKind L s a b k (secureRow L s a b)
-  manual-row : k ≡ releaseLine → OfKind L s a b k (manualRow L s a b)
-  bar-row : k ≡ barBlock → OfKind L s a b k (barRow 1 L s a b)
-  unbar-row : k ≡ unbarBlock → OfKind L s a b k (barRow 0 L s a b)
-  second-row : k ≡ oneSecond → OfKind L s a b k (secondRow s a b)
-  no-row : Unknown k → OfKind L s a b k (noRow s)
+-- the rows, each with its kind, x and y being the heads of its section before and after; a kind that is none of these has no row
+pub data RowKind (L : Layout) (s : State) (x y : Axles) (a b k : ℕ) : Row → Type 0 where
+  section-row : k ≡ readSection → RowKind L s x y a b k (sectionRow L s a b)
+  point-row : k ≡ readPoint → RowKind L s x y a b k (pointRow L s a b)
+  throw-row : k ≡ throwPoint → RowKind L s x y a b k (throwRow L s a b)
+  set-row : k ≡ setRoute → RowKind L s x y a b k (setRow L s a b)
+  cancel-row : k ≡ cancelRoute → RowKind L s x y a b k (cancelRow L s a b)
+  secure-row : k ≡ secureLine → RowKind L s x y a b k (secureRow L s a b)
+  manual-row : k ≡ releaseLine → RowKind L s x y a b k (manualRow L s a b)
+  bar-row : k ≡ barBlock → RowKind L s x y a b k (barRow 1 L s a b)
+  unbar-row : k ≡ unbarBlock → RowKind L s x y a b k (barRow 0 L s a b)
+  second-row : k ≡ oneSecond → RowKind L s x y a b k (secondRow s a b)
+  count-row : (k ≡ axlesIn) ⊎ (k ≡ axlesOut) → RowKind L s x y a b k (countRow L s y a b)
+  silent-row : k ≡ headSilent → RowKind L s x y a b k (silentRow L s y a b)
+  reset-row : k ≡ resetAxles → RowKind L s x y a b k (resetRow L s x y a b)
+  no-row : Unknown k → RowKind L s x y a b k (noRow s)
 
 -- the row of kind k is that of its kind: by the tests, one after the other
-pub row-of : (L : Layout) (s : State) (k a b : ℕ) → OfKind L s a b k (rowOf L s k a b)
-unfolding rowOf
-row-of L s k a b =
+pub row-with : (L : Layout) (s : State) (x y : Axles) (k a b : ℕ) → RowKind L s x y a b k (rowWith L s x y k a b)
+unfolding rowWith
+row-with L s x y k a b =
     if-both R (eqb k readSection) (λ t. section-row (eqb-true k readSection t))
     (λ f1. if-both R (eqb k readPoint) (λ t. point-row (eqb-true k readPoint t))
     (λ f2. if-both R (eqb k throwPoint) (λ t. throw-row (eqb-true k throwPoint t))
@@ -54,7 +64,11 @@ row-of L s k a b =
     (λ f7. if-both R (eqb k barBlock) (λ t. bar-row (eqb-true k barBlock t))
     (λ f8. if-both R (eqb k unbarBlock) (λ t. unbar-row (eqb-true k unbarBlock t))
     (λ f9. if-both R (eqb k oneSecond) (λ t. second-row (eqb-true k oneSecond t))
-    (λ f10. no-row (record {
+    (λ f10. if-both R (eqb k axlesIn) (λ t. count-row (inl (eqb-true k axlesIn t)))
+    (λ f11. if-both R (eqb k axlesOut) (λ t. count-row (inr (eqb-true k axlesOut t)))
+    (λ f12. if-both R (eqb k headSilent) (λ t. silent-row (eqb-true k headSilent t))
+    (λ f13. if-both R (eqb k resetAxles) (λ t. reset-row (eqb-true k resetAxles t))
+    (λ f14. no-row (record {
       no-section = eqb-false k readSection f1;
       no-point = eqb-false k readPoint f2;
       no-throw = eqb-false k throwPoint f3;
@@ -65,27 +79,41 @@ row-of L s k a b =
       no-bar = eqb-false k barBlock f8;
       no-unbar = eqb-false k unbarBlock f9;
       no-second = eqb-false k oneSecond f10;
-    })))))))))))
+      no-in = eqb-false k axlesIn f11;
+      no-out = eqb-false k axlesOut f12;
+      no-silent = eqb-false k headSilent f13;
+      no-reset = eqb-false k resetAxles f14;
+    })))))))))))))))
   where
     R : Row → Type 0
-    R = OfKind L s a b k
+    R = RowKind L s x y a b k
 
--- a kind that is none of the ten has no row, since each test of the kind fails
-pub row-unknown : (L : Layout) (s : State) (k a b : ℕ) → Unknown k → noRow s ≡ rowOf L s k a b
+-- so in a state, whose heads are those of the section that the event names
+abbrev pub OfKind : Layout → State → ℕ → ℕ → ℕ → Row → Type 0
+OfKind L s a b k row = RowKind L s (headsOf s k a) (headsBy (headsOf s k a) k a b) a b k row
+
+pub row-of : (L : Layout) (s : State) (k a b : ℕ) → OfKind L s a b k (rowOf L s k a b)
 unfolding rowOf
-row-unknown L s k a b u =
+row-of L s k a b = row-with L s _ _ k a b
+
+-- a kind that is none of the fourteen has no row, since each test of the kind fails
+pub row-unknown : (L : Layout) (s : State) (x y : Axles) (k a b : ℕ) → Unknown k → noRow s ≡ rowWith L s x y k a b
+unfolding rowWith
+row-unknown L s x y k a b u =
     if-ne k readSection _ _ r (u .no-section) (if-ne k readPoint _ _ r (u .no-point) (if-ne k throwPoint _ _ r (u .no-throw)
     (if-ne k setRoute _ _ r (u .no-set) (if-ne k cancelRoute _ _ r (u .no-cancel) (if-ne k secureLine _ _ r (u .no-secure)
     (if-ne k releaseLine _ _ r (u .no-release) (if-ne k barBlock _ _ r (u .no-bar) (if-ne k unbarBlock _ _ r (u .no-unbar)
-    (if-ne k oneSecond _ _ r (u .no-second) refl)))))))))
+    (if-ne k oneSecond _ _ r (u .no-second) (if-ne k axlesIn _ _ r (u .no-in) (if-ne k axlesOut _ _ r (u .no-out)
+    (if-ne k headSilent _ _ r (u .no-silent) (if-ne k resetAxles _ _ r (u .no-reset) refl)))))))))))))
   where
     r : Row
     r = noRow s
 
--- an event tried by the row of kind n is tried by that of k, which is n
-pub row-at : (t : Bool) (L : Layout) (s : State) (k a b n : ℕ) (r : Tried) → k ≡ n → r ≡ tried t s a (rowOf L s n a b) → r ≡ tried t s a (rowOf L s k a b)
-row-at t L s k a b n r h e = e ∙ sym (ap (λ x. tried t s a (rowOf L s x a b)) h)
+module _ (t : Bool) (L : Layout) (s : Core) (x y : Axles) (k a b : ℕ) (r : Tried) where
+  -- an event tried by the row of kind n is tried by that of k, which is n
+  pub row-at : (n : ℕ) → k ≡ n → r ≡ tried t s a (rowWith L (bare s) x y n a b) → r ≡ tried t s a (rowWith L (bare s) x y k a b)
+  row-at n h e = e ∙ sym (ap (λ m. tried t s a (rowWith L (bare s) x y m a b)) h)
 
--- one of a kind that is none of the ten
-pub row-none : (t : Bool) (L : Layout) (s : State) (k a b : ℕ) (r : Tried) → Unknown k → r ≡ tried t s a (noRow s) → r ≡ tried t s a (rowOf L s k a b)
-row-none t L s k a b r u e = e ∙ ap (tried t s a) (row-unknown L s k a b u)
+  -- one of a kind that is none of the fourteen
+  pub row-none : Unknown k → r ≡ tried t s a (noRow (bare s)) → r ≡ tried t s a (rowWith L (bare s) x y k a b)
+  row-none u e = e ∙ ap (tried t s a) (row-unknown L (bare s) x y k a b u)

@@ -35,6 +35,8 @@ use Rattle.interlocking.specs.declared.State.{State}
 use Rattle.interlocking.specs.State.{withRoutes, withLines}
 use Rattle.interlocking.specs.declared.answering.Walked.{Walked}
 use Rattle.interlocking.specs.Walk.{IsWalk}
+use Rattle.interlocking.specs.declared.Core.{Core}
+use Rattle.interlocking.specs.Parts.{coreOf, bare}
 use Rattle.interlocking.specs.Settle.{fallenAt, signals, proceedsIn, farSections, lockingOf, routeAfter, unlessIdle, routesBy, routes, lineRelease, settle}
 
 -- ---- one turn of the walk
@@ -236,14 +238,15 @@ module _ (L : Layout) (before s : State) (e : Gives) (few-lines : L .lines ≤ m
       direction = direction;
       stage = stage;
       bar = s .bar;
+      axles = s .axles;
     } ≡ settle L before s e
     unfolding settle lineRelease routes routesBy farSections signals withRoutes withLines fell unlessIdle routeAfter lockingOf
     settled-made = rw (phases-moved, e₄, e₅, directions-moved, stages-moved)
 
--- the state that follows, from the tables of the walk and those that the code makes of them for far sections and lines; the lists that it was
--- handed are the layout's
-pub completed-made : (L : Layout) (before s : State) (e : Gives) (blank : List ℕ) (w : Walked) (ls : List Line) (m : ℕ) (rs : List Route) (n : ℕ) (stage direction : List ℕ)
-    → IsWalk L s e blank w → L .lines ≤ mostLines → L .routes ≤ mostTrainRoutes → length (s .phase) ≡ mostRoutes → ls ≡ L .line → m ≡ L .lines → rs ≡ L .route → n ≡ L .routes
+-- the tables that follow, from those of the walk and those that the code makes of them for far sections and lines; the lists that it was handed
+-- are the layout's
+pub completed-made : (L : Layout) (before s : Core) (e : Gives) (blank : List ℕ) (w : Walked) (ls : List Line) (m : ℕ) (rs : List Route) (n : ℕ) (stage direction : List ℕ)
+    → IsWalk L (bare s) e blank w → L .lines ≤ mostLines → L .routes ≤ mostTrainRoutes → length (s .phase) ≡ mostRoutes → ls ≡ L .line → m ≡ L .lines → rs ≡ L .route → n ≡ L .routes
     → stage ≡ farStages (fewLines m) ls (s .direction) (s .section)
     (proceedsBy ls n (w .entry) (before .phase) (before .direction) (before .point) (before .stage) (before .bar))
     (proceedsBy ls n (w .entry) (w .fallen) (s .direction) (s .point) (s .stage) (s .bar)) (s .stage)
@@ -258,8 +261,9 @@ pub completed-made : (L : Layout) (before s : State) (e : Gives) (blank : List �
       direction = direction;
       stage = stage;
       bar = s .bar;
-    } ≡ settle L before s e
-unfolding fell signals
+    } ≡ coreOf (settle L (bare before) (bare s) e)
+unfolding fell signals coreOf
 completed-made L before s e blank w ls m rs n stage direction walk lines few len p q u v e₆ e₇ =
-    settled-made L before s e lines few len blank (w .entry) (w .fallen) (w .phase) (w .steps) (w .seconds) stage direction
-    (walk .entry) (walk .fallen) (walk .phase) (walk .steps) (walk .seconds) (rw (p, q, v) at e₆) (rw (p, q, u, v) at e₇)
+    ap coreOf
+    (settled-made L (bare before) (bare s) e lines few len blank (w .entry) (w .fallen) (w .phase) (w .steps) (w .seconds) stage direction
+    (walk .entry) (walk .fallen) (walk .phase) (walk .steps) (walk .seconds) (rw (p, q, v) at e₆) (rw (p, q, u, v) at e₇))

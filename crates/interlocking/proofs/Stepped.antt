@@ -6,7 +6,8 @@ use borrow.Author.Tests.{leb-true}
 use lib.Dec.{leb}
 use Rattle.laws.specs.Tests.{_and_}
 use Rattle.laws.proofs.Tests.{and-left, and-right, every-at}
-use Rattle.track.specs.Sizes.{mostLines, mostTrainRoutes}
+use Rattle.track.specs.Sizes.{mostSections, mostLines, mostTrainRoutes}
+use Rattle.track.specs.Lists.{between}
 use Rattle.layout.specs.declared.Layout.{Layout}
 use Rattle.layout.specs.Sound.{fits, sound}
 use Rattle.interlocking.specs.declared.State.{State}
@@ -14,12 +15,13 @@ use Rattle.interlocking.specs.declared.Answer.{Answer}
 use Rattle.interlocking.specs.State.{inRange}
 use Rattle.interlocking.specs.Step.{stepWhere}
 
--- a sound layout has no more lines and routes than the tables hold
-pub sound-holds : (L : Layout) (s : State) (x : Bool) → x ≡ (sound L and inRange s) → x ≡ true → (L .lines ≤ mostLines) × (L .routes ≤ mostTrainRoutes)
-unfolding sound fits
+-- a sound layout has no more lines, routes and sections than the tables hold
+pub sound-holds : (L : Layout) (s : State) (x : Bool) → x ≡ (sound L and inRange s) → x ≡ true
+    → (L .lines ≤ mostLines) × (L .routes ≤ mostTrainRoutes) × (L .sections ≤ mostSections)
+unfolding sound fits between
 sound-holds L s x e h =
     let within : fits L ≡ true = every-at _ (and-left _ _ (sym e ∙ h)) 0 in
-    (leb-true (L .lines) mostLines (every-at _ within 4), leb-true (L .routes) mostTrainRoutes (every-at _ within 6))
+    (leb-true (L .lines) mostLines (every-at _ within 4), leb-true (L .routes) mostTrainRoutes (every-at _ within 6), leb-true (L .sections) mostSections (and-right _ _ (every-at _ within 0)))
 
 -- so has one whose counts were looked at
 pub counts-hold : (n m : ℕ) (x : Bool) → leb n mostLines && (leb m mostTrainRoutes && x) ≡ true → (n ≤ mostLines) × (m ≤ mostTrainRoutes)

@@ -3,7 +3,7 @@ use Rattle.laws.proofs.Only.{Determines, only}
 use Rattle.interlocking.proofs.State.cold.Reads as cold
 use Rattle.interlocking.proofs.State.in_range.Reads as in-range
 use Rattle.interlocking.proofs.State.step.Reads as step
-use Rattle.interlocking.proofs.State.step_in_run.Reads as step-in-run
+use Rattle.interlocking.proofs.Core.step_in_run.Reads as step-in-run
 use Rattle.interlocking.proofs.State.read_section.Reads as read-section
 use Rattle.interlocking.proofs.State.read_point.Reads as read-point
 use Rattle.interlocking.proofs.State.throw_point.Reads as throw-point
@@ -14,6 +14,14 @@ use Rattle.interlocking.proofs.State.release_line.Reads as release-line
 use Rattle.interlocking.proofs.State.bar_block.Reads as bar-block
 use Rattle.interlocking.proofs.State.unbar_block.Reads as unbar-block
 use Rattle.interlocking.proofs.State.second_passed.Reads as second-passed
+use Rattle.interlocking.proofs.State.axles_in.Reads as axles-in
+use Rattle.interlocking.proofs.State.axles_out.Reads as axles-out
+use Rattle.interlocking.proofs.State.head_silent.Reads as head-silent
+use Rattle.interlocking.proofs.State.reset_axles.Reads as reset-axles
+use Rattle.interlocking.proofs.parts.core_of.Reads as core-of
+use Rattle.interlocking.proofs.parts.whole.Reads as whole
+use Rattle.interlocking.proofs.parts.head_place.Reads as head-place
+use Rattle.interlocking.proofs.parts.heads_then.Reads as heads-then
 
 -- the cold start
 pub cold-determined : Determines cold.Post
@@ -70,3 +78,35 @@ unbar-block-determined κs a r q s = only
 -- 10: one second has passed
 pub second-passed-determined : Determines second-passed.Post
 second-passed-determined κs a r q s = only
+
+-- 11: axles in
+pub axles-in-determined : Determines axles-in.Post
+axles-in-determined κs a r q s = only
+
+-- 12: axles out
+pub axles-out-determined : Determines axles-out.Post
+axles-out-determined κs a r q s = only
+
+-- 13: a head is silent
+pub head-silent-determined : Determines head-silent.Post
+head-silent-determined κs a r q s = only
+
+-- 14: reset
+pub reset-axles-determined : Determines reset-axles.Post
+reset-axles-determined κs a r q s = only
+
+-- the nine tables of a state
+pub core-of-determined : Determines core-of.Post
+core-of-determined κs a r q s = only
+
+-- a state of its parts
+pub whole-determined : Determines whole.Post
+whole-determined κs a r q s = only
+
+-- the place of the heads that an event names
+pub head-place-determined : Determines head-place.Post
+head-place-determined κs a r q s = only
+
+-- what becomes of them
+pub heads-then-determined : Determines heads-then.Post
+heads-then-determined κs a r q s = only

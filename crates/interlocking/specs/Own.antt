@@ -2,19 +2,23 @@
 use Prim.Native.Nat.{ℕ, _*_, _/_, _%_}
 use mathlib.Core.List.{List}
 use lib.Dec.{eqb, ltb}
+use lib.ListN.{set}
 use Rattle.laws.specs.Choice.{if_then_else_}
 use Rattle.laws.specs.Tests.{_and_}
 use Rattle.laws.specs.Tables.{each, put}
 use Rattle.track.specs.declared.Line.{Line}
-use Rattle.track.specs.Codes.{readsNone, neutral, openBlock, atProceed, cancelling}
+use Rattle.track.specs.Codes.{readsNone, neutral, openBlock, atProceed, cancelling, resetAxles}
 use Rattle.track.specs.Sizes.{mostSections, mostPoints, mostLines, mostBlocks, mostPlaces, mostTrainRoutes, mostRoutes}
 use Rattle.track.specs.Objects.{line}
 use Rattle.tables.specs.declared.Gives.{Gives}
 use Rattle.tables.specs.Readings.{blockGiven, pointReading}
 use Rattle.tables.specs.Blocks.{place}
 use Rattle.passage.specs.Passage.{ownStage}
+use Rattle.axles.specs.declared.Axles.{Axles}
+use Rattle.axles.specs.Heads.{axlesAfter, axlesReading}
+use Rattle.axles.specs.HeadLog.{said}
 use Rattle.interlocking.specs.declared.State.{State}
-use Rattle.interlocking.specs.State.{withSections, withPoints, withRoutes, withLines, withBars}
+use Rattle.interlocking.specs.State.{headsAt, withSections, withPoints, withRoutes, withLines, withBars, withAxles}
 
 -- what an event gives block i of a line: nothing where the line has no such block
 unfoldable pub ownGiven : Gives → Line → ℕ → ℕ
@@ -62,3 +66,20 @@ ownManual ls n s l = withLines s (put mostLines (s .direction) l neutral) (each 
 -- 8, 9: a bar is set, 1, or cleared, 0
 unfoldable pub ownBar : State → ℕ → ℕ → ℕ → State
 ownBar s l i bar = withBars s (put mostPlaces (s .bar) (place l i) bar)
+
+-- ---- 11 to 14: axle counters (L1)
+
+-- the section that an event of kind k names: kinds 11 to 13 by twice the section plus 0 or 1 for the head, kind 14 by the section itself
+unfoldable pub headSection : ℕ → ℕ → ℕ
+headSection k a = if eqb k resetAxles then a else a / 2
+
+-- the heads of that section as they were, and what becomes of them; a count has 16 bits, and 3 refuses a larger number
+unfoldable pub headsOf : State → ℕ → ℕ → Axles
+headsOf s k a = headsAt (s .axles) (headSection k a)
+
+unfoldable pub headsBy : Axles → ℕ → ℕ → ℕ → Axles
+headsBy x k a b = axlesAfter x (said k (a % 2) (b % 65536))
+
+-- the heads of section g become y, and what they then say is the section's reading, as an ordinary one
+unfoldable pub ownHeads : List Line → ℕ → State → ℕ → Axles → State
+ownHeads ls n s g y = ownSection ls n (withAxles s (set (s .axles) g y)) g (axlesReading y)

@@ -1,4 +1,4 @@
--- The state of the box (sections 1 and 3 to 6): a code for each section, point, route, line and block.
+-- The state of the box (sections 1 and 3 to 6): a code for each section, point, route, line and block, and the heads of each section (L1).
 use Prim.Native.Nat.{ℕ}
 use mathlib.Core.Bool.{Bool}
 use mathlib.Core.List.{List, [], _∷_}
@@ -8,9 +8,11 @@ use Rattle.track.specs.Codes.{free, left, right, readsNone, neutral, bToA, open
 use Rattle.track.specs.Sizes.{mostSections, mostPoints, mostLines, mostPlaces, mostTrainRoutes, mostRoutes}
 use Rattle.track.specs.Lists.{between}
 use Rattle.tables.specs.Tables.{Tables}
+use Rattle.axles.specs.declared.Axles.{Axles}
+use Rattle.axles.specs.Heads.{noAxles}
 use Rattle.interlocking.specs.declared.State.{State}
 
--- the cold start: everything reads none, no order, no route, no line secured, every block held in stage 0, no bar
+-- the cold start: everything reads none, no order, no route, no line secured, every block held in stage 0, no bar, every head silent
 unfoldable pub cold : State
 cold = record {
   section = replicate mostSections readsNone;
@@ -22,7 +24,12 @@ cold = record {
   direction = replicate mostLines neutral;
   stage = replicate mostPlaces stage0;
   bar = replicate mostPlaces 0;
+  axles = replicate mostSections noAxles;
 }
+
+-- the heads of section g in a table of sections; those of the cold start where there is no such section
+unfoldable pub headsAt : List Axles → ℕ → Axles
+headsAt xs g = getD xs g noAxles
 
 -- every entry of a table of n lies in low .. high
 unfoldable pub codes : ℕ → ℕ → ℕ → List ℕ → Bool
@@ -39,7 +46,7 @@ routesAndLinesInRange s = every (
     ∷ codes mostPlaces 0 1 (s .bar)
     ∷ [])
 
--- no code is outside its range: readings, orders 0..2, and those of routes, lines and blocks
+-- no code is outside its range: readings, orders 0..2, and those of routes, lines and blocks; what heads hold has no range
 unfoldable pub inRange : State → Bool
 inRange s = every (codes mostSections free readsNone (s .section) ∷ codes mostPoints left readsNone (s .point) ∷ codes mostPoints 0 right (s .order) ∷ routesAndLinesInRange s ∷ [])
 
@@ -47,11 +54,11 @@ inRange s = every (codes mostSections free readsNone (s .section) ∷ codes most
 abbrev pub tablesOf : State → Tables
 tablesOf s = record { section = s .section; point = s .point; phase = s .phase; direction = s .direction; stage = s .stage; bar = s .bar }
 
--- ---- a state with tables made anew: sections and stages; points and orders; phases, steps and seconds; directions and stages; bars
+-- ---- a state with tables made anew: sections and stages; points and orders; phases, steps and seconds; directions and stages; bars; heads
 
--- a state from its nine tables
-abbrev stateOf : List ℕ → List ℕ → List ℕ → List ℕ → List ℕ → List ℕ → List ℕ → List ℕ → List ℕ → State
-stateOf section point order phase step second direction stage bar = record {
+-- a state from its ten tables
+abbrev stateOf : List ℕ → List ℕ → List ℕ → List ℕ → List ℕ → List ℕ → List ℕ → List ℕ → List ℕ → List Axles → State
+stateOf section point order phase step second direction stage bar axles = record {
   section = section;
   point = point;
   order = order;
@@ -61,19 +68,23 @@ stateOf section point order phase step second direction stage bar = record {
   direction = direction;
   stage = stage;
   bar = bar;
+  axles = axles;
 }
 
 unfoldable pub withSections : State → List ℕ → List ℕ → State
-withSections s section stage = stateOf section (s .point) (s .order) (s .phase) (s .steps) (s .seconds) (s .direction) stage (s .bar)
+withSections s section stage = stateOf section (s .point) (s .order) (s .phase) (s .steps) (s .seconds) (s .direction) stage (s .bar) (s .axles)
 
 unfoldable pub withPoints : State → List ℕ → List ℕ → State
-withPoints s point order = stateOf (s .section) point order (s .phase) (s .steps) (s .seconds) (s .direction) (s .stage) (s .bar)
+withPoints s point order = stateOf (s .section) point order (s .phase) (s .steps) (s .seconds) (s .direction) (s .stage) (s .bar) (s .axles)
 
 unfoldable pub withRoutes : State → List ℕ → List ℕ → List ℕ → State
-withRoutes s phase step second = stateOf (s .section) (s .point) (s .order) phase step second (s .direction) (s .stage) (s .bar)
+withRoutes s phase step second = stateOf (s .section) (s .point) (s .order) phase step second (s .direction) (s .stage) (s .bar) (s .axles)
 
 unfoldable pub withLines : State → List ℕ → List ℕ → State
-withLines s direction stage = stateOf (s .section) (s .point) (s .order) (s .phase) (s .steps) (s .seconds) direction stage (s .bar)
+withLines s direction stage = stateOf (s .section) (s .point) (s .order) (s .phase) (s .steps) (s .seconds) direction stage (s .bar) (s .axles)
 
 unfoldable pub withBars : State → List ℕ → State
-withBars s bar = stateOf (s .section) (s .point) (s .order) (s .phase) (s .steps) (s .seconds) (s .direction) (s .stage) bar
+withBars s bar = stateOf (s .section) (s .point) (s .order) (s .phase) (s .steps) (s .seconds) (s .direction) (s .stage) bar (s .axles)
+
+unfoldable pub withAxles : State → List Axles → State
+withAxles s axles = stateOf (s .section) (s .point) (s .order) (s .phase) (s .steps) (s .seconds) (s .direction) (s .stage) (s .bar) axles

@@ -1,7 +1,9 @@
 // The answer to an event: the event of its kind, and what follows every event (sections 4 to 6).
-use super::Answer;
-use super::State;
+use super::Core;
+use super::CoreAnswer;
 use super::event::event_tried;
+use super::parts::heads_then;
+use axles::Axles;
 use layout::Layout;
 use line_block::far_sections::far_stages;
 use line_block::line_release::directions_after;
@@ -21,7 +23,7 @@ ghost use Rattle.tables.specs.declared.Gives.{Gives};
 ghost use Rattle.layout.specs.declared.Layout.{Layout};
 ghost use Rattle.interlocking.specs.Settle.{settle};
 ghost use Rattle.interlocking.specs.Walk.{IsWalk};
-ghost use Rattle.interlocking.specs.Step.{stepWhere};
+ghost use Rattle.interlocking.specs.Parts.{coreOf, bare, coreStep};
 
 // What the walk over the routes makes: the signal at which each starts, the phases after the signals, and then phase, steps and seconds.
 pub struct Walked {
@@ -34,15 +36,15 @@ pub struct Walked {
 
 // What follows the walk over the routes, s being the state that the event itself made: far sections and line release, and the state put together.
 fn completed(
-    s: State,
-    before: State,
+    s: Core,
+    before: Core,
     w: Walked,
     ls: [Line; LINES],
     m: u8,
     rs: [Route; TRAIN_ROUTES],
     n: u8,
-) -> State
-    ensures { λ r. ⌜ ((L : Layout) (e : Gives) (blank : List ℕ) → IsWalk L s e blank w → L .lines ≤ mostLines → L .routes ≤ mostTrainRoutes → ls ≡ L .line → m ≡ L .lines → rs ≡ L .route → n ≡ L .routes → r ≡ settle L before s e) ⌝ }
+) -> Core
+    ensures { λ r. ⌜ ((L : Layout) (e : Gives) (blank : List ℕ) → IsWalk L (bare s) e blank w → L .lines ≤ mostLines → L .routes ≤ mostTrainRoutes → ls ≡ L .line → m ≡ L .lines → rs ≡ L .route → n ≡ L .routes → r ≡ coreOf (settle L (bare before) (bare s) e)) ⌝ }
 {
     let directions = s.direction;
     let stages = s.stage;
@@ -86,22 +88,32 @@ fn completed(
     next
 }
 
-// The answer to an event, where soundness was asked. The routes are walked once: signals fall and routes are let go in one
+// The answer to an event, where soundness was asked, x being the heads of the section that it names. The routes are walked once: signals fall and routes are let go in one
 // turn, since far sections move no route; so the table of routes is copied once.
-pub fn answered(l: Layout, before: State, sound: bool, kind: u32, first: u32, second: u32) -> Answer
+pub fn answered(
+    l: Layout,
+    before: Core,
+    x: Axles,
+    sound: bool,
+    kind: u32,
+    first: u32,
+    second: u32,
+) -> CoreAnswer
     requires { ⌜ (sound ≡ true → (l .lines ≤ mostLines) × (l .routes ≤ mostTrainRoutes)) ⌝ }
-    ensures { λ r. ⌜ r ≡ stepWhere sound l before kind first second ⌝ }
+    ensures { λ r. ⌜ r ≡ coreStep sound l before x kind first second ⌝ }
 {
     let ls = l.line;
     let rs = l.route;
     let n = l.routes;
     let m = l.lines;
-    let t = event_tried(before, l, sound, kind, first, second);
+    let y = heads_then(x, kind, first, second);
+    let t = event_tried(before, x, y, l, sound, kind, first, second);
     if t.number != 0 {
-        return Answer {
+        return CoreAnswer {
             number: t.number,
             detail: t.detail,
             next: before,
+            heads: x,
         };
     }
     let s = t.next;
@@ -139,9 +151,10 @@ pub fn answered(l: Layout, before: State, sound: bool, kind: u32, first: u32, se
         seconds,
     };
     let next = completed(s, before, w, ls, m, rs, n);
-    Answer {
+    CoreAnswer {
         number: 0,
         detail: 0,
         next,
+        heads: y,
     }
 }

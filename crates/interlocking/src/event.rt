@@ -1,22 +1,31 @@
 // The events of section 3's table, a method for each kind that holds what is refused of it and what it does; `specs/Rows` has the same table.
-use super::State;
+use super::Core;
 use super::Tried;
+use super::heads;
 use super::orders;
+use axles::Axles;
 use layout::Layout;
 use reasons::Refusal;
+use reasons::events::is_fitted;
 use reasons::events::is_outside;
 use reasons::events::no_such_block;
+use reasons::no_refusal;
+use reasons::refused_if;
 use refusals::numbers_refusal;
 use tables::Gives;
 use tables::reading_for;
 use track::codes::A_TO_B;
+use track::codes::AXLES_IN;
+use track::codes::AXLES_OUT;
 use track::codes::B_TO_A;
 use track::codes::BAR;
 use track::codes::CANCEL_ROUTE;
+use track::codes::HEAD_SILENT;
 use track::codes::LEFT;
 use track::codes::READ_POINT;
 use track::codes::READ_SECTION;
 use track::codes::RELEASE_LINE;
+use track::codes::RESET_AXLES;
 use track::codes::RIGHT;
 use track::codes::SECOND;
 use track::codes::SECURE_LINE;
@@ -28,8 +37,8 @@ ghost use mathlib.Core.Path.{_≡_};
 ghost use mathlib.Core.Bool.{true};
 ghost use Prim.Native.Nat.{_≤_};
 ghost use Rattle.track.specs.Sizes.{mostLines};
-ghost use Rattle.interlocking.specs.Rows.{nothing, sectionRow, pointRow, throwRow, setRow, cancelRow, secureRow, manualRow, barRow, secondRow, noRow, rowOf};
-ghost use Rattle.interlocking.specs.Step.{moves, stays, tried};
+ghost use Rattle.interlocking.specs.Rows.{nothing, sectionRow, pointRow, throwRow, setRow, cancelRow, secureRow, manualRow, barRow, secondRow, noRow, rowWith};
+ghost use Rattle.interlocking.specs.Parts.{bare, moves, stays, tried};
 
 // Nothing is given; a number past the last section is no section.
 fn gives_nothing() -> Gives
@@ -43,7 +52,7 @@ fn gives_nothing() -> Gives
 }
 
 // A refusal leaves the state as it was.
-fn refused(s: State, f: Refusal) -> Tried
+pub fn refused(s: Core, f: Refusal) -> Tried
     ensures { λ r. ⌜ r ≡ stays f s ⌝ }
 {
     let gives = gives_nothing();
@@ -56,7 +65,7 @@ fn refused(s: State, f: Refusal) -> Tried
 }
 
 // Not refused: the state that the event makes, and what it gives.
-fn done(t: State, gives: Gives) -> Tried
+pub fn done(t: Core, gives: Gives) -> Tried
     ensures { λ r. ⌜ r ≡ moves t gives ⌝ }
 {
     Tried {
@@ -67,14 +76,16 @@ fn done(t: State, gives: Gives) -> Tried
     }
 }
 
-impl State {
+impl Core {
     // 1: a section reading.
     fn section_reading(self, layout: Layout, sound: bool, section: u32, code: u32) -> Tried
         requires { ⌜ (sound ≡ true → layout .lines ≤ mostLines) ⌝ }
-        ensures { λ r. ⌜ r ≡ tried sound self section (sectionRow layout self section code) ⌝ }
+        ensures { λ r. ⌜ r ≡ tried sound self section (sectionRow layout (bare self) section code) ⌝ }
     {
         let missing = layout.sections as u32 <= section;
-        let numbers = numbers_refusal(sound, missing, section, false);
+        let fitted = layout.fitted;
+        let misfit = refused_if(is_fitted(fitted, section), 34, section);
+        let numbers = numbers_refusal(sound, missing, section, misfit, false);
         if numbers.number != 0 {
             return refused(self, numbers);
         }
@@ -94,10 +105,10 @@ impl State {
 
     // 2: a point reading.
     fn point_reading(self, layout: Layout, sound: bool, point: u32, code: u32) -> Tried
-        ensures { λ r. ⌜ r ≡ tried sound self point (pointRow layout self point code) ⌝ }
+        ensures { λ r. ⌜ r ≡ tried sound self point (pointRow layout (bare self) point code) ⌝ }
     {
         let missing = layout.points as u32 <= point;
-        let numbers = numbers_refusal(sound, missing, point, false);
+        let numbers = numbers_refusal(sound, missing, point, no_refusal(), false);
         if numbers.number != 0 {
             return refused(self, numbers);
         }
@@ -109,11 +120,11 @@ impl State {
 
     // 3: throw a point, to 1 left or 2 right.
     fn throw(self, layout: Layout, sound: bool, point: u32, position: u32) -> Tried
-        ensures { λ r. ⌜ r ≡ tried sound self point (throwRow layout self point position) ⌝ }
+        ensures { λ r. ⌜ r ≡ tried sound self point (throwRow layout (bare self) point position) ⌝ }
     {
         let missing = layout.points as u32 <= point;
         let wrong = is_outside(LEFT as u32, RIGHT as u32, position);
-        let numbers = numbers_refusal(sound, missing, point, wrong);
+        let numbers = numbers_refusal(sound, missing, point, no_refusal(), wrong);
         if numbers.number != 0 {
             return refused(self, numbers);
         }
@@ -129,10 +140,10 @@ impl State {
 
     // 4: set a route; the second number is unused.
     fn set(self, layout: Layout, sound: bool, route: u32, unused: u32) -> Tried
-        ensures { λ r. ⌜ r ≡ tried sound self route (setRow layout self route unused) ⌝ }
+        ensures { λ r. ⌜ r ≡ tried sound self route (setRow layout (bare self) route unused) ⌝ }
     {
         let missing = layout.routes as u32 <= route;
-        let numbers = numbers_refusal(sound, missing, route, unused != 0);
+        let numbers = numbers_refusal(sound, missing, route, no_refusal(), unused != 0);
         if numbers.number != 0 {
             return refused(self, numbers);
         }
@@ -157,10 +168,10 @@ impl State {
 
     // 5: cancel a route; the second number is unused.
     fn cancel(self, layout: Layout, sound: bool, route: u32, unused: u32) -> Tried
-        ensures { λ r. ⌜ r ≡ tried sound self route (cancelRow layout self route unused) ⌝ }
+        ensures { λ r. ⌜ r ≡ tried sound self route (cancelRow layout (bare self) route unused) ⌝ }
     {
         let missing = layout.routes as u32 <= route;
-        let numbers = numbers_refusal(sound, missing, route, unused != 0);
+        let numbers = numbers_refusal(sound, missing, route, no_refusal(), unused != 0);
         if numbers.number != 0 {
             return refused(self, numbers);
         }
@@ -176,11 +187,11 @@ impl State {
 
     // 6: secure a line, 1 from A to B or 2 from B to A.
     fn secure(self, layout: Layout, sound: bool, line: u32, direction: u32) -> Tried
-        ensures { λ r. ⌜ r ≡ tried sound self line (secureRow layout self line direction) ⌝ }
+        ensures { λ r. ⌜ r ≡ tried sound self line (secureRow layout (bare self) line direction) ⌝ }
     {
         let missing = layout.lines as u32 <= line;
         let wrong = is_outside(A_TO_B as u32, B_TO_A as u32, direction);
-        let numbers = numbers_refusal(sound, missing, line, wrong);
+        let numbers = numbers_refusal(sound, missing, line, no_refusal(), wrong);
         if numbers.number != 0 {
             return refused(self, numbers);
         }
@@ -204,11 +215,11 @@ impl State {
     // 7: release a line by hand, on ground 1 not left, 2 in siding, 3 returned.
     fn release_by_hand(self, layout: Layout, sound: bool, line: u32, ground: u32) -> Tried
         requires { ⌜ (sound ≡ true → layout .lines ≤ mostLines) ⌝ }
-        ensures { λ r. ⌜ r ≡ tried sound self line (manualRow layout self line ground) ⌝ }
+        ensures { λ r. ⌜ r ≡ tried sound self line (manualRow layout (bare self) line ground) ⌝ }
     {
         let missing = layout.lines as u32 <= line;
         let wrong = is_outside(1, 3, ground);
-        let numbers = numbers_refusal(sound, missing, line, wrong);
+        let numbers = numbers_refusal(sound, missing, line, no_refusal(), wrong);
         if numbers.number != 0 {
             return refused(self, numbers);
         }
@@ -225,11 +236,11 @@ impl State {
 
     // 8, 9: a bar is set, 1, or cleared, 0, on a block counted from 0.
     fn set_bar(self, layout: Layout, sound: bool, line: u32, block: u32, bar: u8) -> Tried
-        ensures { λ r. ⌜ r ≡ tried sound self line (barRow bar layout self line block) ⌝ }
+        ensures { λ r. ⌜ r ≡ tried sound self line (barRow bar layout (bare self) line block) ⌝ }
     {
         let missing = layout.lines as u32 <= line;
         let wrong = no_such_block(layout, line, block);
-        let numbers = numbers_refusal(sound, missing, line, wrong);
+        let numbers = numbers_refusal(sound, missing, line, no_refusal(), wrong);
         if numbers.number != 0 {
             return refused(self, numbers);
         }
@@ -240,10 +251,10 @@ impl State {
 
     // 10: one second has passed; both numbers are unused.
     fn second(self, sound: bool, first: u32, second: u32) -> Tried
-        ensures { λ r. ⌜ r ≡ tried sound self first (secondRow self first second) ⌝ }
+        ensures { λ r. ⌜ r ≡ tried sound self first (secondRow (bare self) first second) ⌝ }
     {
         let wrong = !((first == 0) & (second == 0));
-        let numbers = numbers_refusal(sound, false, first, wrong);
+        let numbers = numbers_refusal(sound, false, first, no_refusal(), wrong);
         if numbers.number != 0 {
             return refused(self, numbers);
         }
@@ -259,9 +270,9 @@ impl State {
 
     // A kind that has no row: 1.
     fn unknown(self, sound: bool, first: u32) -> Tried
-        ensures { λ r. ⌜ r ≡ tried sound self first (noRow self) ⌝ }
+        ensures { λ r. ⌜ r ≡ tried sound self first (noRow (bare self)) ⌝ }
     {
-        let numbers = numbers_refusal(sound, false, first, false);
+        let numbers = numbers_refusal(sound, false, first, no_refusal(), false);
         if numbers.number != 0 {
             return refused(self, numbers);
         }
@@ -270,9 +281,11 @@ impl State {
     }
 }
 
-// The event of a kind.
+// The event of a kind; where it is of a section's heads, x is what these were, and y what becomes of them.
 pub fn event_tried(
-    s: State,
+    s: Core,
+    x: Axles,
+    y: Axles,
     layout: Layout,
     sound: bool,
     kind: u32,
@@ -280,7 +293,7 @@ pub fn event_tried(
     second: u32,
 ) -> Tried
     requires { ⌜ (sound ≡ true → layout .lines ≤ mostLines) ⌝ }
-    ensures { λ r. ⌜ r ≡ tried sound s first (rowOf layout s kind first second) ⌝ }
+    ensures { λ r. ⌜ r ≡ tried sound s first (rowWith layout (bare s) x y kind first second) ⌝ }
 {
     match kind {
         READ_SECTION => s.section_reading(layout, sound, first, second),
@@ -293,6 +306,10 @@ pub fn event_tried(
         BAR => s.set_bar(layout, sound, first, second, 1),
         UNBAR => s.set_bar(layout, sound, first, second, 0),
         SECOND => s.second(sound, first, second),
+        AXLES_IN => heads::counted(s, y, layout, sound, first, second),
+        AXLES_OUT => heads::counted(s, y, layout, sound, first, second),
+        HEAD_SILENT => heads::silent(s, y, layout, sound, first, second),
+        RESET_AXLES => heads::reset(s, x, y, layout, sound, first, second),
         _ => s.unknown(sound, first),
     }
 }

@@ -1,21 +1,32 @@
 // The state of the box and what an event makes of it (sections 1, 3 to 6).
 mod answering;
 mod event;
+mod heads;
 mod orders;
+pub mod parts;
 mod range;
 mod stores;
 
 use answering::answered;
+use axles::Axles;
+use axles::no_axles;
 use layout::Layout;
+use parts::core_of;
+use parts::head_place;
+use parts::whole;
 use tables::Gives;
+use track::codes::AXLES_IN;
+use track::codes::AXLES_OUT;
 use track::codes::BAR;
 use track::codes::CANCEL_ROUTE;
+use track::codes::HEAD_SILENT;
 use track::codes::IDLE;
 use track::codes::NEUTRAL;
 use track::codes::NONE;
 use track::codes::READ_POINT;
 use track::codes::READ_SECTION;
 use track::codes::RELEASE_LINE;
+use track::codes::RESET_AXLES;
 use track::codes::SECOND;
 use track::codes::SECURE_LINE;
 use track::codes::SET_ROUTE;
@@ -24,6 +35,7 @@ use track::codes::THROW;
 use track::codes::UNBAR;
 use track::sizes::LINES;
 use track::sizes::MOST_LINES;
+use track::sizes::MOST_SECTIONS;
 use track::sizes::MOST_TRAIN_ROUTES;
 use track::sizes::PLACES;
 use track::sizes::POINTS;
@@ -31,16 +43,22 @@ use track::sizes::ROUTES;
 use track::sizes::SECTIONS;
 use track::sizes::TRAIN_ROUTES;
 ghost use mathlib.Core.Path.{_≡_};
+ghost use mathlib.Core.Bool.{true};
+ghost use Prim.Native.Nat.{_≤_};
 ghost use Rattle.laws.specs.Tests.{_and_};
+ghost use Rattle.track.specs.Codes.{axlesIn, axlesOut, headSilent, resetAxles};
+ghost use Rattle.track.specs.Sizes.{mostSections, mostLines, mostTrainRoutes};
 ghost use Rattle.layout.specs.Sound.{sound};
 ghost use Rattle.interlocking.specs.State.{cold, inRange};
-ghost use Rattle.interlocking.specs.Rows.{sectionRow, pointRow, throwRow, setRow, cancelRow, secureRow, manualRow, barRow, secondRow};
-ghost use Rattle.interlocking.specs.Step.{answeredBy, step, stepInRun};
+ghost use Rattle.interlocking.specs.Rows.{sectionRow, pointRow, throwRow, setRow, cancelRow, secureRow, manualRow, barRow, secondRow, countRow, silentRow, resetRow};
+ghost use Rattle.interlocking.specs.Own.{headsOf, headsBy};
+ghost use Rattle.interlocking.specs.Step.{answeredBy, stepWhere, step};
+ghost use Rattle.interlocking.specs.Parts.{coreStepInRun};
 
 // A code for each section, point, route, line and block, as `track::codes` has them: what sections and points read, the order of a point (0 none,
 // 1, 2), the phase, the steps done and the seconds counted of a route, the direction of a line, the stage and the bar of a block, at 8 * line + block.
-#[repr(C)]
-pub struct State {
+// These nine tables are a state but for its heads.
+pub struct Core {
     pub section: [u8; SECTIONS],
     pub point: [u8; POINTS],
     pub order: [u8; POINTS],
@@ -52,6 +70,21 @@ pub struct State {
     pub bar: [u8; PLACES],
 }
 
+// A state: the nine tables, and the heads of each section (request L1).
+#[repr(C)]
+pub struct State {
+    pub section: [u8; SECTIONS],
+    pub point: [u8; POINTS],
+    pub order: [u8; POINTS],
+    pub phase: [u8; ROUTES],
+    pub steps: [u8; TRAIN_ROUTES],
+    pub seconds: [u8; TRAIN_ROUTES],
+    pub direction: [u8; LINES],
+    pub stage: [u8; PLACES],
+    pub bar: [u8; PLACES],
+    pub axles: [Axles; SECTIONS],
+}
+
 // The answer to an event: 0 and 0 with the next state, or a refusal's number and detail with the state as it was.
 pub struct Answer {
     pub number: u8,
@@ -59,20 +92,30 @@ pub struct Answer {
     pub next: State,
 }
 
-// An event tried, before signals, far sections, routes and lines follow: 0 and 0 with the state that it makes itself and what it gives, or a
-// refusal's number and detail with the state as it was.
+// The same of the nine tables and of the heads of the section that the event names.
+pub struct CoreAnswer {
+    pub number: u8,
+    pub detail: u32,
+    pub next: Core,
+    pub heads: Axles,
+}
+
+// An event tried, before signals, far sections, routes and lines follow: 0 and 0 with the tables that it makes itself and what it gives, or a
+// refusal's number and detail with the tables as they were.
 pub struct Tried {
-    pub next: State,
+    pub next: Core,
     pub gives: Gives,
     pub number: u8,
     pub detail: u32,
 }
 
 impl State {
-    // The cold start: everything reads none, no order, no route, no line secured, every block held in stage 0, no bar.
+    // The cold start: everything reads none, no order, no route, no line secured, every block held in stage 0, no bar,
+    // every head silent.
     pub fn cold() -> State
         ensures { λ s. ⌜ s ≡ cold ⌝ }
     {
+        let heads = no_axles();
         State {
             section: [NONE; SECTIONS],
             point: [NONE; POINTS],
@@ -83,6 +126,7 @@ impl State {
             direction: [NEUTRAL; LINES],
             stage: [STAGE_0; PLACES],
             bar: [0; PLACES],
+            axles: [heads; SECTIONS],
         }
     }
 
@@ -90,7 +134,8 @@ impl State {
     pub fn in_range(self) -> bool
         ensures { λ r. ⌜ r ≡ inRange self ⌝ }
     {
-        range::in_range(self)
+        let c = core_of(self);
+        range::in_range(c)
     }
 
     // Layout and state are sound: what 18 asks.
@@ -102,22 +147,33 @@ impl State {
         plan & codes
     }
 
+    // The answer to an event, where soundness was asked: the step of its parts, put together.
+    fn answer(self, layout: Layout, asked: bool, kind: u32, first: u32, second: u32) -> Answer
+        requires { ⌜ (asked ≡ true → (layout .lines ≤ mostLines) × (layout .routes ≤ mostTrainRoutes) × (layout .sections ≤ mostSections)) ⌝ }
+        ensures { λ r. ⌜ r ≡ stepWhere asked layout self kind first second ⌝ }
+    {
+        let place = head_place(kind, first);
+        let mut axles = self.axles;
+        let heads = axles[place];
+        let c = core_of(self);
+        let r = answered(layout, c, heads, asked, kind, first, second);
+        let then = r.heads;
+        let core = r.next;
+        axles[place] = then;
+        let next = whole(core, axles);
+        Answer {
+            number: r.number,
+            detail: r.detail,
+            next,
+        }
+    }
+
     // One step: any kind of event with its two numbers.
     pub fn step(self, layout: Layout, kind: u32, first: u32, second: u32) -> Answer
         ensures { λ r. ⌜ r ≡ step layout self kind first second ⌝ }
     {
         let asked = self.is_sound(layout);
-        answered(layout, self, asked, kind, first, second)
-    }
-
-    // One step of a run that asked `Layout::sound` and `State::in_range` before its first event, where it is the same as `step`.
-    pub fn step_in_run(self, layout: Layout, kind: u32, first: u32, second: u32) -> Answer
-        ensures { λ r. ⌜ r ≡ stepInRun layout self kind first second ⌝ }
-    {
-        let lines = layout.lines <= MOST_LINES;
-        let routes = layout.routes <= MOST_TRAIN_ROUTES;
-        let asked = lines & (routes & (1 <= layout.sections));
-        answered(layout, self, asked, kind, first, second)
+        self.answer(layout, asked, kind, first, second)
     }
 
     // 1: a section reading.
@@ -125,7 +181,7 @@ impl State {
         ensures { λ r. ⌜ r ≡ answeredBy (sound layout and inRange self) layout self section (sectionRow layout self section code) ⌝ }
     {
         let asked = self.is_sound(layout);
-        answered(layout, self, asked, READ_SECTION, section, code)
+        self.answer(layout, asked, READ_SECTION, section, code)
     }
 
     // 2: a point reading.
@@ -133,7 +189,7 @@ impl State {
         ensures { λ r. ⌜ r ≡ answeredBy (sound layout and inRange self) layout self point (pointRow layout self point code) ⌝ }
     {
         let asked = self.is_sound(layout);
-        answered(layout, self, asked, READ_POINT, point, code)
+        self.answer(layout, asked, READ_POINT, point, code)
     }
 
     // 3: throw a point, to 1 left or 2 right.
@@ -141,7 +197,7 @@ impl State {
         ensures { λ r. ⌜ r ≡ answeredBy (sound layout and inRange self) layout self point (throwRow layout self point position) ⌝ }
     {
         let asked = self.is_sound(layout);
-        answered(layout, self, asked, THROW, point, position)
+        self.answer(layout, asked, THROW, point, position)
     }
 
     // 4: set a route.
@@ -149,7 +205,7 @@ impl State {
         ensures { λ r. ⌜ r ≡ answeredBy (sound layout and inRange self) layout self route (setRow layout self route 0) ⌝ }
     {
         let asked = self.is_sound(layout);
-        answered(layout, self, asked, SET_ROUTE, route, 0)
+        self.answer(layout, asked, SET_ROUTE, route, 0)
     }
 
     // 5: cancel a route.
@@ -157,7 +213,7 @@ impl State {
         ensures { λ r. ⌜ r ≡ answeredBy (sound layout and inRange self) layout self route (cancelRow layout self route 0) ⌝ }
     {
         let asked = self.is_sound(layout);
-        answered(layout, self, asked, CANCEL_ROUTE, route, 0)
+        self.answer(layout, asked, CANCEL_ROUTE, route, 0)
     }
 
     // 6: secure a line, 1 from A to B or 2 from B to A.
@@ -165,7 +221,7 @@ impl State {
         ensures { λ r. ⌜ r ≡ answeredBy (sound layout and inRange self) layout self line (secureRow layout self line direction) ⌝ }
     {
         let asked = self.is_sound(layout);
-        answered(layout, self, asked, SECURE_LINE, line, direction)
+        self.answer(layout, asked, SECURE_LINE, line, direction)
     }
 
     // 7: release a line by hand, on ground 1 not left, 2 in siding, 3 returned.
@@ -173,7 +229,7 @@ impl State {
         ensures { λ r. ⌜ r ≡ answeredBy (sound layout and inRange self) layout self line (manualRow layout self line ground) ⌝ }
     {
         let asked = self.is_sound(layout);
-        answered(layout, self, asked, RELEASE_LINE, line, ground)
+        self.answer(layout, asked, RELEASE_LINE, line, ground)
     }
 
     // 8: bar a block, counted from 0.
@@ -181,7 +237,7 @@ impl State {
         ensures { λ r. ⌜ r ≡ answeredBy (sound layout and inRange self) layout self line (barRow 1 layout self line block) ⌝ }
     {
         let asked = self.is_sound(layout);
-        answered(layout, self, asked, BAR, line, block)
+        self.answer(layout, asked, BAR, line, block)
     }
 
     // 9: unbar a block.
@@ -189,7 +245,7 @@ impl State {
         ensures { λ r. ⌜ r ≡ answeredBy (sound layout and inRange self) layout self line (barRow 0 layout self line block) ⌝ }
     {
         let asked = self.is_sound(layout);
-        answered(layout, self, asked, UNBAR, line, block)
+        self.answer(layout, asked, UNBAR, line, block)
     }
 
     // 10: one second has passed.
@@ -197,6 +253,58 @@ impl State {
         ensures { λ r. ⌜ r ≡ answeredBy (sound layout and inRange self) layout self 0 (secondRow self 0 0) ⌝ }
     {
         let asked = self.is_sound(layout);
-        answered(layout, self, asked, SECOND, 0, 0)
+        self.answer(layout, asked, SECOND, 0, 0)
+    }
+
+    // 11: a head, twice the section plus 0 or 1, has counted so many axles in.
+    pub fn axles_in(self, layout: Layout, head: u32, count: u32) -> Answer
+        ensures { λ r. ⌜ r ≡ answeredBy (sound layout and inRange self) layout self head (countRow layout self (headsBy (headsOf self axlesIn head) axlesIn head count) head count) ⌝ }
+    {
+        let asked = self.is_sound(layout);
+        self.answer(layout, asked, AXLES_IN, head, count)
+    }
+
+    // 12: so many axles out.
+    pub fn axles_out(self, layout: Layout, head: u32, count: u32) -> Answer
+        ensures { λ r. ⌜ r ≡ answeredBy (sound layout and inRange self) layout self head (countRow layout self (headsBy (headsOf self axlesOut head) axlesOut head count) head count) ⌝ }
+    {
+        let asked = self.is_sound(layout);
+        self.answer(layout, asked, AXLES_OUT, head, count)
+    }
+
+    // 13: a head is silent.
+    pub fn head_silent(self, layout: Layout, head: u32) -> Answer
+        ensures { λ r. ⌜ r ≡ answeredBy (sound layout and inRange self) layout self head (silentRow layout self (headsBy (headsOf self headSilent head) headSilent head 0) head 0) ⌝ }
+    {
+        let asked = self.is_sound(layout);
+        self.answer(layout, asked, HEAD_SILENT, head, 0)
+    }
+
+    // 14: a section's heads are reset.
+    pub fn reset_axles(self, layout: Layout, section: u32) -> Answer
+        ensures { λ r. ⌜ r ≡ answeredBy (sound layout and inRange self) layout self section (resetRow layout self (headsOf self resetAxles section) (headsBy (headsOf self resetAxles section) resetAxles section 0) section 0) ⌝ }
+    {
+        let asked = self.is_sound(layout);
+        self.answer(layout, asked, RESET_AXLES, section, 0)
+    }
+}
+
+impl Core {
+    // One step of a run that asked `Layout::sound` and `State::in_range` before its first event, where it is the same as `State::step` on the parts.
+    pub fn step_in_run(
+        self,
+        heads: Axles,
+        layout: Layout,
+        kind: u32,
+        first: u32,
+        second: u32,
+    ) -> CoreAnswer
+        ensures { λ r. ⌜ r ≡ coreStepInRun layout self heads kind first second ⌝ }
+    {
+        let lines = layout.lines <= MOST_LINES;
+        let routes = layout.routes <= MOST_TRAIN_ROUTES;
+        let sections = (1 <= layout.sections) & (layout.sections <= MOST_SECTIONS);
+        let asked = lines & (routes & (sections & (layout.lacking == 0)));
+        answered(layout, self, heads, asked, kind, first, second)
     }
 }

@@ -1,5 +1,5 @@
 // What an accepted event itself does to the state.
-use super::State;
+use super::Core;
 use super::stores::store;
 use tables::Gives;
 use tables::block_given;
@@ -21,6 +21,7 @@ ghost use mathlib.Core.Path.{_≡_};
 ghost use Prim.Native.Nat.{_≤_};
 ghost use Rattle.laws.specs.Tables.{each};
 ghost use Rattle.track.specs.Sizes.{mostLines, mostPlaces};
+ghost use Rattle.interlocking.specs.Parts.{coreOf, bare};
 ghost use Rattle.interlocking.specs.Own.{ownGiven, ownStageAt, ownSection, ownPoint, throwReading, ownThrow, ownSet, ownCancel, ownSecure, openAt, ownManual, ownBar};
 
 // What the event gives block i of a line, 0 for nothing; there is none past its last block.
@@ -55,9 +56,9 @@ fn stages_after(stages: [u8; PLACES], m: u8, ls: [Line; LINES], e: Gives) -> [u8
 }
 
 // 1: section g reads v, and the block that it belongs to has its own reading; there are n lines.
-pub fn read_section(s: State, n: u8, ls: [Line; LINES], g: u8, v: u8) -> State
+pub fn read_section(s: Core, n: u8, ls: [Line; LINES], g: u8, v: u8) -> Core
     requires { ⌜ n ≤ mostLines ⌝ }
-    ensures { λ t. ⌜ t ≡ ownSection ls n s g v ⌝ }
+    ensures { λ t. ⌜ t ≡ coreOf (ownSection ls n (bare s) g v) ⌝ }
 {
     let mut section = s.section;
     store(&mut section, SECTIONS, g as usize, v);
@@ -75,8 +76,8 @@ pub fn read_section(s: State, n: u8, ls: [Line; LINES], g: u8, v: u8) -> State
 }
 
 // 2: point p reads v.
-pub fn read_point(s: State, p: u8, v: u8) -> State
-    ensures { λ t. ⌜ t ≡ ownPoint s p v ⌝ }
+pub fn read_point(s: Core, p: u8, v: u8) -> Core
+    ensures { λ t. ⌜ t ≡ coreOf (ownPoint (bare s) p v) ⌝ }
 {
     let mut point = s.point;
     store(&mut point, POINTS, p as usize, v);
@@ -86,8 +87,8 @@ pub fn read_point(s: State, p: u8, v: u8) -> State
 }
 
 // 4: route r locks, and its signal shows proceed.
-pub fn lock(s: State, r: u8) -> State
-    ensures { λ t. ⌜ t ≡ ownSet s r ⌝ }
+pub fn lock(s: Core, r: u8) -> Core
+    ensures { λ t. ⌜ t ≡ coreOf (ownSet (bare s) r) ⌝ }
 {
     let mut phase = s.phase;
     let mut step = s.steps;
@@ -103,8 +104,8 @@ pub fn lock(s: State, r: u8) -> State
 }
 
 // 5: route r is cancelled, and its seconds begin.
-pub fn cancel(s: State, r: u8) -> State
-    ensures { λ t. ⌜ t ≡ ownCancel s r ⌝ }
+pub fn cancel(s: Core, r: u8) -> Core
+    ensures { λ t. ⌜ t ≡ coreOf (ownCancel (bare s) r) ⌝ }
 {
     let mut phase = s.phase;
     let mut second = s.seconds;
@@ -117,8 +118,8 @@ pub fn cancel(s: State, r: u8) -> State
 }
 
 // 6: line l is secured in direction w.
-pub fn secure(s: State, l: u8, w: u8) -> State
-    ensures { λ t. ⌜ t ≡ ownSecure s l w ⌝ }
+pub fn secure(s: Core, l: u8, w: u8) -> Core
+    ensures { λ t. ⌜ t ≡ coreOf (ownSecure (bare s) l w) ⌝ }
 {
     let mut direction = s.direction;
     store(&mut direction, LINES, l as usize, w);
@@ -154,9 +155,9 @@ fn opened_stages(stages: [u8; PLACES], m: u8, ls: [Line; LINES], l: u8) -> [u8; 
 }
 
 // 7: line l, of n lines, is released by hand: every block open, the line neutral.
-pub fn release_by_hand(s: State, n: u8, ls: [Line; LINES], l: u8) -> State
+pub fn release_by_hand(s: Core, n: u8, ls: [Line; LINES], l: u8) -> Core
     requires { ⌜ n ≤ mostLines ⌝ }
-    ensures { λ t. ⌜ t ≡ ownManual ls n s l ⌝ }
+    ensures { λ t. ⌜ t ≡ coreOf (ownManual ls n (bare s) l) ⌝ }
 {
     let mut direction = s.direction;
     store(&mut direction, LINES, l as usize, NEUTRAL);
@@ -169,8 +170,8 @@ pub fn release_by_hand(s: State, n: u8, ls: [Line; LINES], l: u8) -> State
 }
 
 // 8, 9: a bar is set, 1, or cleared, 0, on block i of line l.
-pub fn set_bar(s: State, l: u8, i: u32, on: u8) -> State
-    ensures { λ t. ⌜ t ≡ ownBar s l i on ⌝ }
+pub fn set_bar(s: Core, l: u8, i: u32, on: u8) -> Core
+    ensures { λ t. ⌜ t ≡ coreOf (ownBar (bare s) l i on) ⌝ }
 {
     let k = BLOCKS * (l as usize) + (i as usize);
     let mut bar = s.bar;
@@ -191,8 +192,8 @@ fn thrown_reading(points: &[u8; POINTS], p: u8, w: u8) -> u8
 }
 
 // 3: point p is thrown to w: the order is stored.
-pub fn throw(s: State, p: u8, w: u8) -> State
-    ensures { λ t. ⌜ t ≡ ownThrow s p w ⌝ }
+pub fn throw(s: Core, p: u8, w: u8) -> Core
+    ensures { λ t. ⌜ t ≡ coreOf (ownThrow (bare s) p w) ⌝ }
 {
     let x = thrown_reading(&s.point, p, w);
     let mut point = s.point;

@@ -1,5 +1,5 @@
 // Whether the codes of a state are in their ranges.
-use super::State;
+use super::Core;
 use track::codes::B_TO_A;
 use track::codes::CANCELLING;
 use track::codes::FREE;
@@ -18,6 +18,7 @@ use track::sizes::SECTIONS;
 use track::sizes::TRAIN_ROUTES;
 ghost use mathlib.Core.Path.{_≡_};
 ghost use lib.ListN.{length};
+ghost use Rattle.interlocking.specs.Parts.{bare};
 ghost use Rattle.interlocking.specs.State.{codes, inRange, routesAndLinesInRange};
 
 // Each of the n entries of a table lies in low .. high.
@@ -36,8 +37,8 @@ fn all_between(xs: &[u8], n: usize, low: u8, high: u8) -> bool
 }
 
 // The codes of routes, lines and blocks are in their ranges.
-fn routes_and_lines_in_range(s: State) -> bool
-    ensures { λ x. ⌜ x ≡ routesAndLinesInRange s ⌝ }
+fn routes_and_lines_in_range(s: Core) -> bool
+    ensures { λ x. ⌜ x ≡ routesAndLinesInRange (bare s) ⌝ }
 {
     let phase = all_between(&s.phase, ROUTES, IDLE, CANCELLING);
     let step = all_between(&s.steps, TRAIN_ROUTES, 0, 3);
@@ -49,8 +50,8 @@ fn routes_and_lines_in_range(s: State) -> bool
 }
 
 // No code of a state is outside its range.
-pub fn in_range(s: State) -> bool
-    ensures { λ x. ⌜ x ≡ inRange s ⌝ }
+pub fn in_range(s: Core) -> bool
+    ensures { λ x. ⌜ x ≡ inRange (bare s) ⌝ }
 {
     let section = all_between(&s.section, SECTIONS, FREE, NONE);
     let point = all_between(&s.point, POINTS, LEFT, NONE);

@@ -1,13 +1,13 @@
 -- The cases of a chain of reasons, of the reasons that go by a test, and of those that go by an event's kind.
 use Prim.Native.Nat.{ℕ, _<_, _≤_}
 use mathlib.Core.Path.{_≡_, refl, sym, ap, fun-ext, _∙_}
-use mathlib.Core.Bool.{true}
+use mathlib.Core.Bool.{true, false}
 use mathlib.Core.List.{List, [], _∷_}
 use native.Mathlib.Omega.{arith}
 use borrow.Author.Needs.{needs}
 use borrow.Author.Tests.{le-leb}
 use lib.Dec.{eqb, ltb, leb}
-use lib.ListN.{length}
+use lib.ListN.{length, getD, List·getD-eq-default}
 use Rattle.laws.specs.Tests.{_and_, lowest}
 use Rattle.laws.proofs.Arrays.{read-past, lent-at}
 use Rattle.laws.proofs.Choice.{if-eq, if-ne, if-lt, if-ge}
@@ -109,3 +109,7 @@ module _ (ls : List Line) (table : List ℕ) (l g : ℕ) (r : Refusal) (b : Line
 pub no-block : (L : Layout) (l i : ℕ) → length (L .line) ≡ mostLines → mostLines ≤ l → true ≡ leb (lineIn L l .blocks) i
 unfolding lineIn line noLine
 no-block L l i e h = sym (le-leb 0 i (omega arith)) ∙ ap (λ (b : Line). leb (b .blocks) i) (read-past (L .line) l mostLines noLine noLine e h refl)
+
+-- past the table of fitted sections there is none
+pub none-fitted-past : (fitted : List ℕ) (g : ℕ) → length fitted ≡ mostSections → mostSections ≤ g → false ≡ eqb (getD fitted g 0) 1
+none-fitted-past fitted g e h = ap (λ n. eqb n 1) (sym (List·getD-eq-default fitted 0 (omega arith)))

@@ -23,6 +23,7 @@ use Rattle.reasons.proofs.entered_barred.Reads as entered-barred
 use Rattle.reasons.proofs.entered_held.Reads as entered-held
 use Rattle.reasons.proofs.events.is_outside.Reads as is-outside
 use Rattle.reasons.proofs.events.no_such_block.Reads as no-such-block
+use Rattle.reasons.proofs.events.is_fitted.Reads as is-fitted
 use Rattle.reasons.proofs.searches.section_of.Reads as section-of
 use Rattle.reasons.proofs.searches.lowest_lacking.Reads as lowest-lacking
 use Rattle.reasons.proofs.searches.lowest_misplaced.Reads as lowest-misplaced
@@ -123,6 +124,10 @@ is-outside-determined κs a r q s = only
 -- a block that a line has not
 pub no-such-block-determined : Determines no-such-block.Post
 no-such-block-determined κs a r q s = only
+
+-- whether a section has heads
+pub is-fitted-determined : Determines is-fitted.Post
+is-fitted-determined κs a r q s = only
 
 -- The section that a point stands in
 pub section-of-determined : Determines section-of.Post

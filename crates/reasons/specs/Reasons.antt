@@ -1,5 +1,6 @@
 -- What is refused, one reason at a time (section 3). The detail is always the lowest number that applies.
 use Prim.Native.Nat.{ℕ}
+use mathlib.Core.Bool.{not}
 use mathlib.Core.List.{List}
 use lib.Dec.{eqb, ltb}
 use Rattle.laws.specs.Choice.{if_then_else_}
@@ -13,9 +14,9 @@ use Rattle.tables.specs.Blocks.{isOpen, unbarred}
 use Rattle.tables.specs.Locks.{locked, lockedExit}
 use Rattle.reasons.specs.Searches.{lacking, misplaced, routeLocks, lineLocks, failing}
 use Rattle.layout.specs.declared.Layout.{Layout}
-use Rattle.layout.specs.Layout.{conflict}
+use Rattle.layout.specs.Layout.{isFitted, conflict}
 use Rattle.reasons.specs.declared.Refusal.{Refusal}
-use Rattle.reasons.specs.Refusal.{refused, noRefusal, found}
+use Rattle.reasons.specs.Refusal.{refused, noRefusal, refusedIf, found}
 
 -- 7, 8: a section asked for is occupied, reads none; the lowest-numbered of those asked for that doesn't read free decides which
 unfoldable pub notFree : List ℕ → ℕ → Refusal
@@ -49,3 +50,10 @@ blockBarred ls bars l = found 11 mostSections (failing (unbarred bars l) (line l
 
 unfoldable pub blockHeld : List Line → List ℕ → ℕ → Refusal
 blockHeld ls stages l = found 10 mostSections (failing (isOpen stages l) (line ls l))
+
+-- 30: section g has no heads; 34: it has, and so takes no reading of kind 1 (L1)
+unfoldable pub noHeads : Layout → ℕ → Refusal
+noHeads L g = refusedIf (not (isFitted L g)) 30 g
+
+unfoldable pub hasHeads : Layout → ℕ → Refusal
+hasHeads L g = refusedIf (isFitted L g) 34 g

@@ -44,7 +44,7 @@ when-granted false n d h e = refl
 
 -- ---- an event's numbers
 
-module _ (isSound missing : Bool) (a : ℕ) (wrong : Bool) (e : numbersRefusal isSound missing a wrong .number ≡ 0) where
+module _ (isSound missing : Bool) (a : ℕ) (misfit : Refusal) (wrong : Bool) (e : numbersRefusal isSound missing a misfit wrong .number ≡ 0) where
   -- layout and state are sound
   pub granted-sound : isSound ≡ true
   unfolding numbersRefusal
@@ -55,7 +55,12 @@ module _ (isSound missing : Bool) (a : ℕ) (wrong : Bool) (e : numbersRefusal i
   unfolding numbersRefusal
   granted-there = when-granted _ 2 a (omega arith) (granted-at _ e 1)
 
+  -- its section has heads where the event is of heads, and none where it is not
+  pub granted-fit : misfit .number ≡ 0
+  unfolding numbersRefusal
+  granted-fit = granted-at _ e 2
+
   -- the second number is not wrong
   pub granted-second : wrong ≡ false
   unfolding numbersRefusal
-  granted-second = when-granted _ 3 0 (omega arith) (granted-at _ e 2)
+  granted-second = when-granted _ 3 0 (omega arith) (granted-at _ e 3)

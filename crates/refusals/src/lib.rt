@@ -22,8 +22,14 @@ ghost use Rattle.refusals.specs.Events.{numbersRefusal};
 ghost use Rattle.refusals.specs.Orders.{throwRefusal, exitRefusal, routeRefusal, setRefusal, cancelRefusal, secureRefusal, manualRefusal};
 
 // What is refused of any event by its numbers.
-pub fn numbers_refusal(sound: bool, missing: bool, first: u32, wrong: bool) -> Refusal
-    ensures { λ r. ⌜ r ≡ numbersRefusal sound missing first wrong ⌝ }
+pub fn numbers_refusal(
+    sound: bool,
+    missing: bool,
+    first: u32,
+    misfit: Refusal,
+    wrong: bool,
+) -> Refusal
+    ensures { λ r. ⌜ r ≡ numbersRefusal sound missing first misfit wrong ⌝ }
 {
     let unsound = refused_if(!sound, 18, 0);
     if unsound.number != 0 {
@@ -32,6 +38,9 @@ pub fn numbers_refusal(sound: bool, missing: bool, first: u32, wrong: bool) -> R
     let no_object = refused_if(missing, 2, first);
     if no_object.number != 0 {
         return no_object;
+    }
+    if misfit.number != 0 {
+        return misfit;
     }
     refused_if(wrong, 3, 0)
 }

@@ -9,36 +9,36 @@ use Rattle.track.specs.declared.Route.{Route}
 use Rattle.track.specs.Sizes.{mostLines, mostTrainRoutes, mostRoutes}
 use Rattle.track.specs.Objects.{route}
 use Rattle.interlocking.specs.Settle.{fallenAt, signals, routeAfter, unlessIdle}
-use Rattle.interlocking.specs.Step.{stepWhere}
+use Rattle.interlocking.specs.Parts.{bare, coreStep}
 use Rattle.interlocking.proofs.Settled.{route-in, fell, idle-stays, signal-falls, phase-takes, step-takes, second-takes, idle-kept, falls-on}
-use Rattle.interlocking.proofs.Trying.{answer-refused, answer-done, done-sound}
+use Rattle.interlocking.proofs.Trying.{heads-given, answer-refused, answer-done, done-sound}
 use Rattle.interlocking.proofs.answering.answered.Statement.{statement}
 use Rattle.interlocking.proofs.answering.answered.Tie as tie
 
 -- the five tables, made for the routes before r
 abbrev Inv-loop : tie.InvT-loop
-Inv-loop before sound kind first second ls rs n m s e entry₀ fallen₀ phase₀ steps₀ seconds₀ r₀ entry fallen phase steps seconds r =
+Inv-loop before sound kind first second ls rs n m y s e entry₀ fallen₀ phase₀ steps₀ seconds₀ r₀ entry fallen phase steps seconds r =
     (m ≤ mostLines) × (n ≤ mostTrainRoutes) × (length rs ≡ mostTrainRoutes)
     × Redone mostTrainRoutes n (λ i was. route rs i .entry) entry₀ entry r
-    × Redone mostRoutes n (fallenAt ls rs s) (s .phase) fallen r
-    × Redone mostRoutes n (λ i was. unlessIdle (fell ls rs n s) i was (routeAfter ls rs (fell ls rs n s) e i .phase)) (s .phase) phase r
-    × Redone mostTrainRoutes n (λ i was. unlessIdle (fell ls rs n s) i was (routeAfter ls rs (fell ls rs n s) e i .steps)) (s .steps) steps r
-    × Redone mostTrainRoutes n (λ i was. unlessIdle (fell ls rs n s) i was (routeAfter ls rs (fell ls rs n s) e i .seconds)) (s .seconds) seconds r
+    × Redone mostRoutes n (fallenAt ls rs (bare s)) (s .phase) fallen r
+    × Redone mostRoutes n (λ i was. unlessIdle (fell ls rs n (bare s)) i was (routeAfter ls rs (fell ls rs n (bare s)) e i .phase)) (s .phase) phase r
+    × Redone mostTrainRoutes n (λ i was. unlessIdle (fell ls rs n (bare s)) i was (routeAfter ls rs (fell ls rs n (bare s)) e i .steps)) (s .steps) steps r
+    × Redone mostTrainRoutes n (λ i was. unlessIdle (fell ls rs n (bare s)) i was (routeAfter ls rs (fell ls rs n (bare s)) e i .seconds)) (s .seconds) seconds r
 
 -- the routes left
 abbrev μ-loop : tie.MeasureT-loop
-μ-loop before sound kind first second ls rs n m s e entry₀ fallen₀ phase₀ steps₀ seconds₀ r₀ entry fallen phase steps seconds r = n - r
+μ-loop before sound kind first second ls rs n m y s e entry₀ fallen₀ phase₀ steps₀ seconds₀ r₀ entry fallen phase steps seconds r = n - r
 
 -- the event is refused
 refused : tie.Need-returns Inv-loop μ-loop
-unfolding stepWhere
-refused c = answer-refused _ _ _ _ _ _ (c .before .before .event-tried .ensures) _ (c .if1 .taken) refl
+unfolding coreStep
+refused c = answer-refused _ _ _ _ _ _ (heads-given _ _ _ _ _ _ _ _ _ _ (c .before .before .event-tried .ensures) (c .before .before .before .heads-then .ensures)) _ (c .if1 .taken) refl
 
 -- before the first turn
 begins : tie.Need-loop-holds Inv-loop μ-loop
 begins c =
     let event = c .before .before .before .before .before .before .before .before in
-    let start = event .before .before .before in
+    let start = event .before .before .before .before in
     let few = start .pre (done-sound _ _ _ _ _ (event .event-tried .ensures) (c .before .before .before .before .before .before .if1 .left)) in
     let tables = event .event-tried .ok .1 .1 .0 .1 .1 .1 .1 .1 in (
       few .0,
@@ -87,19 +87,19 @@ locked c =
 
 -- the tables are made: what follows the walk completes them
 answered : tie.Need-returns-2 Inv-loop μ-loop
-unfolding stepWhere fell signals
+unfolding coreStep fell signals
 answered c =
     let i = c .before .before .loop .inv in
     let all = c .before .loop-test .left in
     let done = c .before .before .before .before .before .before .before .before .before in
-    answer-done _ _ _ _ _ _ (done .before .before .event-tried .ensures) _ (done .if1 .left)
+    answer-done _ _ _ _ _ _ (heads-given _ _ _ _ _ _ _ _ _ _ (done .before .before .event-tried .ensures) (done .before .before .before .heads-then .ensures)) _ _ (done .if1 .left)
     (c .completed .ensures _ _ _ (record {
       entry = redo-end _ _ _ _ _ _ (i .3) all;
       fallen = redo-end _ _ _ _ _ _ (i .4) all;
       phase = redo-end _ _ _ _ _ _ (i .5) all;
       steps = redo-end _ _ _ _ _ _ (i .6) all;
       seconds = redo-end _ _ _ _ _ _ (i .7) all;
-    }) (i .0) (i .1) refl refl refl refl)
+    }) (i .0) (i .1) refl refl refl refl) (done .before .before .before .heads-then .ensures)
 
 pub answered-spec : {M : Type 1} → statement M
 answered-spec =
@@ -107,7 +107,8 @@ answered-spec =
     (tie.spec
     Inv-loop
     μ-loop
-    (λ c κs. λ z. c .before .before .pre z .0)
+    (λ c κs. search needs)
+    (λ c κs. λ z. c .before .before .before .pre z .0)
     refused
     begins
     (λ c. search needs)

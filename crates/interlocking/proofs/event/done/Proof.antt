@@ -1,6 +1,6 @@
 -- A record of the two.
 use mathlib.Core.Path.{refl}
-use Rattle.interlocking.specs.Step.{moves}
+use Rattle.interlocking.specs.Parts.{moves}
 use Rattle.interlocking.proofs.event.done.Statement.{statement}
 use Rattle.interlocking.proofs.event.done.Tie as tie
 

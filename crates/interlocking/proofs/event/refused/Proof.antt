@@ -1,6 +1,6 @@
 -- A record of the refusal, with nothing given.
 use borrow.Author.Needs.{needs}
-use Rattle.interlocking.specs.Step.{stays}
+use Rattle.interlocking.specs.Parts.{stays}
 use Rattle.interlocking.proofs.event.refused.Statement.{statement}
 use Rattle.interlocking.proofs.event.refused.Tie as tie
 
