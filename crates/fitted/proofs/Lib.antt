@@ -1,0 +1,6 @@
+pub mod FromPlace
+pub mod Read
+pub mod Telling
+pub mod Whole
+pub mod Equipped
+pub mod Unique
