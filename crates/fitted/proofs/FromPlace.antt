@@ -2,6 +2,7 @@
 use Prim.Native.Nat.{ℕ, zero, suc, _+_, _<_, _≤_}
 use mathlib.Core.Path.{_≡_, refl, sym, ap, _∙_}
 use mathlib.Core.List.{List}
+use native.Mathlib.Nat.{zero-add, suc-add}
 use native.Mathlib.Omega.{arith}
 use borrow.Author.Tests.{le-ltb}
 use lib.Dec.{ltb}
@@ -27,6 +28,11 @@ module _ (file : List ℕ) where
   unfolding numbersFrom
   one-more zero at h = passed-over (ltb at (length file)) _ _ (le-ltb at (length file) (omega arith))
   one-more (suc m) at h = ap (λ r. if ltb at (length file) then r else none 0 at) (next-more m at (one-more m) (numberAt file at) refl h)
+
+  -- so any more numbers may be allowed
+  pub more-same : (k m at : ℕ) → length file ≤ m + at → numbersFrom (k + m) file at ≡ numbersFrom m file at
+  more-same zero m at h = ap (λ n. numbersFrom n file at) (zero-add m)
+  more-same (suc k) m at h = ap (λ n. numbersFrom n file at) (suc-add k m) ∙ one-more (k + m) at (omega arith) ∙ more-same k m at h
 
   module _ (at : ℕ) where
     -- at the file's end or past it there are none

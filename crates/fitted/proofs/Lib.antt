@@ -3,4 +3,5 @@ pub mod Read
 pub mod Telling
 pub mod Whole
 pub mod Equipped
+pub mod Cut
 pub mod Unique

@@ -23,7 +23,7 @@ use Rattle.fitted.specs.Pieces.{stopOf, ended, pieceOf, answer}
 use Rattle.fitted.proofs.Telling.{told-is}
 
 -- what ends numbers is the end of the bytes, 21 or 22
-abbrev pub Known : Numbers → Type 0
+abbrev Known : Numbers → Type 0
 Known r = (r .fault ≡ 0) ⊎ ((r .fault ≡ 21) ⊎ (r .fault ≡ 22))
 
 module _ (file : List ℕ) where
@@ -41,12 +41,12 @@ module _ (file : List ℕ) where
       if-both Known (ltb at (length file)) (λ t. next-known (numbersFrom m file) (numbers-known m) at (numberAt file at) refl) (λ t. inl refl)
 
   -- from a place on
-  pub from-known : (at : ℕ) → Known (fromPlace file at)
+  from-known : (at : ℕ) → Known (fromPlace file at)
   unfolding fromPlace
   from-known at = numbers-known (suc (length file)) at
 
 -- what is told of the numbers of a file, read as one piece
-abbrev pub readAs : Layout → Numbers → Piece
+abbrev readAs : Layout → Numbers → Piece
 readAs L r = ended true (tellAll (L .sections) noneTold (r .list)) (r .place) (r .fault)
 
 -- the last piece ends by 3 at the file's end
@@ -79,7 +79,7 @@ answer-bad L r e =
     ∙ if-ne (r .fault) 0 _ _ _ (far 0 (omega arith)) refl
 
 -- one or the other
-pub answer-is : (L : Layout) (r : Numbers) → Known r → answer L (readAs L r) ≡ fitBy L r
+answer-is : (L : Layout) (r : Numbers) → Known r → answer L (readAs L r) ≡ fitBy L r
 answer-is L r = ⊎-elim (answer-whole L r) (answer-bad L r)
 
 -- so is the answer to a file that is read as one piece
