@@ -44,6 +44,8 @@ pub struct Layout {
     pub routes: u8,
     pub route: [Route; 48],
     pub conflict: [u8; 2304],
+    pub fitted: [u8; 64],
+    pub lacking: u8,
 }
 
 #[repr(C)]

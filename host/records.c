@@ -171,6 +171,8 @@ static void print_layout(void) {
     FIELD(layout, routes);
     FIELD(layout, route);
     FIELD(layout, conflict);
+    FIELD(layout, fitted);
+    FIELD(layout, lacking);
 }
 
 static void print_state(void) {
@@ -193,7 +195,7 @@ int main(void) {
     test_route(47);
     test_lines();
     EXPECT(sizeof(struct hiruketawha_line) == 30 && sizeof(struct hiruketawha_route) == 40);
-    EXPECT(sizeof(struct hiruketawha_layout) == 4501 && sizeof(struct hiruketawha_state) == 408);
+    EXPECT(sizeof(struct hiruketawha_layout) == 4566 && sizeof(struct hiruketawha_state) == 408);
     print_line();
     print_route();
     print_layout();

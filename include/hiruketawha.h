@@ -109,7 +109,7 @@ struct hiruketawha_route {
 };
 
 /* A layout (section 2). `pointsection` has each point's own section; `conflict` has 1 at 48 * i + j where the routes i and j conflict, and
- * else 0. A record of zeros is the layout with no objects. 4,501 bytes. */
+ * else 0; `fitted` has 1 where a section has heads, and else 0. A record of zeros is the layout with no objects. 4,566 bytes. */
 struct hiruketawha_layout {
     uint8_t sections; /* 1 to 64 */
     uint8_t points;   /* 0 to 32 */
@@ -120,6 +120,8 @@ struct hiruketawha_layout {
     uint8_t routes; /* 0 to 48 */
     struct hiruketawha_route route[48];
     uint8_t conflict[2304];
+    uint8_t fitted[64];
+    uint8_t lacking; /* 1 where a section was told as fitted that there is not, else 0 */
 };
 
 /* A state: a code for each section, point, route, line and block. Read it by the panel; a code outside its range gets every event 18.
