@@ -6,6 +6,8 @@ pub mod Step
 pub mod Run
 pub mod Entries
 pub mod Passed
+pub mod Tells
 pub mod Within
+pub mod Heads
 pub mod Granted
 pub mod FarCases

@@ -1,10 +1,11 @@
 -- What an accepted event itself does keeps the state in range.
-use Prim.Native.Nat.{ℕ}
+use Prim.Native.Nat.{ℕ, _/_}
 use mathlib.Core.Path.{_≡_}
 use mathlib.Core.Bool.{false, not}
 use mathlib.Core.List.{List}
 use native.Mathlib.Omega.{arith}
 use borrow.Author.Tests.{not-false}
+use lib.IntN.{ℤ, pos, negsuc}
 use Rattle.laws.proofs.Choice.{if-both}
 use Rattle.track.specs.declared.Line.{Line}
 use Rattle.track.specs.Sizes.{mostSections, mostPoints, mostRoutes, mostTrainRoutes, mostLines, mostPlaces}
@@ -12,14 +13,16 @@ use Rattle.track.specs.Lists.{between}
 use Rattle.tables.specs.declared.Gives.{Gives}
 use Rattle.tables.specs.Readings.{recorded}
 use Rattle.passage.specs.Passage.{ownStage}
+use Rattle.axles.specs.declared.Axles.{Axles}
+use Rattle.axles.specs.Heads.{readingOf, axlesReading}
 use Rattle.layout_facts.proofs.Lists.{between-means}
 use Rattle.layout.specs.declared.Layout.{Layout}
 use Rattle.interlocking.specs.declared.State.{State}
-use Rattle.interlocking.specs.Own.{ownStageAt, ownSection, ownPoint, throwReading, ownThrow, ownSet, ownCancel, ownSecure, openAt, ownManual, ownBar}
-use Rattle.interlocking.specs.Rows.{Row, sectionRow, pointRow, throwRow, setRow, cancelRow, secureRow, manualRow, barRow, secondRow, noRow}
-use Rattle.interlocking.proofs.Rows.{OfKind, section-row, point-row, throw-row, set-row, cancel-row, secure-row, manual-row, bar-row, unbar-row, second-row, no-row}
+use Rattle.interlocking.specs.Own.{ownStageAt, ownSection, ownPoint, throwReading, ownThrow, ownSet, ownCancel, ownSecure, openAt, ownManual, ownBar, ownHeads}
+use Rattle.interlocking.specs.Rows.{Row, sectionRow, pointRow, throwRow, setRow, cancelRow, secureRow, manualRow, barRow, secondRow, headRow, countRow, silentRow, resetRow, noRow}
+use Rattle.interlocking.proofs.Rows.{OfKind, section-row, point-row, throw-row, set-row, cancel-row, secure-row, manual-row, bar-row, unbar-row, second-row, count-row, silent-row, reset-row, no-row}
 use Rattle.step_facts.specs.Range.{In, InRange}
-use Rattle.step_facts.proofs.Range.{each-within, put-within, sections-range, points-range, routes-range, lines-range, bars-range}
+use Rattle.step_facts.proofs.Range.{each-within, put-within, sections-range, points-range, routes-range, lines-range, bars-range, heads-range}
 
 -- ---- one code
 
@@ -93,13 +96,29 @@ pub recorded-in : (code : ℕ) → In 1 3 (recorded code)
 unfolding recorded
 recorded-in code = if-both (In 1 3) _ (λ t. omega arith) (λ t. if-both (In 1 3) _ (λ u. omega arith) (λ u. omega arith))
 
+-- what a section's number says is free, occupied or none
+number-says-in : (z : ℤ) → In 1 3 (readingOf z)
+unfolding readingOf
+number-says-in (pos n) = if-both (In 1 3) _ (λ t. omega arith) (λ t. if-both (In 1 3) _ (λ u. omega arith) (λ u. omega arith))
+number-says-in (negsuc n) = omega arith
+
+-- and so is what its heads say (L1)
+pub heads-say-in : (x : Axles) → In 1 3 (axlesReading x)
+unfolding axlesReading
+heads-say-in x = if-both (In 1 3) _ (λ t. number-says-in _) (λ t. omega arith)
+
+-- 11 to 14: the heads of a section, and its reading by what they say
+counted-range : (L : Layout) {s : State} (R : InRange s) (g : ℕ) (y : Axles) → InRange (ownHeads (L .line) (L .lines) s g y)
+unfolding ownHeads
+counted-range L R g y = section-range L (heads-range R _) g _ (heads-say-in y)
+
 -- a position or a direction that is not wrong is 1 or 2
 position-in : (b : ℕ) → not (between 1 2 b) ≡ false → In 1 2 b
 position-in b w = between-means 1 2 b .0 (not-false _ w)
 
 -- an event whose second number is not wrong, row by row
 pub own-range : (L : Layout) {s : State} (R : InRange s) (k a b : ℕ) {row : Row} → OfKind L s a b k row → row .wrong ≡ false → InRange (row .does)
-unfolding sectionRow pointRow throwRow setRow cancelRow secureRow manualRow barRow secondRow noRow
+unfolding sectionRow pointRow throwRow setRow cancelRow secureRow manualRow barRow secondRow headRow countRow silentRow resetRow noRow
 own-range L R k a b (section-row q) w = section-range L R a _ (recorded-in b)
 own-range L R k a b (point-row q) w = point-range L R a _ (recorded-in b)
 own-range L R k a b (throw-row q) w = throw-range L R a b (position-in b w)
@@ -110,4 +129,7 @@ own-range L R k a b (manual-row q) w = manual-range L R a b
 own-range L R k a b (bar-row q) w = bar-range L R a b 1 (omega arith)
 own-range L R k a b (unbar-row q) w = bar-range L R a b 0 (omega arith)
 own-range L R k a b (second-row q) w = R
+own-range L R k a b (count-row q) w = counted-range L R (a / 2) _
+own-range L R k a b (silent-row q) w = counted-range L R (a / 2) _
+own-range L R k a b (reset-row q) w = counted-range L R a _
 own-range L R k a b (no-row u) w = R

@@ -15,8 +15,9 @@ use Rattle.laws.proofs.Each.{each-at, each-past}
 use Rattle.layout_facts.proofs.Means.{lastly, _also_, _&_, every-means, all-means}
 use Rattle.layout_facts.proofs.Lists.{between-means}
 use Rattle.track.specs.Sizes.{mostSections, mostPoints, mostLines, mostPlaces, mostTrainRoutes, mostRoutes}
+use Rattle.axles.specs.declared.Axles.{Axles}
 use Rattle.interlocking.specs.declared.State.{State}
-use Rattle.interlocking.specs.State.{cold, codes, routesAndLinesInRange, inRange, withSections, withPoints, withRoutes, withLines, withBars}
+use Rattle.interlocking.specs.State.{cold, codes, routesAndLinesInRange, inRange, withSections, withPoints, withRoutes, withLines, withBars, withAxles}
 use Rattle.step_facts.specs.Range.{In, Within, InRange, Sections, Points, Orders, Phases, Steps, Seconds, Directions, Stages, Bars}
 
 -- ---- the test
@@ -26,7 +27,7 @@ codes-means : (n low high : ℕ) (xs : List ℕ) → codes n low high xs ≡ tru
 unfolding codes
 codes-means n low high xs = Iff·trans (all-means (λ i l. between-means _ _ _)) (λ f. record { entry = f }, λ w. w .entry)
 
--- a state's nine tables, each in its range
+-- a state's nine tables of codes, each in its range
 abbrev Ranged : State → Type 0
 Ranged s = Sections (s .section) × Points (s .point) × Orders (s .order) × Phases (s .phase) × Steps (s .steps) × Seconds (s .seconds)
     × Directions (s .direction) × Stages (s .stage) × Bars (s .bar)
@@ -119,3 +120,8 @@ module _ {s : State} (R : InRange s) where
   pub bars-range : {bar : List ℕ} → Bars bar → InRange (withBars s bar)
   unfolding withBars
   bars-range b = ranged (R .section, R .point, R .order, R .phase, R .steps, R .seconds, R .direction, R .stage, b)
+
+  -- with its heads made anew, which have no range
+  pub heads-range : (axles : List Axles) → InRange (withAxles s axles)
+  unfolding withAxles
+  heads-range axles = ranged (R .section, R .point, R .order, R .phase, R .steps, R .seconds, R .direction, R .stage, R .bar)

@@ -3,7 +3,6 @@ use Prim.Native.Nat.{ℕ}
 use mathlib.Core.Path.{_≡_, refl, ap}
 use mathlib.Core.Bool.{true}
 use mathlib.Core.List.{List, [], _∷_}
-use native.Mathlib.Omega.{arith}
 use Rattle.laws.specs.Tests.{_and_}
 use Rattle.layout.specs.declared.Layout.{Layout}
 use Rattle.layout.specs.Sound.{sound}
@@ -15,6 +14,7 @@ use Rattle.interlocking.specs.State.{cold, inRange}
 use Rattle.interlocking.specs.Step.{step}
 use Rattle.step_facts.specs.Run.{Event, box, boxInRun, stateAfter, answers, fromCold}
 use Rattle.step_facts.proofs.Range.{cold-in-range}
+use Rattle.step_facts.proofs.Refusals.{not-18}
 use Rattle.step_facts.proofs.Step.{step-in-range, unsound-18, sound-numbers, run-step-same}
 
 -- ---- states in range
@@ -34,7 +34,7 @@ cold-run-in-range L es = run-in-range L cold es cold-in-range
 
 -- so on a sound layout no event after any run from the cold start gets 18
 no-18 : (L : Layout) (es : List Event) (k a b : ℕ) → sound L ≡ true → step L (fromCold L es) k a b .number ≡ 18 → ⊥
-no-18 L es k a b h p = omega (arith, sound-numbers L (fromCold L es) k a b h (cold-run-in-range L es))
+no-18 L es k a b h = not-18 (sound-numbers L (fromCold L es) k a b h (cold-run-in-range L es))
 
 -- nor on a layout that was loaded
 pub loaded-no-18 : (file : List ℕ) (es : List Event) (k a b : ℕ) → load file .number ≡ 0

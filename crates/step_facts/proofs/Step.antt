@@ -1,5 +1,5 @@
 -- What holds of one step from any state: it keeps the codes in range, a refusal changes nothing, and 18 comes just where it should.
-use Prim.Native.Nat.{ℕ, _≤_}
+use Prim.Native.Nat.{ℕ}
 use mathlib.Core.Path.{_≡_, refl, sym, ap, _∙_}
 use mathlib.Core.Bool.{Bool, true, false}
 use mathlib.Core.Logic.{_↔_}
@@ -10,21 +10,23 @@ use lib.Dec.{eqb}
 use Rattle.laws.specs.Choice.{if_then_else_}
 use Rattle.laws.specs.Tests.{_and_}
 use Rattle.laws.proofs.Tests.{and-left, and-right, and-both, fails-from}
+use Rattle.layout_facts.proofs.Lists.{between-means}
 use Rattle.layout_facts.proofs.Sound.{sound-says}
-use Rattle.track.specs.Sizes.{mostLines, mostTrainRoutes}
+use Rattle.track.specs.Sizes.{mostSections, mostLines, mostTrainRoutes}
 use Rattle.layout.specs.declared.Layout.{Layout}
 use Rattle.layout.specs.Sound.{sound}
 use Rattle.interlocking.specs.declared.State.{State}
 use Rattle.interlocking.specs.declared.Answer.{Answer}
 use Rattle.interlocking.specs.State.{inRange}
-use Rattle.interlocking.specs.Step.{rowRefusal, moves, stays, tried, followed, answeredBy, stepWhere, step, askedInRun, stepInRun, refusal, own, gives, after}
+use Rattle.interlocking.specs.Step.{rowRefusal, answeredBy, stepWhere, step, askedInRun, stepInRun, refusal, own, gives, after}
 use Rattle.interlocking.specs.Rows.{rowOf}
 use Rattle.interlocking.proofs.Rows.{row-of}
+use Rattle.step_facts.specs.Numbers.{OfEvents}
 use Rattle.step_facts.specs.Range.{InRange}
 use Rattle.step_facts.proofs.Range.{inRange-means}
 use Rattle.step_facts.proofs.Own.{own-range}
 use Rattle.step_facts.proofs.Settle.{settle-range}
-use Rattle.step_facts.proofs.Refusals.{second-right, sound-number, unsound-refused}
+use Rattle.step_facts.proofs.Refusals.{not-18, second-right, sound-number, unsound-refused}
 
 -- ---- done or refused
 
@@ -37,14 +39,14 @@ pub data Ending (isSound : Bool) (L : Layout) (s : State) (k a b : ℕ) : Answer
 -- nothing is refused: the event is done, and what follows
 pub step-done : (isSound : Bool) (L : Layout) (s : State) (k a b : ℕ) → refusal isSound L s k a b .number ≡ 0
     → stepWhere isSound L s k a b ≡ record { number = 0; detail = 0; next = after L s k a b }
-unfolding stepWhere answeredBy followed tried moves refusal own gives after if_then_else_
+unfolding stepWhere answeredBy refusal own gives after if_then_else_
 step-done isSound L s k a b p = let z : eqb (rowRefusal isSound a (rowOf L s k a b) .number) 0 ≡ true = eq-eqb _ 0 p in rw z
 
 -- something is: the answer is the refusal, with the state as it was
 pub step-refused : (isSound : Bool) (L : Layout) (s : State) (k a b : ℕ) → (refusal isSound L s k a b .number ≡ 0 → ⊥)
     → stepWhere isSound L s k a b ≡ record { number = refusal isSound L s k a b .number; detail = refusal isSound L s k a b .detail; next = s }
-unfolding stepWhere answeredBy followed tried stays refusal if_then_else_
-step-refused isSound L s k a b p = let z : eqb (rowRefusal isSound a (rowOf L s k a b) .number) 0 ≡ false = ne-eqb _ 0 p in rw (z, z)
+unfolding stepWhere answeredBy refusal if_then_else_
+step-refused isSound L s k a b p = let z : eqb (rowRefusal isSound a (rowOf L s k a b) .number) 0 ≡ false = ne-eqb _ 0 p in rw z
 
 -- it ends in one of them
 pub ending : (isSound : Bool) (L : Layout) (s : State) (k a b : ℕ) → Ending isSound L s k a b (stepWhere isSound L s k a b)
@@ -67,8 +69,8 @@ module _ {isSound : Bool} {L : Layout} {s : State} {k a b : ℕ} where
   ended-detail (refused-by e) p = absurd (e p)
 
   -- the number is 0 or the refusal's
-  ended-number : {r : Answer} → Ending isSound L s k a b r → refusal isSound L s k a b .number ≤ 17 → r .number ≤ 17
-  ended-number (done e) h = omega arith
+  ended-number : {r : Answer} → Ending isSound L s k a b r → OfEvents (refusal isSound L s k a b .number) → OfEvents (r .number)
+  ended-number (done e) h = rw e at h
   ended-number (refused-by e) h = h
 
   -- the own effect of an accepted event and what follows from it keep the state in range
@@ -104,23 +106,27 @@ module _ (L : Layout) (s : State) (k a b : ℕ) where
       let p = unsound-refused L s k a b in
       rw (e, step-refused false L s k a b (λ z. let y : 18 ≡ 0 = sym (p .0) ∙ z in omega arith), p .0, p .1)
 
-  -- a sound layout and a state in range never do: the answer is one of 0 to 17
-  pub sound-numbers : sound L ≡ true → inRange s ≡ true → step L s k a b .number ≤ 17
+  -- a sound layout and a state in range never do: the answer is one of 0 to 17, 30, 34 and 35
+  pub sound-numbers : sound L ≡ true → inRange s ≡ true → OfEvents (step L s k a b .number)
   unfolding step
   sound-numbers h e = rw (and-both _ _ h e) (ended-number (ending true L s k a b) (sound-number L s k a b))
 
   -- so 18 comes just where the layout or the state is not sound
   pub eighteen-means : step L s k a b .number ≡ 18 ↔ sound L and inRange s ≡ false
   eighteen-means = (
-    λ p. fails-from _ (λ t. omega (arith, sound-numbers (and-left _ _ t) (and-right _ _ t))),
+    λ p. fails-from _ (λ t. not-18 (sound-numbers (and-left _ _ t) (and-right _ _ t)) p),
     λ e. ap (λ (r : Answer). r .number) (unsound-18 e),
   )
 
   -- ---- the step of a run
 
-  -- a sound layout has no more lines and routes than the tables hold, and a section, so both steps go on from soundness found
+  -- a sound layout has no more lines and routes than the tables hold, 1 to 64 sections and no fitted section that it lacks, so both steps go on from
+  -- soundness found
   pub run-step-same : sound L ≡ true → inRange s ≡ true → stepInRun L s k a b ≡ step L s k a b
   unfolding step stepInRun askedInRun
   run-step-same h e =
       let R = sound-says L h .ranges in
-      ap (λ t. stepWhere t L s k a b) (and-both _ _ (le-leb _ mostLines (R .lineCount)) (and-both _ _ (le-leb _ mostTrainRoutes (R .routeCount)) (le-leb 1 _ (R .sectionCount .0))) ∙ sym (and-both _ _ h e))
+      ap (λ t. stepWhere t L s k a b)
+      (and-both _ _ (le-leb _ mostLines (R .lineCount))
+      (and-both _ _ (le-leb _ mostTrainRoutes (R .routeCount))
+      (and-both _ _ (between-means 1 mostSections _ .1 (R .sectionCount)) (eq-eqb _ 0 (R .noneLacking)))) ∙ sym (and-both _ _ h e))

@@ -3,11 +3,12 @@ use Prim.Native.Nat.{ℕ, _<_, _≤_}
 use mathlib.Core.Path.{_≡_, refl, sym, ap, _∙_}
 use mathlib.Core.Logic.{_≢_, _⊎_, inl, inr, ⊎-elim}
 use mathlib.Core.Bool.{true}
+use mathlib.Core.List.{List}
 use native.Mathlib.Decide.{ℕ-discrete}
 use native.Mathlib.Omega.{arith}
 use borrow.Author.Tests.{eqb-true, eqb-false, eq-eqb, ne-eqb, not-true}
 use lib.Dec.{eqb}
-use Rattle.laws.specs.Tests.{_and_, anyBelow}
+use Rattle.laws.specs.Tests.{anyBelow}
 use Rattle.laws.specs.Tables.{read, put}
 use Rattle.laws.proofs.Choice.{if-both, passed-over}
 use Rattle.laws.proofs.Tests.{and-left, and-both, not-both, fails-not, every-at, all-at, any-at}
@@ -16,21 +17,23 @@ use Rattle.tables.specs.Readings.{recorded}
 use Rattle.tables.specs.Blocks.{isOpen}
 use Rattle.signals.specs.Signals.{clear, fallen}
 use Rattle.tables.specs.declared.Gives.{Gives}
+use Rattle.axles.specs.declared.Axles.{Axles}
 use Rattle.release.specs.declared.Locking.{Locking}
 use Rattle.release.specs.Release.{lockingAfter}
 use Rattle.layout.specs.declared.Layout.{Layout}
 use Rattle.layout.specs.Layout.{lineIn, routeIn}
 use Rattle.line_block.specs.LineRelease.{passable, endsBy, directionAfter, directionsAfter}
 use Rattle.interlocking.specs.declared.State.{State}
-use Rattle.interlocking.specs.State.{withSections, withPoints, withRoutes, withLines, withBars}
-use Rattle.interlocking.specs.Own.{ownSection, ownPoint, ownThrow, ownSet, ownCancel, ownSecure, ownManual, ownBar}
+use Rattle.interlocking.specs.State.{withSections, withPoints, withRoutes, withLines, withBars, withAxles, headsAt}
+use Rattle.interlocking.specs.Own.{ownSection, ownPoint, ownThrow, ownSet, ownCancel, ownSecure, ownManual, ownBar, headSection, headsOf, headsBy, ownHeads}
 use Rattle.tables.specs.Locks.{locked, lockedExitBy, lockedExit}
 use Rattle.interlocking.specs.Settle.{fallenAt, signals, farSections, lockingOf, routeAfter, unlessIdle, routesBy, routes, lineRelease, settle}
-use Rattle.interlocking.specs.Rows.{Row, sectionRow, pointRow, throwRow, setRow, cancelRow, secureRow, manualRow, barRow, secondRow, noRow}
+use Rattle.interlocking.specs.Rows.{Row, sectionRow, pointRow, throwRow, setRow, cancelRow, secureRow, manualRow, barRow, secondRow, headRow, countRow, silentRow, resetRow, noRow}
 use Rattle.interlocking.specs.Step.{own, gives, after}
-use Rattle.interlocking.proofs.Rows.{OfKind, section-row, point-row, throw-row, set-row, cancel-row, secure-row, manual-row, bar-row, unbar-row, second-row, no-row, row-of}
+use Rattle.interlocking.proofs.Rows.{OfKind, section-row, point-row, throw-row, set-row, cancel-row, secure-row, manual-row, bar-row, unbar-row, second-row, count-row, silent-row, reset-row, no-row, row-of}
 use Rattle.step_facts.specs.Run.{Event}
 use Rattle.step_facts.proofs.Entries.{phase, direction, stage, ends, read-each, put-elsewhere}
+use Rattle.step_facts.proofs.Tells.{head-named, reset-named, Tells, by-code, by-heads, Untold}
 
 -- ---- the states within one event
 
@@ -56,27 +59,35 @@ end L s e = after L s (e .kind) (e .first) (e .second)
 abbrev pub On : ℕ → Event → ℕ → Type 0
 On k e a = (e .kind ≡ k) × (e .first ≡ a)
 
--- the state that it leaves, by its kind; the other kinds leave sections, directions, stages and what is held of routes as they are
+-- the state that it leaves, by its kind: one that gives a section a reading differs from s in the heads before it is given; the other kinds leave sections,
+-- heads, directions, stages and what is held of routes as they are
 pub data Done (L : Layout) (s : State) (e : Event) : State → Type 0 where
-  reads : e .kind ≡ 1 → Done L s e (ownSection (L .line) (L .lines) s (e .first) (recorded (e .second)))
+  reads : {g v : ℕ} {xs : List Axles} → Tells s e g v xs → Done L s e (ownSection (L .line) (L .lines) (withAxles s xs) g v)
   sets : e .kind ≡ 4 → Done L s e (ownSet s (e .first))
   cancels : e .kind ≡ 5 → Done L s e (ownCancel s (e .first))
   secures : e .kind ≡ 6 → Done L s e (ownSecure s (e .first) (e .second))
   opens : e .kind ≡ 7 → Done L s e (ownManual (L .line) (L .lines) s (e .first))
-  leaves : {t : State} → (e .kind ≢ 1) × (e .kind ≢ 4) × (e .kind ≢ 5) × (e .kind ≢ 6) × (e .kind ≢ 7)
+  leaves : {t : State} → (e .kind ≢ 4) × (e .kind ≢ 5) × (e .kind ≢ 6) × (e .kind ≢ 7) × Untold (e .kind)
       → (t .section ≡ s .section) × (t .phase ≡ s .phase) × (t .direction ≡ s .direction) × (t .stage ≡ s .stage) × (t .steps ≡ s .steps) × (t .seconds ≡ s .seconds)
+      × (t .axles ≡ s .axles)
       → Done L s e t
 
 -- by its row
 pub is-done : (L : Layout) (s : State) (e : Event) → Done L s e (done L s e)
-unfolding own sectionRow pointRow throwRow setRow cancelRow secureRow manualRow barRow secondRow noRow ownPoint ownThrow ownBar withPoints withBars
+unfolding own sectionRow pointRow throwRow setRow cancelRow secureRow manualRow barRow secondRow headRow countRow silentRow resetRow noRow ownPoint ownThrow ownBar ownHeads
+    withPoints withBars withAxles headsOf
 is-done L s e = go (row-of L s (e .kind) (e .first) (e .second))
   where
     same : (s .section ≡ s .section) × (s .phase ≡ s .phase) × (s .direction ≡ s .direction) × (s .stage ≡ s .stage) × (s .steps ≡ s .steps) × (s .seconds ≡ s .seconds)
-    same = (refl, refl, refl, refl, refl, refl)
+        × (s .axles ≡ s .axles)
+    same = (refl, refl, refl, refl, refl, refl, refl)
+
+    told : {g : ℕ} → g ≡ headSection (e .kind) (e .first) → (11 ≤ e .kind) × (e .kind ≤ 14)
+        → Done L s e (ownHeads (L .line) (L .lines) s g (headsBy (headsOf s (e .kind) (e .first)) (e .kind) (e .first) (e .second)))
+    told q k = reads (by-heads k q (ap (λ n. headsBy (headsAt (s .axles) n) (e .kind) (e .first) (e .second)) (sym q)))
 
     go : {row : Row} → OfKind L s (e .first) (e .second) (e .kind) row → Done L s e (row .does)
-    go (section-row q) = reads q
+    go (section-row q) = reads (by-code q)
     go (point-row q) = leaves (omega arith) same
     go (throw-row q) = leaves (omega arith) same
     go (set-row q) = sets q
@@ -86,7 +97,11 @@ is-done L s e = go (row-of L s (e .kind) (e .first) (e .second))
     go (bar-row q) = leaves (omega arith) same
     go (unbar-row q) = leaves (omega arith) same
     go (second-row q) = leaves (omega arith) same
-    go (no-row u) = leaves (u .no-section, u .no-set, u .no-cancel, u .no-secure, u .no-release) same
+    go (count-row (inl q)) = told (sym (head-named _ _ (omega arith))) (omega arith)
+    go (count-row (inr q)) = told (sym (head-named _ _ (omega arith))) (omega arith)
+    go (silent-row q) = told (sym (head-named _ _ (omega arith))) (omega arith)
+    go (reset-row q) = told (sym (reset-named _ _ q)) (omega arith)
+    go (no-row u) = leaves (u .no-set, u .no-cancel, u .no-secure, u .no-release, (u .no-section, u .no-in, u .no-out, u .no-silent, u .no-reset)) same
 
 -- the same of points and bars; the other kinds leave both as they are
 pub data Placed (s : State) (e : Event) : State → Type 0 where
@@ -98,7 +113,8 @@ pub data Placed (s : State) (e : Event) : State → Type 0 where
 
 -- by its row
 pub is-placed : (L : Layout) (s : State) (e : Event) → Placed s e (done L s e)
-unfolding own sectionRow pointRow throwRow setRow cancelRow secureRow manualRow barRow secondRow noRow ownSection ownSet ownCancel ownSecure ownManual withSections withRoutes withLines
+unfolding own sectionRow pointRow throwRow setRow cancelRow secureRow manualRow barRow secondRow headRow countRow silentRow resetRow noRow
+    ownSection ownSet ownCancel ownSecure ownManual ownHeads withSections withRoutes withLines withAxles
 is-placed L s e = go (row-of L s (e .kind) (e .first) (e .second))
   where
     go : {row : Row} → OfKind L s (e .first) (e .second) (e .kind) row → Placed s e (row .does)
@@ -112,6 +128,10 @@ is-placed L s e = go (row-of L s (e .kind) (e .first) (e .second))
     go (bar-row q) = barred q
     go (unbar-row q) = unbarred q
     go (second-row q) = untouched (omega arith) (refl, refl)
+    go (count-row (inl q)) = untouched (omega arith) (refl, refl)
+    go (count-row (inr q)) = untouched (omega arith) (refl, refl)
+    go (silent-row q) = untouched (omega arith) (refl, refl)
+    go (reset-row q) = untouched (omega arith) (refl, refl)
     go (no-row u) = untouched (u .no-point, u .no-throw, u .no-bar, u .no-unbar) (refl, refl)
 
 -- ---- routes
@@ -171,7 +191,7 @@ module _ (L : Layout) (few : L .routes ≤ mostTrainRoutes) (s : State) (e : Eve
   -- a route that is locked at the end was locked before, or is set by the event
   pub was-locked : (e .kind ≡ 5 → phase s (e .first) ≢ 0) → phase (end L s e) r ≢ 0
       → On 4 e r ⊎ (phase s r ≢ 0)
-  unfolding ownSection ownSet ownCancel ownSecure ownManual withSections withRoutes withLines
+  unfolding ownSection ownSet ownCancel ownSecure ownManual withSections withRoutes withLines withAxles
   was-locked cancelled d = go (is-done L s e) own-locked
     where
       own-locked : phase (done L s e) r ≢ 0
@@ -196,7 +216,7 @@ module _ (L : Layout) (few : L .routes ≤ mostTrainRoutes) (s : State) (e : Eve
 module _ (L : Layout) (few : L .lines ≤ mostLines) (s : State) (e : Event) (l : ℕ) (b : l < L .lines) where
   -- a line that the event neither secures nor releases by hand keeps its direction, as far as the event itself goes
   pub direction-same : ¬ On 6 e l → ¬ On 7 e l → direction (done L s e) l ≡ direction s l
-  unfolding ownSection ownSet ownCancel ownSecure ownManual withSections withRoutes withLines
+  unfolding ownSection ownSet ownCancel ownSecure ownManual withSections withRoutes withLines withAxles
   direction-same n m = go (is-done L s e)
     where
       elsewhere : (v : ℕ) → (e .first ≡ l → ⊥) → read mostLines 0 (put mostLines (s .direction) (e .first) v) l ≡ direction s l

@@ -1,3 +1,4 @@
 pub mod Range
 pub mod Run
 pub mod FarInState
+pub mod Numbers
