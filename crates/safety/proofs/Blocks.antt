@@ -6,18 +6,23 @@ use native.Mathlib.Decide.{ℕ-discrete}
 use native.Mathlib.Omega.{arith}
 use borrow.Author.Tests.{eqb-true, eqb-false, eq-eqb}
 use lib.Dec.{eqb}
+use Rattle.laws.specs.Tests.{_and_}
 use Rattle.laws.proofs.Choice.{if-both}
 use Rattle.laws.proofs.Tests.{or-left, or-right, or-cases, not-both}
 use Rattle.passage.specs.Passage.{ownStage}
 use Rattle.layout.specs.declared.Layout.{Layout}
 use Rattle.layout.specs.Layout.{lineIn}
+use Rattle.layout.specs.Sound.{sound}
 use Rattle.layout_facts.specs.Plain.{Sound}
 use Rattle.interlocking.specs.declared.State.{State}
+use Rattle.interlocking.specs.State.{inRange}
+use Rattle.interlocking.specs.Step.{refusal}
 use Rattle.step_facts.specs.Run.{Event}
 use Rattle.safety.specs.History.{History, gaveBlock}
 use Rattle.step_facts.proofs.Entries.{stage, block}
 use Rattle.step_facts.proofs.Within.{On, done}
 use Rattle.safety.proofs.Given.{granted, gave-few, order-gives-nothing, own-by-hand, own-follows}
+use Rattle.safety.proofs.Invariant.{Inv}
 
 -- ---- its own reading
 
@@ -60,11 +65,12 @@ on k e a = go (ℕ-discrete (e .kind) k) (ℕ-discrete (e .first) a)
     go (no p) q = no (λ u. p (u .0))
 
 -- block i of line l within an accepted event
-module _ (L : Layout) (S : Sound L) (s : State) (e : Event) (h : History) (l i : ℕ) (b : l < L .lines) (c : i < lineIn L l .blocks) where
+module _ (L : Layout) (S : Sound L) (s : State) (h : History) (I : Inv L s h) (e : Event)
+    (pass : refusal (sound L and inRange s) L s (e .kind) (e .first) (e .second) .number ≡ 0) (l i : ℕ) (b : l < L .lines) (c : i < lineIn L l .blocks) where
   -- what the event does to it itself
   pub own-of : OwnCase (On 7 e l) (gaveBlock L l i (granted L s e) h) (stage s l i) (stage (done L s e) l i)
   own-of = go (on 7 e l)
     where
       go : Dec (On 7 e l) → OwnCase (On 7 e l) (gaveBlock L l i (granted L s e) h) (stage s l i) (stage (done L s e) l i)
-      go (yes u) = byHand u (order-gives-nothing L _ (granted L s e) h (let k = u .0 in (omega arith, omega arith))) (own-by-hand L S s e h l i b c u)
-      go (no n) = rw (own-follows L S s e h l i b c n) (of-given (On 7 e l) _ (stage s l i) n (gave-few L (block L l i) (granted L s e) h))
+      go (yes u) = byHand u (order-gives-nothing L _ (granted L s e) h (let k = u .0 in (omega arith, omega arith))) (own-by-hand L S s e h (I .heads) pass l i b c u)
+      go (no n) = rw (own-follows L S s e h (I .heads) pass l i b c n) (of-given (On 7 e l) _ (stage s l i) n (gave-few L (block L l i) (granted L s e) h))

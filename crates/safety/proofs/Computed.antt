@@ -16,25 +16,27 @@ use Rattle.passage.specs.Passage.{ownStage, departure, arrival, beyond, section
 use Rattle.line_block.specs.FarSections.{drops, farMoved, farStageAt, farStages}
 use Rattle.line_block.specs.LineRelease.{lastBlock, passable, wasInStage2, endsBy, directionAfter, directionsAfter}
 use Rattle.release.specs.Release.{watchedSection, watchedBlock, exitPair, pathPair, watchedPair, stepsAfter, toVacate, endReading, vacated, secondsAfter, goes, lockingAfter}
+use Rattle.layout.specs.Layout.{isFitted}
 use Rattle.layout_facts.specs.Plain.{innerSection, entranceSignal, nearestBlock, path, overlap, routePoint, routePosition, linePoint, linePosition}
 use Rattle.layout_facts.specs.Plain as plain
 use Rattle.layout_facts.proofs.BranchT.{computed}
 use Rattle.reasons.specs.Refusal.{refused, noRefusal, refusedIf, found, firstOf}
 use Rattle.reasons.specs.Searches.{lacking, misplaced, routeLocks, lineLocks, failing}
 use Rattle.tables.specs.Locks.{locked, lockedExitBy, lockedExit}
-use Rattle.reasons.specs.Reasons.{notFree, notPlaced, conflicting, byRoute, byLine, exitLocked, blockBarred, blockHeld}
+use Rattle.reasons.specs.Reasons.{notFree, notPlaced, conflicting, byRoute, byLine, exitLocked, blockBarred, blockHeld, noHeads, hasHeads}
 use Rattle.refusals.specs.Orders.{throwRefusal, exitRefusal, routeRefusal, setRefusal, cancelRefusal, secureRefusal, manualRefusal}
 use Rattle.refusals.specs.Events.{numbersRefusal}
-use Rattle.interlocking.specs.State.{cold, codes, routesAndLinesInRange, inRange, withSections, withPoints, withRoutes, withLines, withBars}
-use Rattle.interlocking.specs.Own.{ownGiven, ownStageAt, ownSection, ownPoint, throwReading, ownThrow, ownSet, ownCancel, ownSecure, openAt, ownManual, ownBar}
+use Rattle.interlocking.specs.State.{cold, codes, routesAndLinesInRange, inRange, headsAt, withSections, withPoints, withRoutes, withLines, withBars, withAxles}
+use Rattle.interlocking.specs.Own.{ownGiven, ownStageAt, ownSection, ownPoint, throwReading, ownThrow, ownSet, ownCancel, ownSecure, openAt, ownManual, ownBar, headSection, headsOf, headsBy, ownHeads}
 use Rattle.interlocking.specs.Settle.{fallenAt, signals, proceedsIn, farSections, lockingOf, routeAfter, unlessIdle, routesBy, routes, lineRelease, settle}
-use Rattle.interlocking.specs.Rows.{nothing, givesReading, aSecond, sectionRow, pointRow, throwRow, setRow, cancelRow, secureRow, manualRow, barRow, secondRow, noRow, rowOf}
-use Rattle.interlocking.specs.Step.{rowRefusal, moves, stays, tried, followed, answeredBy, stepWhere, step, askedInRun, stepInRun, refusal, own, gives, after}
+use Rattle.interlocking.specs.Rows.{nothing, givesReading, aSecond, sectionRow, pointRow, throwRow, setRow, cancelRow, secureRow, manualRow, barRow, secondRow, headRow, countRow, silentRow, resetRow, noRow, rowWith, rowOf}
+use Rattle.interlocking.specs.Step.{rowRefusal, answeredBy, stepWhere, step, askedInRun, stepInRun, refusal, own, gives, after}
 use Rattle.panel.specs.Panel.{blocks, routeByte, blockBytes, lineBytes, image, panelLength, drawnWhere, drawn}
 use Rattle.panel.specs.Panel as panels
 use Rattle.step_facts.specs.Run.{box, boxInRun, stateAfter, answers, fromCold}
 use Rattle.panel.specs.Shown.{sectionShown, pointShown, signalShown, routeShown, lineShown, blockShown}
-use Rattle.safety.specs.History.{gaveSection, reads, shown, moment, goesOn, history}
+use Rattle.safety.specs.HeadsTold.{named, ofHeads, saidOf, counts}
+use Rattle.safety.specs.History.{gaveByReading, gaveByHeads, headLog, gaveSection, reads, shown, moment, goesOn, history}
 use Rattle.safety.specs.Locked.{gaveFirst, gaveSecond, secondsSince}
 use Rattle.safety.specs.Lights.{position}
 
@@ -47,16 +49,16 @@ unfolding computed
     ownStage departure arrival beyond sectionAt signalAt farSection farSignal farStage drops farMoved farStageAt farStages
     given watchedSection watchedBlock exitPair pathPair watchedPair stepsAfter toVacate endReading vacated secondsAfter goes lockingAfter
     innerSection entranceSignal nearestBlock
-    refused noRefusal refusedIf found firstOf lacking notFree misplaced notPlaced locked conflicting byRoute byLine exitLocked blockBarred blockHeld
+    refused noRefusal refusedIf found firstOf lacking notFree misplaced notPlaced locked conflicting byRoute byLine exitLocked blockBarred blockHeld noHeads hasHeads
     routeLocks lineLocks failing lockedExitBy lockedExit
     throwRefusal exitRefusal routeRefusal setRefusal cancelRefusal secureRefusal manualRefusal
-    cold codes routesAndLinesInRange inRange withSections withPoints withRoutes withLines withBars
-    ownGiven ownStageAt ownSection ownPoint throwReading ownThrow ownSet ownCancel ownSecure openAt ownManual ownBar
+    cold codes routesAndLinesInRange inRange headsAt withSections withPoints withRoutes withLines withBars withAxles
+    ownGiven ownStageAt ownSection ownPoint throwReading ownThrow ownSet ownCancel ownSecure openAt ownManual ownBar headSection headsOf headsBy ownHeads
     fallenAt signals proceedsIn farSections lockingOf routeAfter unlessIdle routesBy routes
     lastBlock passable wasInStage2 endsBy directionAfter directionsAfter lineRelease settle
-    numbersRefusal nothing givesReading aSecond sectionRow pointRow throwRow setRow cancelRow secureRow manualRow barRow secondRow noRow rowOf
-    rowRefusal moves stays tried followed answeredBy stepWhere step askedInRun stepInRun refusal own gives after
+    numbersRefusal nothing givesReading aSecond sectionRow pointRow throwRow setRow cancelRow secureRow manualRow barRow secondRow headRow countRow silentRow resetRow noRow rowWith rowOf
+    rowRefusal answeredBy stepWhere step askedInRun stepInRun refusal own gives after
     join blocks proceedShown shownBy shownFor mainShows routeByte hasSignal lightShown blockShows blockBytes lineBytes image panelLength panels.refused panels.answerWhere panels.answer drawnWhere drawn
-    box boxInRun stateAfter answers fromCold shows sectionShown pointShown signalShown routeShown lineShown blockShown gaveSection reads shown moment goesOn history
+    box boxInRun stateAfter answers fromCold shows sectionShown pointShown signalShown routeShown lineShown blockShown isFitted named ofHeads saidOf counts gaveByReading gaveByHeads headLog gaveSection reads shown moment goesOn history
     gaveFirst gaveSecond secondsSince position plain.ownSection path overlap routePoint routePosition linePoint linePosition
 runComputed = 0

@@ -131,7 +131,7 @@ module _ (L : Layout) (S : Sound L) (s : State) (h : History) (I : Inv L s h) (e
   -- what the far section reads within the event is what the history tells of it
   pub far-reads : (w : ℕ) → farReading L (lit L s e) l i w ≡ sectionReads L (farSection L l i w) (granted L s e ∷ h)
   unfolding signals withRoutes
-  far-reads w = reads-done L S s h I e (farSection L l i w) (far-there L S l i w b c)
+  far-reads w = reads-done L S s h I e pass (farSection L l i w) (far-there L S l i w b c)
 
   -- "to stop" follows from "from proceed" on a sound layout: within the event a far section that reads occupied holds its signal at stop.
   -- The next block would be open and read free; a route in from the line would have the inner section free in its path
@@ -144,14 +144,14 @@ module _ (L : Layout) (S : Sound L) (s : State) (h : History) (I : Inv L s h) (e
     where
       opens : (j : ℕ) → j < lineIn L l .blocks → stage (done L s e) l j ≡ 0 → readings.reading (done L s e .section) (block L l j) ≡ 1
       opens j k z =
-          reads-done L S s h I e _ (block-there L S l j b k)
+          reads-done L S s h I e pass _ (block-there L S l j b k)
           ∙ opened-then L S s h I e pass l j b k (eqb-true _ 0 (open-same L S s e l j b k ∙ eq-eqb _ 0 z)) .isFree
 
   -- a block that was in stage 2 and stays there: the passage waits on
   waits-on : stage (done L s e) l i ≡ 3 → (direction (done L s e) l ≢ 0 → farReading L (lit L s e) l i (direction (done L s e) l) ≢ 3)
       → (direction (done L s e) l ≢ 0) × Passage L l i (direction (done L s e) l) (granted L s e ∷ h)
   unfolding Since
-  waits-on z far = go (own-of L S s e h l i b c)
+  waits-on z far = go (own-of L S s h I e pass l i b c)
     where
       on : stage s l i ≡ 3 → ¬ On 7 e l → gaveBlock L l i (granted L s e) h ≢ 3 → gaveBlock L l i (granted L s e) h ≢ 1
           → (direction (done L s e) l ≢ 0) × Passage L l i (direction (done L s e) l) (granted L s e ∷ h)
@@ -203,7 +203,7 @@ module _ (L : Layout) (S : Sound L) (s : State) (h : History) (I : Inv L s h) (e
 
     -- so the block was in stage 1 or 2 before
     entered-before : 2 ≤ stage s l i
-    entered-before = go (own-of L S s e h l i b c)
+    entered-before = go (own-of L S s h I e pass l i b c)
       where
         go : OwnCase (On 7 e l) (gaveBlock L l i (granted L s e) h) (stage s l i) (stage (done L s e) l i) → 2 ≤ stage s l i
         go (byHand u q x) = absurd (omega arith)

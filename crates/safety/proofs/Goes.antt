@@ -65,7 +65,7 @@ module _ (L : Layout) (S : Sound L) (s : State) (h : History) (I : Inv L s h) (e
 
   -- its steps are those that the history tells
   pub steps-then : Steps L r (stepsThen L s e r) (now ∷ h)
-  steps-then = rw (pair-told L S s h I e r b, kept (own-route L few s e r b)) (steps-on L r (stepsOf s r) now h (was .steps locked) (λ u. n (u .1, u .2)))
+  steps-then = rw (pair-told L S s h I e pass r b, kept (own-route L few s e r b)) (steps-on L r (stepsOf s r) now h (was .steps locked) (λ u. n (u .1, u .2)))
     where
       kept : OwnRoute s (done L s e) e r → stepsOf (done L s e) r ≡ stepsOf s r
       kept (set u p q) = absurd (n u)
@@ -121,10 +121,10 @@ module _ (L : Layout) (S : Sound L) (s : State) (h : History) (I : Inv L s h) (e
       goes : (eqb (phase (lit L s e) r) 3 and (eqb (givenBy L s e .tick) 1 and leb 89 (secondsOf (done L s e) r)) ≡ true)
           ⊎ (eqb (stepsThen L s e r) 3 and vacated (L .line) (done L s e .section) (routeIn L r) ≡ true) → Goes L r now h
       goes (inl t) = let u = and-right _ _ t in inr (by-time .0 (eqb-true _ 3 (and-left _ _ t), eqb-true _ 1 (and-left _ _ u), leb-true 89 _ (and-right _ _ u)))
-      goes (inr t) = inl (steps-then .three .0 (eqb-true _ 3 (and-left _ _ t)), vacated-told L S s h I e r b .0 (and-right _ _ t))
+      goes (inr t) = inl (steps-then .three .0 (eqb-true _ 3 (and-left _ _ t)), vacated-told L S s h I e pass r b .0 (and-right _ _ t))
 
       lets : Goes L r now h → goesThen L s e r ≡ true
-      lets (inl t) = or-right _ _ (and-both _ _ (eq-eqb _ 3 (steps-then .three .1 (t .0))) (vacated-told L S s h I e r b .1 (t .1)))
+      lets (inl t) = or-right _ _ (and-both _ _ (eq-eqb _ 3 (steps-then .three .1 (t .0))) (vacated-told L S s h I e pass r b .1 (t .1)))
       lets (inr t) = let u = by-time .1 t in or-left _ _ (and-both _ _ (eq-eqb _ 3 (u .0)) (and-both _ _ (eq-eqb _ 1 (u .1)) (le-leb 89 _ (u .2))))
 
   -- the seconds of one that stays cancelling are those since it was cancelled

@@ -47,7 +47,7 @@ module _ (L : Layout) (S : Sound L) (s : State) (h : History) (I : Inv L s h) (e
   -- a block is opened by hand where it reads free, or by the free reading that closes its passage; else it was open and nothing took it
   pub opened-then : stage (end L s e) l i ≡ 0 → Opened L l i (granted L s e ∷ h)
   unfolding isOpen
-  opened-then z = go (own-of L S s e h l i b c)
+  opened-then z = go (own-of L S s h I e pass l i b c)
     where
       opens : stage (done L s e) l i ≡ 0
       opens = eqb-true _ 0 (sym (open-same L S s e l i b c) ∙ eq-eqb _ 0 z)
@@ -64,7 +64,7 @@ module _ (L : Layout) (S : Sound L) (s : State) (h : History) (I : Inv L s h) (e
 
   -- an open block that reads free then stays open; one in stage 2 that is given free opens
   stays-open : (stage s l i ≡ 0) ⊎ ((stage s l i ≡ 3) × (gives ≡ 1)) → blockReads L l i (granted L s e ∷ h) ≡ 1 → stage (done L s e) l i ≡ 0
-  stays-open was now = go was (own-of L S s e h l i b c)
+  stays-open was now = go was (own-of L S s h I e pass l i b c)
     where
       go : (stage s l i ≡ 0) ⊎ ((stage s l i ≡ 3) × (gives ≡ 1)) → Own → stage (done L s e) l i ≡ 0
       go u (blocks.byHand k q z) = z
@@ -78,7 +78,7 @@ module _ (L : Layout) (S : Sound L) (s : State) (h : History) (I : Inv L s h) (e
 
   -- a manual release of the line opens the block
   by-hand : On 7 e l → stage (done L s e) l i ≡ 0
-  by-hand u = go (own-of L S s e h l i b c)
+  by-hand u = go (own-of L S s h I e pass l i b c)
     where
       go : Own → stage (done L s e) l i ≡ 0
       go (blocks.byHand k q z) = z
@@ -125,7 +125,7 @@ module _ (L : Layout) (S : Sound L) (s : State) (h : History) (I : Inv L s h) (e
   -- a block in stage 1 or 2 was given occupied by this event, or by one before, and since then neither none nor free
   entered-then : 2 ≤ stage (done L s e) l i → Entered (gaveBlock L l i) (granted L s e ∷ h)
   unfolding Since
-  entered-then z = go (own-of L S s e h l i b c)
+  entered-then z = go (own-of L S s h I e pass l i b c)
     where
       go : Own → Entered (gaveBlock L l i) (granted L s e ∷ h)
       go (blocks.byHand u q x) = absurd (omega arith)
@@ -136,7 +136,7 @@ module _ (L : Layout) (S : Sound L) (s : State) (h : History) (I : Inv L s h) (e
 
   -- a block that was entered keeps its stage, as far as the event itself goes, where it is given neither none nor free
   pub own-keeps : Entered (gaveBlock L l i) h → gives ≢ 3 → gives ≢ 1 → stage (done L s e) l i ≡ stage s l i
-  own-keeps x n f = go (own-of L S s e h l i b c)
+  own-keeps x n f = go (own-of L S s h I e pass l i b c)
     where
       held : 2 ≤ stage s l i
       held = I .blocks l i b c .enters .1 x
@@ -153,7 +153,7 @@ module _ (L : Layout) (S : Sound L) (s : State) (h : History) (I : Inv L s h) (e
   -- one that was entered is in stage 1 or 2: this event took it, or one before did, and it was not given none or free since
   enters-then : Entered (gaveBlock L l i) (granted L s e ∷ h) → 2 ≤ stage (done L s e) l i
   unfolding Since
-  enters-then (inl q) = go (own-of L S s e h l i b c)
+  enters-then (inl q) = go (own-of L S s h I e pass l i b c)
     where
       go : Own → 2 ≤ stage (done L s e) l i
       go (blocks.byHand k u z) = absurd (omega arith)

@@ -24,6 +24,7 @@ use Rattle.safety.specs.Cleared.{Entered, Passage, Opened}
 use Rattle.safety.specs.Secured.{Barred, Secured}
 use Rattle.safety.specs.Lights.{position, NotFallen}
 use Rattle.step_facts.proofs.Entries.{phase, direction, stage, barAt, pointAt, stepsOf, secondsOf, read-same}
+use Rattle.safety.proofs.Heads.{HeadsHeld, cold-heads}
 use Rattle.safety.proofs.Steps.{Steps}
 
 -- ---- the invariant
@@ -45,12 +46,13 @@ pub record RouteTold (L : Layout) (s : State) (h : History) (r : ℕ) : Type 0 w
   pub stands : phase s r ≢ 0 → stepsOf s r ≡ 3 → ¬ Vacated L r h
   pub seconds : phase s r ≡ 3 → secondsOf s r ≡ secondsSince r h
 
--- the codes are in range; what shows, what sections and points read, what is barred, and what is held of blocks, routes and lines is as the history tells
+-- the codes are in range; what shows, what sections and points read, what heads hold, what is barred, and what is held of blocks, routes and lines is as the history tells
 -- it; no two conflicting routes are locked; a signal at proceed has all that keeps it there; the line of a locked exit route is secured its way
 pub record Inv (L : Layout) (s : State) (h : History) : Type 0 where
   pub ranged : inRange s ≡ true
   pub seen : shown L h ≡ panel L (image L s)
   pub reads : (g : ℕ) → g < L .sections → readings.reading (s .section) g ≡ sectionReads L g h
+  pub heads : HeadsHeld L (s .axles) h
   pub points : (p : ℕ) → p < L .points → pointAt s p ≡ position p h
   pub bars : (l i : ℕ) → l < L .lines → i < lineIn L l .blocks → (barAt s l i ≢ 0 ↔ Barred l i h)
   pub blocks : (l i : ℕ) → l < L .lines → i < lineIn L l .blocks → BlockTold L s h l i
@@ -118,6 +120,7 @@ module _ (L : Layout) (S : Sound L) where
     ranged = cold-in-range;
     seen = refl;
     reads = λ g b. read-same mostSections 3 3 g (omega (arith, S .ranges .sectionCount));
+    heads = cold-heads L (S .ranges .sectionCount .1);
     points = λ p b. read-same mostPoints 3 3 p (omega (arith, S .ranges .pointCount));
     bars = λ l i b c. (λ d. absurd (d (cold-bar l i b c)), λ x. absurd x);
     blocks = cold-block;

@@ -23,6 +23,7 @@ use Rattle.step_facts.proofs.Granted.{second-granted, step-granted}
 use Rattle.safety.proofs.Given.{granted, refused-gives-nothing}
 use Rattle.safety.proofs.Invariant.{BlockTold, RouteTold, Inv, cold-has}
 use Rattle.safety.proofs.ReadAfter.{reads-then}
+use Rattle.safety.proofs.HeadsKept.{heads-accepted, heads-refused}
 use Rattle.step_facts.proofs.FarCases.{enterable-same}
 use Rattle.safety.proofs.Routes.{apart-on, exits-on}
 use Rattle.safety.proofs.Held.{opens-told, enters-told}
@@ -52,7 +53,7 @@ module _ (L : Layout) (ok : sound L ≡ true) (S : Sound L) (s : State) (h : His
     -- what signals go by
     signals-then : SignalsTold L (end L s e) (granted L s e ∷ h)
     signals-then = record {
-      reads = reads-then L S s h I e;
+      reads = reads-then L S s h I e pass;
       points = point-accepted L S s h I e;
       bars = bar-accepted L S s h I e pass;
       opens = opens-told L S s h I e pass;
@@ -68,6 +69,7 @@ module _ (L : Layout) (ok : sound L ≡ true) (S : Sound L) (s : State) (h : His
       ranged = rw (step-granted L s e pass) at (step-in-range L s (e .kind) (e .first) (e .second) (I .ranged));
       seen = refl;
       reads = signals-then .reads;
+      heads = heads-accepted L (S .ranges .sectionCount .1) s h (I .heads) e pass;
       points = signals-then .points;
       bars = signals-then .bars;
       blocks = block-then;
@@ -89,7 +91,7 @@ module _ (L : Layout) (ok : sound L ≡ true) (S : Sound L) (s : State) (h : His
 
     -- nothing is given
     quiet : (g : ℕ) → gaveSection L g m h ≡ 0
-    quiet = refused-gives-nothing L ok s (I .ranged) m h refuses
+    quiet = refused-gives-nothing L ok s (I .ranged) m h (I .heads) refuses
 
     -- it is no second, which would be accepted
     no-second : ¬ Second m
@@ -110,6 +112,7 @@ module _ (L : Layout) (ok : sound L ≡ true) (S : Sound L) (s : State) (h : His
       ranged = I .ranged;
       seen = rw same;
       reads = signals-still .reads;
+      heads = heads-refused L ok s (I .ranged) m h (I .heads) refuses;
       points = signals-still .points;
       bars = signals-still .bars;
       blocks = block-refused L s h m I quiet same no-answer;

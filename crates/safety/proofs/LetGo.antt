@@ -9,6 +9,7 @@ use native.Mathlib.Omega.{arith}
 use borrow.Author.Tests.{eqb-true, eqb-false, eq-eqb}
 use lib.Dec.{eqb}
 use Rattle.laws.specs.Choice.{if_then_else_}
+use Rattle.laws.specs.Tests.{_and_}
 use Rattle.laws.specs.Tables.{read, put}
 use Rattle.laws.proofs.Choice.{if-both, Is, holds, fails, which, chosen, passed-over}
 use Rattle.laws.proofs.Arrays.{read-at}
@@ -25,17 +26,19 @@ use Rattle.release.specs.Release.{watchedSection, watchedBlock, exitPair, pathP
 use Rattle.release.specs.Release as release
 use Rattle.layout.specs.declared.Layout.{Layout}
 use Rattle.layout.specs.Layout.{lineIn, routeIn}
+use Rattle.layout.specs.Sound.{sound}
 use Rattle.layout_facts.specs.Plain.{path, nearestBlock, Sound}
 use Rattle.layout_facts.proofs.Uses.{nearest-there}
 use Rattle.interlocking.specs.declared.State.{State}
-use Rattle.interlocking.specs.State.{withSections, withRoutes, withLines}
+use Rattle.interlocking.specs.State.{inRange, withSections, withRoutes, withLines, withAxles}
 use Rattle.interlocking.specs.Own.{ownSection, ownSet, ownCancel, ownSecure, ownManual}
 use Rattle.interlocking.specs.Settle.{fallenAt, signals, farSections, lockingOf, routeAfter, unlessIdle, routesBy, routes, lineRelease, settle}
-use Rattle.interlocking.specs.Step.{gives, after}
+use Rattle.interlocking.specs.Step.{refusal, gives, after}
 use Rattle.step_facts.specs.Run.{Event}
 use Rattle.safety.specs.History.{History, gaveSection, reads, sectionReads}
 use Rattle.safety.specs.Locked.{gaveEnd, gaveFirst, gaveSecond, Vacated}
 use Rattle.step_facts.proofs.Entries.{phase, stepsOf, secondsOf, block, block-there, read-each, put-here, put-elsewhere}
+use Rattle.step_facts.proofs.Tells.{tells-no-order}
 use Rattle.step_facts.proofs.Within.{On, done, lit, end, Done, sets, cancels, secures, opens, is-done, phase-lit}
 use Rattle.step_facts.proofs.Within as within
 use Rattle.safety.proofs.Given.{granted, box-follows, block-given}
@@ -53,7 +56,7 @@ pub data OwnRoute (s t : State) (e : Event) (r : ℕ) : Type 0 where
 
 -- by its kind
 pub own-route : (L : Layout) → L .routes ≤ mostTrainRoutes → (s : State) (e : Event) (r : ℕ) → r < L .routes → OwnRoute s (done L s e) e r
-unfolding ownSection ownSet ownCancel ownSecure ownManual withSections withRoutes withLines
+unfolding ownSection ownSet ownCancel ownSecure ownManual withSections withRoutes withLines withAxles
 own-route L few s e r b = go (is-done L s e)
   where
     same : {t : State} → e .kind ≢ 4 → e .kind ≢ 5 → (t .phase ≡ s .phase) × (t .steps ≡ s .steps) × (t .seconds ≡ s .seconds) → OwnRoute s t e r
@@ -68,7 +71,7 @@ own-route L few s e r b = go (is-done L s e)
     other n xs v c d = put-elsewhere n 0 xs _ v r (omega arith) (λ z. d (sym z))
 
     go : {t : State} → Done L s e t → OwnRoute s t e r
-    go (within.reads k) = same (omega arith) (omega arith) (refl, refl, refl)
+    go (within.reads t) = same (λ k. tells-no-order t (omega arith)) (λ k. tells-no-order t (omega arith)) (refl, refl, refl)
     go (sets k) = at (ℕ-discrete (e .first) r)
       where
         at : Dec (e .first ≡ r) → OwnRoute s (ownSet s (e .first)) e r
@@ -83,7 +86,7 @@ own-route L few s e r b = go (is-done L s e)
         at (no d) = keep (λ v. d (v .1)) (λ v. d (v .1)) (other mostRoutes _ 3 (omega arith) d) refl (other mostTrainRoutes _ 0 (omega arith) d)
     go (secures k) = same (omega arith) (omega arith) (refl, refl, refl)
     go (opens k) = same (omega arith) (omega arith) (refl, refl, refl)
-    go (within.leaves f u) = same (f .1) (f .2) (u .1, u .4, u .5)
+    go (within.leaves f u) = same (f .0) (f .1) (u .1, u .4, u .5)
 
 -- a signal falls from proceed, or the phase stays
 fell : (L : Layout) → L .routes ≤ mostTrainRoutes → (s : State) (e : Event) (r : ℕ) → r < L .routes
@@ -167,12 +170,13 @@ end-route L few s e r b = go (which (eqb (phase (lit L s e) r) 0)) (which (goesT
 
 -- ---- what the release asks, as the history tells it
 
-module _ (L : Layout) (S : Sound L) (s : State) (h : History) (I : Inv L s h) (e : Event) (r : ℕ) (b : r < L .routes) where
+module _ (L : Layout) (S : Sound L) (s : State) (h : History) (I : Inv L s h) (e : Event)
+    (pass : refusal (sound L and inRange s) L s (e .kind) (e .first) (e .second) .number ≡ 0) (r : ℕ) (b : r < L .routes) where
   -- a section: what it is given, and what it reads
   of-section : (g : ℕ) → g < L .sections → watchedSection (done L s e .section) (givenBy L s e) g
       ≡ record { given = gaveSection L g (granted L s e) h; reads = sectionReads L g (granted L s e ∷ h) }
   unfolding watchedSection
-  of-section g c = rw (box-follows L s e h g c (omega (arith, S .ranges .sectionCount)), reads-done L S s h I e g c)
+  of-section g c = rw (box-follows L s e h (I .heads) pass g (omega (arith, S .ranges .sectionCount)), reads-done L S s h I e pass g c)
 
   -- a section of the path is there
   on-path : (j : ℕ) → j < routeIn L r .paths → path L r j < L .sections
@@ -221,10 +225,10 @@ module _ (L : Layout) (S : Sound L) (s : State) (h : History) (I : Inv L s h) (e
           → readings.reading (done L s e .section) (read mostListed 0 (routeIn L r .path) j) ≡ sectionReads L (path L r j) (granted L s e ∷ h)
       section-reads j c =
           ap (readings.reading (done L s e .section)) (read-at mostListed 0 (routeIn L r .path) j (omega (arith, S .ranges .routes r b .pathCount)))
-          ∙ reads-done L S s h I e _ (on-path j c)
+          ∙ reads-done L S s h I e pass _ (on-path j c)
 
       end-reads : routeIn L r .kind ≡ 1 → endReading (L .line) (done L s e .section) (routeIn L r) ≡ reads (gaveEnd L r) (granted L s e ∷ h)
-      end-reads k = reads-done L S s h I e _ (end-there (inl k))
+      end-reads k = reads-done L S s h I e pass _ (end-there (inl k))
 
       counted : (j : ℕ) → j < routeIn L r .paths → (routeIn L r .kind ≢ 2 → j + 1 < routeIn L r .paths) → j < toVacate (routeIn L r)
       counted j c d = if-both (λ n. j < n) _ (λ t. c) (λ f. let y = d (eqb-false _ 2 f) in omega arith)

@@ -1,8 +1,10 @@
+pub mod Heads
 pub mod Given
 pub mod Told
 pub mod Steps
 pub mod Invariant
 pub mod ReadAfter
+pub mod HeadsKept
 pub mod Blocks
 pub mod Beyond
 pub mod Signals
@@ -21,6 +23,7 @@ pub mod Upright
 pub mod Lines
 pub mod Refused
 pub mod Kept
+pub mod HeadsTold
 pub mod EveryEvent
 pub mod SignalBytes
 pub mod Alone

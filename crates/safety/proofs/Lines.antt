@@ -32,6 +32,7 @@ use Rattle.safety.specs.Secured.{Barred, lastBlock, LineEnds, StaysSecur
 use Rattle.laws.proofs.Choice.{chosen, passed-over}
 use Rattle.step_facts.proofs.Entries.{phase, direction, stage, barAt, ends, read-each, put-here}
 use Rattle.step_facts.proofs.Passed.{secure-neutral}
+use Rattle.step_facts.proofs.Tells.{tells-no-order}
 use Rattle.step_facts.proofs.Within.{On, done, moved, end, Done, reads, sets, cancels, secures, opens, leaves, is-done, direction-same, released}
 use Rattle.safety.proofs.Given.{granted}
 use Rattle.safety.proofs.Told.{reads-kept, entered-reads}
@@ -52,12 +53,12 @@ module _ (L : Layout) (few : L .lines ≤ mostLines) (s : State) (e : Event) (l 
   by-hand u = go (is-done L s e)
     where
       go : {t : State} → Done L s e t → direction t l ≡ 0
-      go (reads k) = absurd (let v = u .0 in omega arith)
+      go (reads t) = absurd (tells-no-order t (let v = u .0 in omega arith))
       go (sets k) = absurd (let v = u .0 in omega arith)
       go (cancels k) = absurd (let v = u .0 in omega arith)
       go (secures k) = absurd (let v = u .0 in omega arith)
       go (opens k) = put-here mostLines 0 (s .direction) _ 0 l (omega arith) (sym (u .1))
-      go (leaves f v) = absurd (f .4 (u .0))
+      go (leaves f v) = absurd (f .3 (u .0))
 
   -- the line that is secured has the direction that was ordered
   by-order : On 6 e l → direction (done L s e) l ≡ e .second
@@ -65,12 +66,12 @@ module _ (L : Layout) (few : L .lines ≤ mostLines) (s : State) (e : Event) (l 
   by-order u = go (is-done L s e)
     where
       go : {t : State} → Done L s e t → direction t l ≡ e .second
-      go (reads k) = absurd (let v = u .0 in omega arith)
+      go (reads t) = absurd (tells-no-order t (let v = u .0 in omega arith))
       go (sets k) = absurd (let v = u .0 in omega arith)
       go (cancels k) = absurd (let v = u .0 in omega arith)
       go (secures k) = put-here mostLines 0 (s .direction) _ _ l (omega arith) (sym (u .1))
       go (opens k) = absurd (let v = u .0 in omega arith)
-      go (leaves f v) = absurd (f .3 (u .0))
+      go (leaves f v) = absurd (f .2 (u .0))
 
   -- and then the line release
   direction-end : direction (end L s e) l ≡ directionAfter (ends L s (moved L s e)) l (direction (done L s e) l)

@@ -27,7 +27,7 @@ use Rattle.layout.specs.declared.Layout.{Layout}
 use Rattle.layout.specs.Layout.{lineIn, routeIn}
 use Rattle.layout.specs.Sound.{sound}
 use Rattle.layout_facts.specs.Plain.{ownSection, nearestBlock, linePoint, linePosition, path, overlap, routePoint, routePosition, RouteRanges, Sound}
-use Rattle.reasons.specs.Refusal.{found}
+use Rattle.reasons.specs.Refusal.{noRefusal, refused, found}
 use Rattle.reasons.specs.Searches.{misplaced, routeLocks, lineLocks, failing}
 use Rattle.reasons.specs.Reasons.{notFree, notPlaced, conflicting, byRoute, byLine, exitLocked, blockBarred, blockHeld}
 use Rattle.refusals.specs.Events.{numbersRefusal}
@@ -61,15 +61,23 @@ none-means n = right-means (eqb-means n 0)
 module _ (L : Layout) (ok : sound L ≡ true) (S : Sound L) (s : State) (h : History) (I : Inv L s h) where
   -- ---- an event by its row
 
-  -- 18 is not given, since layout and state are sound; then 2, 3, and what is refused besides of an object that there is
-  pub row-means : (a : ℕ) (row : Row) {A B C : Type 0} → row .missing ≡ false ↔ A → row .wrong ≡ false ↔ B → (A → Lifts (row .besides) C)
-      → Lifts (rowRefusal (sound L and inRange s) a row) (A × B × C)
+  -- 18 is not given, since layout and state are sound; then 2, 30 or 34, 3, and what is refused besides of an object that there is and fits
+  pub fit-means : (a : ℕ) (row : Row) {A F B C : Type 0} → row .missing ≡ false ↔ A → Lifts (row .misfit) F → row .wrong ≡ false ↔ B → (A → F → Lifts (row .besides) C)
+      → Lifts (rowRefusal (sound L and inRange s) a row) (A × F × B × C)
   unfolding rowRefusal numbersRefusal
-  row-means a row there second order =
-      Iff·trans (reasons-mean (reasons-mean (unless-means 0 (omega arith) Iff·rfl before fails-means a (omega arith) before last (fails-means 0 (omega arith))) before last Iff·rfl)) (
-        λ ((sounds, (m, w)), o). let p = there .0 m in (p, second .0 w, order p .0 o),
-        λ (p, w, o). ((and-both _ _ ok (I .ranged), (there .1 p, second .1 w)), order p .1 o),
+  fit-means a row there fits second order =
+      Iff·trans (reasons-mean (reasons-mean (unless-means 0 (omega arith) Iff·rfl before fails-means a (omega arith) before fits before last (fails-means 0 (omega arith))) before last Iff·rfl)) (
+        λ ((sounds, (m, (f, w))), o). let p = there .0 m in (p, f, second .0 w, order p f .0 o),
+        λ (p, f, w, o). ((and-both _ _ ok (I .ranged), (there .1 p, (f, second .1 w))), order p f .1 o),
       )
+
+  -- of an event that asks nothing of heads 30 and 34 are not given
+  pub row-means : (a : ℕ) (row : Row) {A B C : Type 0} → row .missing ≡ false ↔ A → row .misfit ≡ noRefusal → row .wrong ≡ false ↔ B
+      → (A → Lifts (row .besides) C) → Lifts (rowRefusal (sound L and inRange s) a row) (A × B × C)
+  unfolding noRefusal refused
+  row-means a row there none second order =
+      let fits : Lifts (row .misfit) (Unit {0}) = (λ z. tt, λ z. rw none) in
+      Iff·trans (fit-means a row there fits second (λ p f. order p)) (λ (p, f, w, o). (p, w, o), λ (p, w, o). (p, tt, w, o))
 
   -- ---- what the reasons ask
 
@@ -133,7 +141,7 @@ module _ (L : Layout) (ok : sound L ≡ true) (S : Sound L) (s : State) (h : His
   pub throw-means : (a b : ℕ) → Lifts (rowRefusal (sound L and inRange s) a (throwRow L s a b)) (MayThrow L a b h)
   unfolding throwRow throwRefusal byRoute byLine routeLocks lineLocks among lineIn routeIn linePoint routePoint ownSection
   throw-means a b =
-      Iff·trans (row-means a _ (there-means _ a) (two-means b) (λ p. reasons-mean (routes before lines before last (own p)))) (
+      Iff·trans (row-means a _ (there-means _ a) refl (two-means b) (λ p. reasons-mean (routes before lines before last (own p)))) (
         λ (p, w, (r, (l, f))). record {
           there = p;
           position = w;
@@ -204,7 +212,7 @@ module _ (L : Layout) (ok : sound L ≡ true) (S : Sound L) (s : State) (h : His
   pub set-means : (a b : ℕ) → Lifts (rowRefusal (sound L and inRange s) a (setRow L s a b)) (MaySet L a b h)
   unfolding setRow setRefusal conflicting routeIn
   set-means a b =
-      Iff·trans (row-means a _ (there-means _ a) (none-means b) (λ p.
+      Iff·trans (row-means a _ (there-means _ a) refl (none-means b) (λ p.
       reasons-mean (if-means _ (omega arith) (lock-means a p) before found-means (omega arith) (λ q c. and-means (lock-means q c) Iff·rfl) before last (route-means a p)))) (
         λ (p, w, (i, (f, (m, x)))). record { there = p; unused = w; idle = i; apart = λ q c t y. f q c (y, t); clear = m; secured = x },
         λ m. (m .there, m .unused, (m .idle, (λ q c (y, t). m .apart q c t y, (m .clear, m .secured)))),
@@ -216,7 +224,7 @@ module _ (L : Layout) (ok : sound L ≡ true) (S : Sound L) (s : State) (h : His
   pub cancel-means : (a b : ℕ) → Lifts (rowRefusal (sound L and inRange s) a (cancelRow L s a b)) (MayCancel L a b h)
   unfolding cancelRow cancelRefusal
   cancel-means a b =
-      Iff·trans (row-means a _ (there-means _ a) (none-means b) (λ p.
+      Iff·trans (row-means a _ (there-means _ a) refl (none-means b) (λ p.
       reasons-mean (unless-means _ (omega arith) (lock-means a p) before last (if-means _ (omega arith) (eqb-means (phase s a) 3))))) (
         λ (p, w, (y, n)). record { there = p; unused = w; locked = y; standing = λ c. n (I .routes a p .cancels (I .routes a p .locks .1 y) .1 c) },
         λ m. let told = I .routes a (m .there) in (m .there, m .unused, (m .locked, λ z. m .standing (told .cancels (told .locks .1 (m .locked)) .0 z))),
@@ -228,7 +236,7 @@ module _ (L : Layout) (ok : sound L ≡ true) (S : Sound L) (s : State) (h : His
   pub secure-means : (a b : ℕ) → Lifts (rowRefusal (sound L and inRange s) a (secureRow L s a b)) (MaySecure L a b h)
   unfolding secureRow secureRefusal blockBarred blockHeld lineIn
   secure-means a b =
-      Iff·trans (row-means a _ (there-means _ a) (two-means b) (λ p.
+      Iff·trans (row-means a _ (there-means _ a) refl (two-means b) (λ p.
       reasons-mean (unless-means _ (omega arith) (neutral-means a p) before blocks-means a p _ (omega arith) (unbarred-means a p) before line-means a p before
       last (blocks-means a p _ (omega arith) (open-means a p))))) (
         λ (p, w, (n, (u, (q, o)))). record { there = p; direction = w; isNeutral = n; unbarred = u; placed = q; allOpen = o },
@@ -241,7 +249,7 @@ module _ (L : Layout) (ok : sound L ≡ true) (S : Sound L) (s : State) (h : His
   pub release-means : (a b : ℕ) → Lifts (rowRefusal (sound L and inRange s) a (manualRow L s a b)) (MayRelease L a b h)
   unfolding manualRow manualRefusal exitLocked lockedExit lockedExitBy lineSections lineIn routeIn between
   release-means a b =
-      Iff·trans (row-means a _ (there-means _ a) ground (λ p. reasons-mean (exits before last (sections p)))) (
+      Iff·trans (row-means a _ (there-means _ a) refl ground (λ p. reasons-mean (exits before last (sections p)))) (
         λ (p, w, (x, f)). record { there = p; ground = w; noExit = λ r c k l y. x r c (y, (k, l)); isFree = f },
         λ m. (m .there, m .ground, (λ r c (y, (k, l)). m .noExit r c k l y, m .isFree)),
       )

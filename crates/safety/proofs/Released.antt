@@ -66,7 +66,7 @@ module _ (L : Layout) (S : Sound L) (s : State) (h : History) (I : Inv L s h) (e
       sets = (refl, u .0, u .1)
 
       none : stepsThen L s e r ≡ 0
-      none = rw (pair-told L S s h I e r b, q) (none-taken L r now h sets)
+      none = rw (pair-told L S s h I e pass r b, q) (none-taken L r now h sets)
 
       not-three : phase (lit L s e) r ≢ 3
       not-three c = omega (arith, lit-cancelling L few s e r b .0 c, p)

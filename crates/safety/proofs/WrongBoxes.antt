@@ -16,7 +16,7 @@ use Rattle.interlocking.specs.State.{tablesOf, withSections}
 use Rattle.interlocking.specs.Own.{ownStageAt, ownSection}
 use Rattle.interlocking.specs.Settle.{signals, farSections, routes, lineRelease, settle}
 use Rattle.interlocking.specs.declared.Answer.{Answer}
-use Rattle.interlocking.specs.Rows.{sectionRow, throwRow, setRow, secureRow, manualRow, rowOf}
+use Rattle.interlocking.specs.Rows.{sectionRow, throwRow, setRow, secureRow, manualRow, rowWith, rowOf}
 use Rattle.interlocking.specs.Step.{rowRefusal, stepInRun, refusal, own, after}
 use Rattle.signals.specs.BlockSignals.{blockShows}
 use Rattle.panel.specs.Panel.{blockBytes, lineBytes, image}
@@ -41,7 +41,7 @@ pub own-refusals : (L : Layout) (s : State) (e : Event)
     × (refuseBy 4 (λ L s r. setRefusal L (tablesOf s) r) L s e ≡ refuses L s e)
     × (refuseBy 6 (λ L s l. secureRefusal L (tablesOf s) l) L s e ≡ refuses L s e)
     × (refuseBy 7 (λ L s l. manualRefusal L (tablesOf s) l) L s e ≡ refuses L s e)
-unfolding refusal rowRefusal rowOf throwRow setRow secureRow manualRow if_then_else_
+unfolding refusal rowRefusal rowOf rowWith throwRow setRow secureRow manualRow if_then_else_
 own-refusals L s e = (
   if-both (λ (r : Refusal). r ≡ refuses L s e) (eqb (e .kind) 3) (λ t. rw (eqb-true (e .kind) 3 t)) (λ f. refl),
   if-both (λ (r : Refusal). r ≡ refuses L s e) (eqb (e .kind) 4) (λ t. rw (eqb-true (e .kind) 4 t)) (λ f. refl),
@@ -51,7 +51,7 @@ own-refusals L s e = (
 
 -- a block's own reading
 pub own-readings : (L : Layout) (s : State) (e : Event) → readBy ownStage L s e ≡ does L s e
-unfolding own rowOf sectionRow ownSection ownStageAt withSections if_then_else_
+unfolding own rowOf rowWith sectionRow ownSection ownStageAt withSections if_then_else_
 own-readings L s e = if-both (λ (t : State). t ≡ does L s e) (eqb (e .kind) 1) (λ t. rw (eqb-true (e .kind) 1 t)) (λ f. refl)
 
 -- far sections

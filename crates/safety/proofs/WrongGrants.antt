@@ -1,5 +1,6 @@
 -- They are refused by what is granted, by computation over the bytes of their layouts.
 use mathlib.Core.Path.{_≡_, refl}
+use mathlib.Core.Logic.{inl, inr}
 use native.Mathlib.Omega.{arith}
 use borrow.Author.Tests.{eqb-false}
 use lib.Dec.{lit<}
@@ -8,7 +9,7 @@ use Rattle.layout.specs.Load.{load}
 use Rattle.layout_facts.specs.BranchT.{layoutT}
 use Rattle.step_facts.specs.Run.{Event}
 use Rattle.safety.specs.History.{History}
-use Rattle.safety.specs.Grants.{MaySet, MaySecure, Grants, section, point, throw, set, cancel, secure, release, bar, unbar, second}
+use Rattle.safety.specs.Grants.{MaySet, MaySecure, Grants, section, point, throw, set, cancel, secure, release, bar, unbar, second, count, silence, reset}
 use Rattle.safety.specs.OtherLayouts.{withOverlap}
 use Rattle.safety.specs.WrongRuns.{told}
 use Rattle.safety.specs.WrongGrants.{MisjudgedLast, overTheOverlap, turnedUnder, noBar}
@@ -28,6 +29,10 @@ granted-orders L e h (release k x) = (λ q. absurd (omega arith), λ q. absurd (
 granted-orders L e h (bar k x) = (λ q. absurd (omega arith), λ q. absurd (omega arith))
 granted-orders L e h (unbar k x) = (λ q. absurd (omega arith), λ q. absurd (omega arith))
 granted-orders L e h (second k x) = (λ q. absurd (omega arith), λ q. absurd (omega arith))
+granted-orders L e h (count (inl k) x) = (λ q. absurd (omega arith), λ q. absurd (omega arith))
+granted-orders L e h (count (inr k) x) = (λ q. absurd (omega arith), λ q. absurd (omega arith))
+granted-orders L e h (silence k x) = (λ q. absurd (omega arith), λ q. absurd (omega arith))
+granted-orders L e h (reset k x) = (λ q. absurd (omega arith), λ q. absurd (omega arith))
 
 -- it was accepted, and the overlap does not read free
 pub overlap-not-free : MisjudgedLast (load withOverlap .layout) (told overTheOverlap)

@@ -2,17 +2,18 @@
 -- stands above it. On an accepted layout, in a run, nothing is refused by 18.
 --
 -- Read as `Demand3` says; h is what was before the event, a and b are its two numbers.
-use Prim.Native.Nat.{ℕ, _<_, _≤_}
+use Prim.Native.Nat.{ℕ, _*_, _/_, _<_, _≤_}
 use mathlib.Core.Path.{_≡_}
 use mathlib.Core.Logic.{_≢_, _⊎_, _↔_}
-use mathlib.Core.Bool.{true}
+use mathlib.Core.Bool.{true, false}
 use mathlib.Core.List.{List}
-use Rattle.track.specs.Codes.{free, left, right, exitRoute, neutral, aToB, bToA, leaving, readSection, readPoint, throwPoint, setRoute, cancelRoute, secureLine, releaseLine, barBlock, unbarBlock, oneSecond}
+use Rattle.track.specs.Codes.{free, left, right, exitRoute, neutral, aToB, bToA, leaving, readSection, readPoint, throwPoint, setRoute, cancelRoute, secureLine, releaseLine, barBlock, unbarBlock, oneSecond, axlesIn, axlesOut, headSilent, resetAxles}
 use Rattle.layout.specs.declared.Layout.{Layout}
-use Rattle.layout.specs.Layout.{lineIn, routeIn, conflict}
+use Rattle.layout.specs.Layout.{lineIn, routeIn, conflict, isFitted}
 use Rattle.layout.specs.Load.{load}
+use Rattle.axles.specs.HeadLog.{bothSpeak}
 use Rattle.step_facts.specs.Run.{Event}
-use Rattle.safety.specs.History.{Moment, History, blockReads, Throughout, history}
+use Rattle.safety.specs.History.{Moment, History, headLog, blockReads, Throughout, history}
 use Rattle.safety.specs.Locked.{Cancelled, Locked}
 use Rattle.safety.specs.Cleared.{Opened}
 use Rattle.safety.specs.Secured.{Barred, Secured}
@@ -88,6 +89,42 @@ pub record MayRelease (L : Layout) (a b : ℕ) (h : History) : Type 0 where
 
 -- ---- events
 
+-- section a reads, with any code
+pub record MayRead (L : Layout) (a : ℕ) : Type 0 where
+  -- 2
+  pub there : a < L .sections
+  -- 34
+  pub noHeads : isFitted L a ≡ false
+
+-- head a, of section a / 2, has counted b axles in, or out (L1)
+pub record MayCount (L : Layout) (a b : ℕ) : Type 0 where
+  -- 2
+  pub there : a < 2 * L .sections
+  -- 30
+  pub heads : isFitted L (a / 2) ≡ true
+  -- 3
+  pub sixteenBits : b ≤ 65535
+
+-- head a is silent (L1)
+pub record MaySilence (L : Layout) (a b : ℕ) : Type 0 where
+  -- 2
+  pub there : a < 2 * L .sections
+  -- 30
+  pub heads : isFitted L (a / 2) ≡ true
+  -- 3
+  pub unused : b ≡ 0
+
+-- the heads of section a are reset (L1)
+pub record MayReset (L : Layout) (a b : ℕ) (h : History) : Type 0 where
+  -- 2
+  pub there : a < L .sections
+  -- 30
+  pub heads : isFitted L a ≡ true
+  -- 3
+  pub unused : b ≡ 0
+  -- 35
+  pub speak : bothSpeak (headLog a h) ≡ true
+
 -- there is block b of line a
 pub record BlockThere (L : Layout) (a b : ℕ) : Type 0 where
   -- 2
@@ -95,10 +132,10 @@ pub record BlockThere (L : Layout) (a b : ℕ) : Type 0 where
   -- 3
   pub block : b < lineIn L a .blocks
 
--- the event is of a kind that section 3's table has, and there is what it asks. Every other kind is refused by 1
+-- the event is of a kind that section 3's table or L1 has, and there is what it asks. Every other kind is refused by 1
 pub data Grants (L : Layout) (e : Event) (h : History) : Type 0 where
-  -- readings, with any code: 2
-  section : e .kind ≡ readSection → e .first < L .sections → Grants L e h
+  -- readings, with any code; of a point 2
+  section : e .kind ≡ readSection → MayRead L (e .first) → Grants L e h
   point : e .kind ≡ readPoint → e .first < L .points → Grants L e h
   -- orders
   throw : e .kind ≡ throwPoint → MayThrow L (e .first) (e .second) h → Grants L e h
@@ -111,6 +148,10 @@ pub data Grants (L : Layout) (e : Event) (h : History) : Type 0 where
   unbar : e .kind ≡ unbarBlock → BlockThere L (e .first) (e .second) → Grants L e h
   -- a second: 3, for both numbers
   second : e .kind ≡ oneSecond → (e .first ≡ 0) × (e .second ≡ 0) → Grants L e h
+  -- heads (L1)
+  count : (e .kind ≡ axlesIn) ⊎ (e .kind ≡ axlesOut) → MayCount L (e .first) (e .second) → Grants L e h
+  silence : e .kind ≡ headSilent → MaySilence L (e .first) (e .second) → Grants L e h
+  reset : e .kind ≡ resetAxles → MayReset L (e .first) (e .second) h → Grants L e h
 
 -- ---- what is proved
 

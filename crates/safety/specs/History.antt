@@ -1,6 +1,6 @@
 -- A run as an outsider with a log sees it: of each event its three numbers, the number and the detail of its answer, and the bytes of the panel image after
 -- it. What is told of a history looks at nothing else. What is given to a section is told from the layout and the events alone, whatever the box
--- answered: every code counts (section 1).
+-- answered: every code counts (section 1), and all that was said of its heads (L1).
 use Prim.Native.Nat.{ℕ}
 use mathlib.Core.Path.{_≡_}
 use mathlib.Core.Logic.{_≢_, _⊎_}
@@ -11,13 +11,15 @@ use Rattle.laws.specs.Tests.{_and_}
 use Rattle.track.specs.Codes.{free, occupied, readsNone, readSection, releaseLine, oneSecond}
 use Rattle.track.specs.Blocks.{jointReading}
 use Rattle.layout.specs.declared.Layout.{Layout}
-use Rattle.layout.specs.Layout.{lineIn}
+use Rattle.layout.specs.Layout.{lineIn, isFitted}
+use Rattle.axles.specs.HeadLog.{HeadLog, readingTold}
 use Rattle.interlocking.specs.declared.State.{State}
 use Rattle.interlocking.specs.declared.Answer.{Answer}
 use Rattle.interlocking.specs.State.{cold}
 use Rattle.panel.specs.Panel.{image}
 use Rattle.step_facts.specs.Run.{Event, box}
 use Rattle.panel.specs.Shown.{Panel, panel}
+use Rattle.safety.specs.HeadsTold.{saidOf, saying, counts}
 
 -- ---- moments
 
@@ -41,12 +43,25 @@ Given = Moment → History → ℕ
 abbrev pub nothing : ℕ
 nothing = 0
 
--- what it gives section g. A reading of a section that there is is accepted whatever its code: code 1 is free, 2 is occupied, every other code is none
+-- what event e gives section g by a reading of it: code 1 is free, 2 is occupied, every other code is none
+unfoldable pub gaveByReading : ℕ → Event → ℕ
+gaveByReading g e =
+    if eqb (e .kind) readSection and eqb (e .first) g then (if eqb (e .second) 1 then free else if eqb (e .second) 2 then occupied else readsNone) else nothing
+
+-- L1: what it gives section g by what it says of its heads, of which was said es before: what they then read
+unfoldable pub gaveByHeads : ℕ → Event → HeadLog → ℕ
+gaveByHeads g e es = if saidOf g e and counts e es then readingTold (saying e ∷ es) else nothing
+
+-- L1: what was said of the heads of section g, newest first
+unfoldable pub headLog : ℕ → History → HeadLog
+headLog g [] = []
+headLog g (m ∷ h) = if saidOf g (m .event) then saying (m .event) ∷ headLog g h else headLog g h
+
+-- what an event gives section g: by its heads where it has heads (L1), else by a reading of it; nothing where there is no such section. Every event that gives
+-- something is accepted, whatever its code
 unfoldable pub gaveSection : Layout → ℕ → Given
 gaveSection L g m h =
-    if eqb (m .event .kind) readSection and (eqb (m .event .first) g and ltb g (L .sections)) then
-    (if eqb (m .event .second) 1 then free else if eqb (m .event .second) 2 then occupied else readsNone)
-    else nothing
+    if ltb g (L .sections) then (if isFitted L g then gaveByHeads g (m .event) (headLog g h) else gaveByReading g (m .event)) else nothing
 
 -- what it gives block i of line l
 abbrev pub gaveBlock : Layout → ℕ → ℕ → Given

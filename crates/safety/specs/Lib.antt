@@ -1,4 +1,5 @@
 pub mod Cases
+pub mod HeadsTold
 pub mod History
 pub mod Locked
 pub mod Cleared

@@ -1,5 +1,5 @@
 -- It lets trains pass, on every accepted layout and from every state that a run reaches: a train that is in a block, in stage 1, with its far signal at
--- proceed clears the block by going on: its far section reads occupied, then the block free. Beside the demands of document 01.
+-- proceed clears the block by going on: its far section is given occupied, then the block free. Beside the demands of document 01.
 --
 -- Read as `Demand3` says.
 use Prim.Native.Nat.{ℕ, _<_}
@@ -11,11 +11,23 @@ use Rattle.track.specs.Blocks.{onlySection}
 use Rattle.layout.specs.declared.Layout.{Layout}
 use Rattle.layout.specs.Layout.{lineIn}
 use Rattle.layout.specs.Load.{load}
-use Rattle.step_facts.specs.Run.{Event, event}
-use Rattle.safety.specs.History.{shown, history}
+use Rattle.step_facts.specs.Run.{Event, event, box, fromCold}
+use Rattle.safety.specs.History.{gaveSection, shown, moment, history}
 use Rattle.safety.specs.Cleared.{farSection, farSignal, Proceeds}
 
--- the two readings of a train that leaves block i of line l in direction w: the far section is occupied, then the block's one section is free
+-- the next event after the events es, e, gives section g the reading v
+abbrev pub GivesNext : Layout → List Event → Event → ℕ → ℕ → Type 0
+GivesNext L es e g v = gaveSection L g (moment L e (box L (fromCold L es) e)) (history L es) ≡ v
+
+-- on layout L: an event that gives the far section occupied, and one after it that gives the block free, whatever they are, open the block
+abbrev pub PassesOn : Layout → Type 0
+PassesOn L =
+    (es : List Event) (l i w : ℕ) (e f : Event) → l < L .lines → i < lineIn L l .blocks
+    → shown L (history L es) .block l i ≡ stage1 → shown L (history L es) .line l ≡ w → w ≢ neutral → Proceeds (shown L (history L es)) (farSignal L l i w)
+    → GivesNext L es e (farSection L l i w) occupied → GivesNext L (es ++ (e ∷ [])) f (onlySection (lineIn L l) i) free
+    → shown L (history L (es ++ (e ∷ f ∷ []))) .block l i ≡ openBlock
+
+-- so the two readings of a train that leaves block i of line l in direction w, where no section has heads: the far section is occupied, then the block's one section is free
 abbrev pub leavesBlock : Layout → ℕ → ℕ → ℕ → List Event
 leavesBlock L l i w = event readSection (farSection L l i w) occupied ∷ event readSection (onlySection (lineIn L l) i) free ∷ []
 

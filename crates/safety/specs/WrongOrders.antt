@@ -31,7 +31,7 @@ use Rattle.safety.specs.WrongBoxes.{Box, stepBy, refuses, does}
 abbrev pub refuseBy : ℕ → (Layout → State → ℕ → Refusal) → Layout → State → Event → Refusal
 refuseBy k refuse L s e =
     let row : Row = rowOf L s k (e .first) (e .second) in
-    if eqb (e .kind) k then firstOf (numbersRefusal (askedInRun L) (row .missing) (e .first) (row .wrong) ∷ refuse L s (e .first) ∷ []) else refuses L s e
+    if eqb (e .kind) k then firstOf (numbersRefusal (askedInRun L) (row .missing) (e .first) (row .misfit) (row .wrong) ∷ refuse L s (e .first) ∷ []) else refuses L s e
 
 -- the box that refuses so
 abbrev refusesBy : ℕ → (Layout → State → ℕ → Refusal) → Box
