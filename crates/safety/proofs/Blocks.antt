@@ -21,7 +21,8 @@ use Rattle.step_facts.specs.Run.{Event}
 use Rattle.safety.specs.History.{History, gaveBlock}
 use Rattle.step_facts.proofs.Entries.{stage, block}
 use Rattle.step_facts.proofs.Within.{On, done}
-use Rattle.safety.proofs.Given.{granted, gave-few, order-gives-nothing, own-by-hand, own-follows}
+use Rattle.safety.proofs.Given.{granted, gave-few, order-gives-nothing}
+use Rattle.safety.proofs.GivenBlock.{own-by-hand, own-follows}
 use Rattle.safety.proofs.Invariant.{Inv}
 
 -- ---- its own reading

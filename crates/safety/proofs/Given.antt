@@ -1,6 +1,6 @@
 -- What is given: its laws. An event gives one section at most, and one of three values; a refused event and an order give nothing; what is stored, what the
 -- release of routes is told and what blocks go by follow it. Nothing else looks at the kind of a reading.
-use Prim.Native.Nat.{ℕ, _/_, _%_, _<_, _≤_}
+use Prim.Native.Nat.{ℕ, _<_, _≤_}
 use mathlib.Core.Path.{_≡_, refl, sym, ap, _∙_}
 use mathlib.Core.Logic.{_≢_, inl, inr}
 use mathlib.Core.HLevel.{dec→stable}
@@ -9,45 +9,38 @@ use mathlib.Core.List.{List, _∷_}
 use native.Mathlib.Decide.{ℕ-discrete}
 use native.Mathlib.Omega.{arith}
 use borrow.Author.Tests.{eqb-true, eq-eqb, ne-eqb, ltb-true, lt-ltb}
-use lib.Dec.{eqb, ltb}
+use lib.Dec.{eqb}
 use Rattle.laws.specs.Choice.{if_then_else_}
 use Rattle.laws.specs.Tests.{_and_}
 use Rattle.laws.specs.Tables.{read, put}
 use Rattle.laws.proofs.Choice.{if-both, chosen, passed-over}
 use Rattle.laws.proofs.Tests.{and-left, and-right, and-both, implied, not-both, fails-from}
-use Rattle.track.specs.Sizes.{mostSections, mostBlocks}
-use Rattle.track.specs.Objects.{line}
-use Rattle.track.specs.declared.Line.{Line}
-use Rattle.track.specs.Blocks.{onlySection, inBlock}
-use Rattle.tables.specs.declared.Gives.{Gives}
-use Rattle.tables.specs.Readings.{recorded, given, blockGiven}
+use Rattle.track.specs.Sizes.{mostSections}
+use Rattle.tables.specs.Readings.{recorded, given}
 use Rattle.tables.specs.Readings as readings
-use Rattle.tables.specs.Blocks.{place}
-use Rattle.passage.specs.Passage.{ownStage}
 use Rattle.axles.specs.declared.Axles.{Axles}
 use Rattle.axles.specs.Heads.{speaking, axlesReading}
 use Rattle.axles.specs.HeadLog.{bothSpeak, readingTold}
 use Rattle.layout.specs.declared.Layout.{Layout}
-use Rattle.layout.specs.Layout.{lineIn, isFitted}
+use Rattle.layout.specs.Layout.{isFitted}
 use Rattle.layout.specs.Sound.{sound}
-use Rattle.layout_facts.specs.Plain.{Sound}
 use Rattle.interlocking.specs.declared.State.{State}
 use Rattle.interlocking.specs.State.{inRange, headsAt, withSections, withRoutes, withLines, withAxles}
-use Rattle.interlocking.specs.Own.{ownGiven, ownStageAt, ownSection, ownSet, ownCancel, ownSecure, openAt, ownManual, headSection, headsOf, headsBy}
+use Rattle.interlocking.specs.Own.{ownSection, ownSet, ownCancel, ownSecure, ownManual, headSection, headsOf, headsBy}
 use Rattle.interlocking.specs.Rows.{Row, nothing, givesReading, aSecond, sectionRow, pointRow, throwRow, setRow, cancelRow, secureRow, manualRow, barRow, secondRow, headRow, countRow, silentRow, resetRow, noRow}
 use Rattle.interlocking.specs.Step.{refusal, gives}
 use Rattle.interlocking.proofs.Rows.{OfKind, section-row, point-row, throw-row, set-row, cancel-row, secure-row, manual-row, bar-row, unbar-row, second-row, count-row, silent-row, reset-row, no-row, row-of}
 use Rattle.panel.specs.Panel.{image}
 use Rattle.step_facts.specs.Run.{Event}
 use Rattle.step_facts.proofs.Own.{recorded-in, heads-say-in}
-use Rattle.step_facts.proofs.Tells.{head-named, reset-named, Tells, by-code, by-heads, Untold, tells-no-order}
+use Rattle.step_facts.proofs.Tells.{head-named, reset-named, Tells, by-code, by-heads, Untold}
 use Rattle.safety.specs.HeadsTold.{saying, counts}
-use Rattle.safety.specs.History.{Moment, History, gaveByReading, headLog, gaveByHeads, gaveSection, gaveBlock}
-use Rattle.step_facts.proofs.Entries.{stage, block, put-here, put-elsewhere, place-line, place-block, read-block}
-use Rattle.step_facts.proofs.Within.{On, done, end, Done, reads, sets, cancels, secures, opens, leaves, is-done}
+use Rattle.safety.specs.History.{Moment, History, gaveByReading, headLog, gaveByHeads, gaveSection}
+use Rattle.step_facts.proofs.Entries.{put-here, put-elsewhere}
+use Rattle.step_facts.proofs.Within.{done, end, Done, reads, sets, cancels, secures, opens, leaves, is-done}
 use Rattle.step_facts.proofs.Passed.{reading-there, heads-there, reset-speaking}
 use Rattle.step_facts.proofs.Granted.{reading-granted, count-granted, silence-granted, reset-granted}
-use Rattle.safety.proofs.Heads.{SaidOf, counted, silenced, resets, said-is, said-kinds, said-one, said-passed, heads-gave, told-few, HeadsHeld, speaks-told, reading-then}
+use Rattle.safety.proofs.Heads.{SaidOf, counted, silenced, resets, said-is, said-kinds, said-one, said-passed, heads-gave, told-in, HeadsHeld, speaks-told, reading-then}
 
 -- the moment of an accepted event
 abbrev pub granted : Layout → State → Event → Moment
@@ -67,7 +60,7 @@ module _ (L : Layout) (g : ℕ) (m : Moment) (h : History) where
   unfolding gaveSection gaveByReading gaveByHeads
   gave-few =
       if-both Few _
-      (λ t. if-both Few _ (λ u. if-both Few _ (λ v. told-few _) (λ v. omega arith))
+      (λ t. if-both Few _ (λ u. if-both Few _ (λ v. told-in _ .1) (λ v. omega arith))
       (λ u. if-both Few _ (λ v. if-both Few _ (λ w. omega arith) (λ w. if-both Few _ (λ x. omega arith) (λ x. omega arith))) (λ v. omega arith)))
       (λ f. omega arith)
     where
@@ -92,7 +85,7 @@ module _ (L : Layout) (g : ℕ) (m : Moment) (h : History) where
   gives-none f = dec→stable (ℕ-discrete _ 0) (λ d. f (is-given d))
 
   -- one of another kind is none
-  untold-gives-nothing : Untold (m .event .kind) → gaveSection L g m h ≡ 0
+  pub untold-gives-nothing : Untold (m .event .kind) → gaveSection L g m h ≡ 0
   untold-gives-nothing u = gives-none no
     where
       no : ¬ Gave L g (m .event) h
@@ -109,7 +102,7 @@ module _ (L : Layout) (g : ℕ) (m : Moment) (h : History) where
   gives-recorded b f k q = chosen _ _ 0 (lt-ltb g _ b) ∙ passed-over _ _ _ f ∙ chosen _ _ 0 (and-both _ _ (eq-eqb _ 1 k) (eq-eqb _ g q))
 
   -- an event that says something of a section's heads gives it what the log of them then reads
-  gives-said : g < L .sections → isFitted L g ≡ true → SaidOf g (m .event) → (m .event .kind ≡ 14 → bothSpeak (headLog g h) ≡ true)
+  pub gives-said : g < L .sections → isFitted L g ≡ true → SaidOf g (m .event) → (m .event .kind ≡ 14 → bothSpeak (headLog g h) ≡ true)
       → gaveSection L g m h ≡ readingTold (saying (m .event) ∷ headLog g h)
   unfolding gaveSection
   gives-said b f x y = chosen _ _ 0 (lt-ltb g _ b) ∙ chosen _ _ _ f ∙ heads-gave (headLog g h) x y
@@ -203,7 +196,7 @@ module _ (L : Layout) (s : State) (e : Event) (h : History) (H : HeadsHeld L (s 
         go (leaves d u) = rw (u .0) (same (d .4))
 
     -- what the box takes a reading to give the section follows it
-    reading-follows : {k v : ℕ} {xs : List Axles} → Tells s e k v xs → given (givesReading k v) g ≡ gaveSection L g (granted L s e) h
+    pub reading-follows : {k v : ℕ} {xs : List Axles} → Tells s e k v xs → given (givesReading k v) g ≡ gaveSection L g (granted L s e) h
     unfolding given givesReading
     reading-follows {k} {v} t = go (ℕ-discrete k g)
       where
@@ -239,72 +232,3 @@ module _ (L : Layout) (s : State) (e : Event) (h : History) (H : HeadsHeld L (s 
         go (silent-row q) = told (sym (head-named _ _ (omega arith))) (omega arith)
         go (reset-row q) = told (sym (reset-named _ _ q)) (omega arith)
         go (no-row u) = none (u .no-section, u .no-in, u .no-out, u .no-silent, u .no-reset) 0
-
--- ---- blocks
-
--- a block to which nothing is given stays
-own-nothing : (was : ℕ) → ownStage 0 was ≡ was
-unfolding ownStage if_then_else_
-own-nothing was = refl
-
--- what an event gives a block is what it gives its one section
-pub block-given : (g : Gives) (b : Line) (i : ℕ) → blockGiven g b i ≡ given g (onlySection b i)
-unfolding blockGiven given inBlock
-block-given g b i = go (ℕ-discrete (onlySection b i) (g .section))
-  where
-    go : Dec (onlySection b i ≡ g .section)
-        → (if eqb (onlySection b i) (g .section) then g .reading else 0) ≡ (if eqb (g .section) (onlySection b i) then g .reading else 0)
-    go (yes q) = chosen _ _ _ (eq-eqb _ _ q) ∙ sym (chosen _ _ _ (eq-eqb _ _ (sym q)))
-    go (no d) = passed-over _ _ _ (ne-eqb _ _ d) ∙ sym (passed-over _ _ _ (ne-eqb _ _ (λ z. d (sym z))))
-
--- so what it gives the block at the place of block i of line l
-given-at : (L : Layout) (l i : ℕ) (g : Gives) → i < lineIn L l .blocks → i < mostBlocks
-    → ownGiven g (line (L .line) (place l i / mostBlocks)) (place l i % mostBlocks) ≡ given g (block L l i)
-unfolding ownGiven lineIn
-given-at L l i g c d = rw (place-line l i d, place-block l i d) (chosen _ _ _ (lt-ltb i (lineIn L l .blocks) c) ∙ block-given g (lineIn L l) i)
-
-module _ (L : Layout) (S : Sound L) (s : State) (e : Event) (h : History) (H : HeadsHeld L (s .axles) h)
-    (pass : refusal (sound L and inRange s) L s (e .kind) (e .first) (e .second) .number ≡ 0) (l i : ℕ) (b : l < L .lines) (c : i < lineIn L l .blocks) where
-  -- a line has at most eight blocks
-  few-blocks : i < mostBlocks
-  few-blocks = omega (arith, S .ranges .lines l b .blockCount)
-
-  -- the block is the one at its place
-  here : e .first ≡ l → eqb (place l i / mostBlocks) (e .first) and ltb (place l i % mostBlocks) (line (L .line) (e .first) .blocks) ≡ true
-  unfolding lineIn
-  here z =
-      and-both _ _ (eq-eqb _ _ (place-line l i few-blocks ∙ sym z))
-      (lt-ltb (place l i % mostBlocks) (line (L .line) (e .first) .blocks) (rw (place-block l i few-blocks, z) c))
-
-  -- a manual release of its line opens the block
-  pub own-by-hand : On 7 e l → stage (done L s e) l i ≡ 0
-  unfolding ownManual withLines openAt
-  own-by-hand u = go (is-done L s e)
-    where
-      go : {t : State} → Done L s e t → stage t l i ≡ 0
-      go (reads t) = absurd (tells-no-order t (let v = u .0 in omega arith))
-      go (sets k) = absurd (let v = u .0 in omega arith)
-      go (cancels k) = absurd (let v = u .0 in omega arith)
-      go (secures k) = absurd (let v = u .0 in omega arith)
-      go (opens k) = read-block l i few-blocks (L .lines) _ (s .stage) b (S .ranges .lineCount) ∙ chosen _ _ _ (here (u .1))
-      go (leaves f v) = absurd (f .3 (u .0))
-
-  -- else its own stage follows what it is given
-  pub own-follows : ¬ On 7 e l → stage (done L s e) l i ≡ ownStage (gaveBlock L l i (granted L s e) h) (stage s l i)
-  unfolding ownSection ownSet ownCancel ownSecure ownManual withSections withRoutes withLines withAxles ownStageAt openAt givesReading
-  own-follows n = go (is-done L s e)
-    where
-      still : Untold (e .kind) → stage s l i ≡ ownStage (gaveBlock L l i (granted L s e) h) (stage s l i)
-      still u = sym (ap (λ v. ownStage v (stage s l i)) (untold-gives-nothing L (block L l i) (granted L s e) h u) ∙ own-nothing (stage s l i))
-
-      go : {t : State} → Done L s e t → stage t l i ≡ ownStage (gaveBlock L l i (granted L s e) h) (stage s l i)
-      go (reads t) =
-          read-block l i few-blocks (L .lines) _ (s .stage) b (S .ranges .lineCount)
-          ∙ ap (λ v. ownStage v (stage s l i)) (given-at L l i _ c few-blocks ∙ reading-follows L s e h H pass (block L l i) t)
-      go (sets k) = still (omega arith)
-      go (cancels k) = still (omega arith)
-      go (secures k) = still (omega arith)
-      go (opens k) =
-          read-block l i few-blocks (L .lines) _ (s .stage) b (S .ranges .lineCount)
-          ∙ passed-over _ _ _ (fails-from _ (λ t. n (k, sym (sym (place-line l i few-blocks) ∙ eqb-true _ _ (and-left _ _ t))))) ∙ still (omega arith)
-      go (leaves f u) = rw (u .3) (still (f .4))

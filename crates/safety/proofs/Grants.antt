@@ -3,6 +3,7 @@ use Prim.Native.Nat.{ℕ, _/_, _<_}
 use mathlib.Core.Path.{_≡_, refl, sym, ap, _∙_}
 use mathlib.Core.Logic.{Iff·rfl, Iff·trans, inl, inr}
 use mathlib.Core.Bool.{true}
+use mathlib.Core.List.{List}
 use native.Mathlib.Omega.{arith}
 use borrow.Author.Tests.{ltb-false, le-ltb}
 use Rattle.laws.specs.Choice.{if_then_else_}
@@ -27,7 +28,7 @@ use Rattle.interlocking.proofs.Rows.{OfKind, section-row, point-row, throw-row,
 use Rattle.step_facts.specs.Run.{Event, box}
 use Rattle.step_facts.proofs.Tells.{reset-named}
 use Rattle.step_facts.proofs.Granted.{step-granted}
-use Rattle.safety.specs.History.{History, moment}
+use Rattle.safety.specs.History.{History, Throughout, moment, history}
 use Rattle.safety.specs.Grants.{MayRead, MayCount, MaySilence, MayReset, BlockThere, Grants, section, point, throw, set, cancel, secure, release, bar, unbar, second, count, silence, reset, AcceptedJust, AcceptsExactly}
 use Rattle.safety.proofs.Heads.{speaks-told}
 use Rattle.safety.proofs.Invariant.{Inv}
@@ -147,7 +148,12 @@ module _ (L : Layout) (ok : sound L ≡ true) (S : Sound L) (s : State) (h : His
     unfolding moment box
     accepts = (λ z. grants (not-refused L S s h I e z), λ g. rw (step-granted L s e (not-refuses g)))
 
--- ---- in every event of every run, on any layout file that loads with 0
+-- ---- in every event of every run
 
+-- on any sound layout
+pub accepts-run : (L : Layout) → sound L ≡ true → (es : List Event) → Throughout (AcceptedJust L) (history L es)
+accepts-run L ok es = in-every-event L ok _ (accepts L ok (sound-says L ok)) es
+
+-- on any layout file that loads with 0
 pub accepts-exactly : AcceptsExactly
-accepts-exactly bytes loads es = let ok = loaded-sound bytes loads in in-every-event _ ok _ (accepts _ ok (sound-says _ ok)) es
+accepts-exactly bytes loads es = accepts-run _ (loaded-sound bytes loads) es

@@ -1,13 +1,12 @@
 -- Heads (L1): what an event says of them, by its kind; what is held of them in the state is what the log of them tells.
 use Prim.Native.Nat.{ℕ, _/_, _%_, _<_, _≤_}
-use mathlib.Core.Path.{_≡_, refl, sym, ap, _∙_}
+use mathlib.Core.Path.{_≡_, sym, ap, _∙_}
 use mathlib.Core.Logic.{_≢_, _⊎_, inl, inr, ⊎-elim}
 use mathlib.Core.Bool.{Bool, true, false}
 use mathlib.Core.List.{List, [], _∷_}
 use native.Mathlib.Decide.{ℕ-discrete}
 use native.Mathlib.Omega.{arith}
 use borrow.Author.Tests.{eqb-true, eq-eqb, ne-eqb, leb-true, le-leb}
-use lib.Dec.{eqb}
 use lib.ListN.{length, getD-replicate, length-replicate}
 use Rattle.laws.specs.Choice.{if_then_else_}
 use Rattle.laws.specs.Tests.{_and_, _or_}
@@ -18,6 +17,7 @@ use Rattle.axles.specs.declared.Axles.{Axles}
 use Rattle.axles.specs.Heads.{noAxles, speaking, axlesAfter, axlesReading}
 use Rattle.axles.specs.HeadLog.{HeadLog, said, bothSpeak, readingTold, headsAfter}
 use Rattle.axles.proofs.HeadLog.{log-reads, log-speaks}
+use Rattle.axles.proofs.GivesNone.{refused-leaves}
 use Rattle.layout.specs.declared.Layout.{Layout}
 use Rattle.layout.specs.Layout.{isFitted}
 use Rattle.layout.specs.Sound.{sound}
@@ -124,8 +124,13 @@ module _ (g : ℕ) (m : Moment) (h : History) where
   log-unsaid f = passed-over _ _ _ f
 
 -- what a log reads is free, occupied or none
-pub told-few : (es : HeadLog) → readingTold es ≤ 3
-told-few es = let q = log-reads es in omega (arith, heads-say-in (headsAfter es))
+pub told-in : (es : HeadLog) → (1 ≤ readingTold es) × (readingTold es ≤ 3)
+told-in es = let q = log-reads es in omega (arith, heads-say-in (headsAfter es))
+
+-- a reset while a head is silent counts for nothing
+pub reset-lost : (e : Event) (es : HeadLog) → e .kind ≡ 14 → bothSpeak es ≡ false → headsAfter (saying e ∷ es) ≡ headsAfter es
+unfolding headsAfter
+reset-lost e es k f = refused-leaves (headsAfter es) (saying e) k (log-speaks es ∙ f)
 
 -- ---- what is held of heads
 

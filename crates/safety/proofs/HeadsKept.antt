@@ -11,8 +11,6 @@ use Rattle.laws.proofs.Choice.{Is, holds, fails, which}
 use Rattle.laws.proofs.Tests.{not-both}
 use Rattle.track.specs.Sizes.{mostSections}
 use Rattle.axles.specs.HeadLog.{headsAfter}
-use Rattle.axles.proofs.HeadLog.{log-speaks}
-use Rattle.axles.proofs.GivesNone.{refused-leaves}
 use Rattle.layout.specs.declared.Layout.{Layout}
 use Rattle.layout.specs.Layout.{isFitted}
 use Rattle.layout.specs.Sound.{sound}
@@ -25,7 +23,7 @@ use Rattle.step_facts.proofs.Within.{end}
 use Rattle.step_facts.proofs.Heads.{heads-here, heads-elsewhere, heads-many}
 use Rattle.safety.specs.HeadsTold.{saidOf}
 use Rattle.safety.specs.History.{Moment, History, headLog}
-use Rattle.safety.proofs.Heads.{SaidOf, said-is, is-said, said-kinds, said-one, said-passed, log-said, log-unsaid, HeadsHeld, speaks-told, heads-then}
+use Rattle.safety.proofs.Heads.{SaidOf, said-is, is-said, said-kinds, said-one, said-passed, log-said, log-unsaid, reset-lost, HeadsHeld, speaks-told, heads-then}
 use Rattle.safety.proofs.Given.{granted, refused-said}
 
 -- an accepted event
@@ -46,12 +44,11 @@ heads-accepted L few s h H e pass = record { room = heads-many L s e ∙ H .room
 -- a refused one
 pub heads-refused : (L : Layout) → sound L ≡ true → (s : State) → inRange s ≡ true → (m : Moment) (h : History) → HeadsHeld L (s .axles) h
     → refusal (sound L and inRange s) L s (m .event .kind) (m .event .first) (m .event .second) .number ≢ 0 → HeadsHeld L (s .axles) (m ∷ h)
-unfolding headsAfter
 heads-refused L ok s ranged m h H d = record { room = H .room; told = λ g b f. go g b f (which (saidOf g (m .event))) }
   where
     go : (g : ℕ) → g < L .sections → isFitted L g ≡ true → Is (saidOf g (m .event)) → headsAt (s .axles) g ≡ headsAfter (headLog g (m ∷ h))
     go g b f (holds t) =
         let x : SaidOf g (m .event) = said-is t in
         let (k, silent) = refused-said L ok s ranged (m .event) d g b f x in
-        H .told g b f ∙ sym (ap headsAfter (log-said g m h x) ∙ refused-leaves (headsAfter (headLog g h)) _ k (log-speaks (headLog g h) ∙ sym (speaks-told H b f) ∙ silent))
+        H .told g b f ∙ sym (ap headsAfter (log-said g m h x) ∙ reset-lost (m .event) (headLog g h) k (sym (speaks-told H b f) ∙ silent))
     go g b f (fails t) = H .told g b f ∙ ap headsAfter (sym (log-unsaid g m h t))

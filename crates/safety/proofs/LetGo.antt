@@ -41,7 +41,8 @@ use Rattle.step_facts.proofs.Entries.{phase, stepsOf, secondsOf, block, block-t
 use Rattle.step_facts.proofs.Tells.{tells-no-order}
 use Rattle.step_facts.proofs.Within.{On, done, lit, end, Done, sets, cancels, secures, opens, is-done, phase-lit}
 use Rattle.step_facts.proofs.Within as within
-use Rattle.safety.proofs.Given.{granted, box-follows, block-given}
+use Rattle.safety.proofs.Given.{granted, box-follows}
+use Rattle.safety.proofs.GivenBlock.{block-given}
 use Rattle.safety.proofs.Steps.{pairTold}
 use Rattle.safety.proofs.Invariant.{Inv}
 use Rattle.safety.proofs.ReadAfter.{reads-done}

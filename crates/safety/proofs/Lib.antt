@@ -1,5 +1,6 @@
 pub mod Heads
 pub mod Given
+pub mod GivenBlock
 pub mod Told
 pub mod Steps
 pub mod Invariant
@@ -23,12 +24,12 @@ pub mod Upright
 pub mod Lines
 pub mod Refused
 pub mod Kept
-pub mod HeadsTold
 pub mod EveryEvent
 pub mod SignalBytes
 pub mod Alone
 pub mod Demand3
 pub mod Exact
+pub mod HeadsTold
 pub mod Passing
 pub mod Stories
 pub mod Computed

@@ -16,16 +16,18 @@ use Rattle.laws.proofs.Tests.{and-left, and-right, or-cases}
 use Rattle.track.specs.Signal.{Signal, main, into}
 use Rattle.layout.specs.declared.Layout.{Layout}
 use Rattle.layout.specs.Layout.{lineIn}
+use Rattle.layout.specs.Sound.{sound}
 use Rattle.layout_facts.proofs.Sound.{sound-says}
 use Rattle.layout_facts.proofs.Loaded.{loaded-sound}
 use Rattle.panel.specs.Panel.{panelLength}
 use Rattle.panel.specs.Shown.{panel, signalShown, lineShown}
 use Rattle.panel.proofs.Laws.{length-image}
-use Rattle.safety.specs.History.{Moment, History, gaveSection, reads, shown, Since, Throughout, moment}
+use Rattle.step_facts.specs.Run.{Event}
+use Rattle.safety.specs.History.{Moment, History, gaveSection, reads, shown, Since, Throughout, moment, history}
 use Rattle.safety.specs.Cleared.{Passage}
 use Rattle.safety.specs.Lights.{position, MayEnter, Lit}
 use Rattle.safety.specs.Exact.{BlockSignalExact, Exact}
-use Rattle.safety.specs.Only.{SameAnswer, SameAnswers, LogsExactly, OneLog, OnlyThisLog}
+use Rattle.safety.specs.Only.{SameAnswer, SameAnswers, ExactLog, LogsExactly, OneLog, OnlyThisLog}
 use Rattle.safety.proofs.Kept.{kept}
 use Rattle.safety.proofs.EveryEvent.{in-every-event}
 use Rattle.safety.proofs.Exact.{exact}
@@ -191,16 +193,19 @@ one-log L (m ∷ h) (n ∷ k) s x y =
 
 -- ---- the box's log
 
--- on any layout file that loads with 0 its images have the layout's length, and it shows exactly after every event
-pub logs-exactly : LogsExactly
+-- on any sound layout its images have the layout's length, and it shows exactly after every event
+pub log-run : (L : Layout) → sound L ≡ true → (es : List Event) → ExactLog L (history L es)
 unfolding moment
-logs-exactly bytes loads es =
-    let ok = loaded-sound bytes loads in
-    let S = sound-says _ ok in
+log-run L ok es =
+    let S = sound-says L ok in
     record {
-      whole = in-every-event _ ok _ (λ s h I e. length-image _ _) es;
-      exact = in-every-event _ ok _ (λ s h I e. exact _ S _ _ (kept _ ok S s h I e)) es;
+      whole = in-every-event L ok _ (λ s h I e. length-image _ _) es;
+      exact = in-every-event L ok _ (λ s h I e. exact L S _ _ (kept L ok S s h I e)) es;
     }
+
+-- so on any layout file that loads with 0
+pub logs-exactly : LogsExactly
+logs-exactly bytes loads es = log-run _ (loaded-sound bytes loads) es
 
 -- and no other log with its answers
 pub only-this-log : OnlyThisLog

@@ -2,19 +2,21 @@
 -- the same, and so all that they show is.
 use mathlib.Core.Path.{_≡_, sym, _∙_}
 use mathlib.Core.Logic.{_≢_, _↔_, Iff·symm, Iff·trans}
-use mathlib.Core.List.{[], _∷_}
+use mathlib.Core.Bool.{true}
+use mathlib.Core.List.{List, [], _∷_}
 use native.Mathlib.Decide.{ℕ-discrete}
 use Rattle.layout.specs.declared.Layout.{Layout}
+use Rattle.layout.specs.Sound.{sound}
 use Rattle.layout_facts.proofs.Loaded.{loaded-sound}
-use Rattle.step_facts.specs.Run.{box}
+use Rattle.step_facts.specs.Run.{Event, box}
 use Rattle.step_facts.proofs.Step.{done-detail}
-use Rattle.safety.specs.History.{Moment, History, Throughout, moment}
+use Rattle.safety.specs.History.{Moment, History, Throughout, moment, history}
 use Rattle.safety.specs.Grants.{AcceptedJust}
 use Rattle.safety.specs.Only.{SameAnswer, SameAnswers}
 use Rattle.safety.specs.OnlyEvents.{SameEvent, SameEvents, GrantedLog, LogsAsGranted, OneGrantedLog, OnlyThisGrantedLog}
 use Rattle.safety.proofs.EveryEvent.{in-every-event}
-use Rattle.safety.proofs.Grants.{accepts-exactly}
-use Rattle.safety.proofs.Only.{logs-exactly, one-log}
+use Rattle.safety.proofs.Grants.{accepts-run}
+use Rattle.safety.proofs.Only.{log-run, one-log}
 
 -- the same event after one history: what the one accepts the other does, and its detail is 0; what the one refuses the other refuses alike
 answered-same : (L : Layout) (m n : Moment) (h k : History) → h ≡ k → SameEvent m n → AcceptedJust L m h → AcceptedJust L n k
@@ -51,14 +53,18 @@ one-granted-log L h k s x y = one-log L h k (same-answers L h k s x y) (x .shows
 
 -- ---- the box's log
 
--- it shows and accepts exactly, and what is done has detail 0
-pub logs-as-granted : LogsAsGranted
+-- on any sound layout it shows and accepts exactly, and what is done has detail 0
+pub granted-log-run : (L : Layout) → sound L ≡ true → (es : List Event) → GrantedLog L (history L es)
 unfolding moment box
-logs-as-granted bytes loads es = record {
-  shows = logs-exactly bytes loads es;
-  accepts = accepts-exactly bytes loads es;
-  done = in-every-event _ (loaded-sound bytes loads) _ (λ s h I e. done-detail _ s (e .kind) (e .first) (e .second)) es;
+granted-log-run L ok es = record {
+  shows = log-run L ok es;
+  accepts = accepts-run L ok es;
+  done = in-every-event L ok _ (λ s h I e. done-detail _ s (e .kind) (e .first) (e .second)) es;
 }
+
+-- so on any layout file that loads with 0
+pub logs-as-granted : LogsAsGranted
+logs-as-granted bytes loads es = granted-log-run _ (loaded-sound bytes loads) es
 
 -- and no other log of its events that refuses as it does
 pub only-this-granted-log : OnlyThisGrantedLog

@@ -3,7 +3,7 @@ use Prim.Native.Nat.{ℕ, _<_}
 use mathlib.Core.Path.{_≡_, refl, sym, ap, _∙_}
 use mathlib.Core.Logic.{_≢_, inl, inr}
 use mathlib.Core.Bool.{true}
-use mathlib.Core.List.{[], _∷_}
+use mathlib.Core.List.{List, [], _∷_}
 use native.Mathlib.Decide.{ℕ-discrete}
 use Rattle.laws.specs.Tests.{_and_}
 use Rattle.track.specs.Signal.{Signal, main}
@@ -19,7 +19,7 @@ use Rattle.interlocking.specs.State.{inRange}
 use Rattle.interlocking.specs.Step.{step, refusal}
 use Rattle.step_facts.specs.Run.{Event, box}
 use Rattle.step_facts.proofs.Step.{step-refused}
-use Rattle.safety.specs.History.{Moment, History, gaveSection, sectionReads, shown, Since, moment}
+use Rattle.safety.specs.History.{Moment, History, gaveSection, sectionReads, shown, Since, Throughout, moment, history}
 use Rattle.safety.specs.Locked.{Locked}
 use Rattle.safety.specs.Cleared.{Proceeds, Cleared, byPassage, byHand}
 use Rattle.safety.specs.Lights.{Clear, NotFallen}
@@ -122,6 +122,10 @@ module _ (L : Layout) (ok : sound L ≡ true) (S : Sound L) where
         opens = λ l i b c z. opened-since L l i _ (told .blocks l i b c .opens .0 z .cleared);
       }
 
+-- on any sound layout
+pub stories-run : (L : Layout) → sound L ≡ true → (es : List Event) → Throughout (NoStory L) (history L es)
+stories-run L ok es = in-every-event L ok _ (stories L ok (sound-says L ok)) es
+
 -- on any layout file that loads with 0
 pub stories-kept : StoriesKept
-stories-kept bytes loads es = let ok = loaded-sound bytes loads in in-every-event _ ok _ (stories _ ok (sound-says _ ok)) es
+stories-kept bytes loads es = stories-run _ (loaded-sound bytes loads) es

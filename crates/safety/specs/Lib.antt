@@ -7,6 +7,7 @@ pub mod Secured
 pub mod Lights
 pub mod Demand3
 pub mod Exact
+pub mod Fitted
 pub mod Stories
 pub mod Passing
 pub mod WrongBoxes
