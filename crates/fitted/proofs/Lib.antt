@@ -5,3 +5,4 @@ pub mod Whole
 pub mod Equipped
 pub mod Cut
 pub mod Unique
+pub mod InUse

@@ -1,3 +1,4 @@
 pub mod Numbers
 pub mod Fitted
 pub mod Pieces
+pub mod InUse

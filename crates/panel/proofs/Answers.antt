@@ -17,6 +17,8 @@ use Rattle.layout.specs.declared.Layout.{Layout}
 use Rattle.layout.specs.Sound.{fits, sound}
 use Rattle.interlocking.specs.declared.State.{State}
 use Rattle.interlocking.specs.State.{inRange}
+use Rattle.interlocking.specs.declared.Core.{Core}
+use Rattle.interlocking.specs.Parts.{coreOf, bare}
 use Rattle.panel.specs.declared.Drawn.{Drawn}
 use Rattle.panel.specs.Panel.{image, panelLength, refused, answerWhere, drawnWhere, answer, drawn, panelAskedInRun, answerInRun, drawnInRun}
 use Rattle.panel.specs.Writes.{FitsTables}
@@ -41,7 +43,7 @@ unfolding sound fits panelAskedInRun
 sound-asked L e =
     let f : fits L ≡ true = every-at _ e 0 in
     every-more _ _ _ (every-at _ f 0) (every-more _ _ _ (every-at _ f 1) (every-more _ _ _ (every-at _ f 3)
-    (every-more _ _ _ (every-at _ f 6) (every-one _ (every-at _ f 4)))))
+    (every-more _ _ _ (every-at _ f 6) (every-more _ _ _ (every-at _ f 4) (every-one _ (every-at _ f 9))))))
 
 -- so of a layout that the code found sound
 pub sound-holds : (L : Layout) (v : Bool) → v ≡ sound L → not v ≡ false → FitsTables L
@@ -126,6 +128,11 @@ module _ (L : Layout) (s : State) (buffer : List ℕ) where
       → (r ≡ answerInRun L s (length buffer)) × (after ≡ drawnInRun L s buffer)
   unfolding answerInRun drawnInRun
   run-drawn v r after e q a = subst (λ t. Answered t r after) (sym (sym e ∙ not-false v q)) a
+
+-- what is drawn of the nine tables is drawn of the state: the image looks at no heads
+pub core-drawn : (L : Layout) (s : State) (buffer : List ℕ) (c : Core) (r : Drawn) (after : List ℕ) → c ≡ coreOf s → Answered L (bare c) buffer true r after → Answered L s buffer true r after
+unfolding answerWhere drawnWhere image coreOf
+core-drawn L s buffer c r after e a = rw e at a
 
 -- ---- the panel of a run
 

@@ -91,7 +91,8 @@ drawn L s buffer = drawnWhere (sound L and inRange s) L s buffer
 
 -- ---- the panel of a run that asked soundness before its first event
 
--- what 18 asks in a run: there are no more objects than the tables hold, and there is a section, so that the layout with no objects (section 2) gets 18
+-- what 18 asks in a run: there are no more objects than the tables hold, there is a section, so that the layout with no objects (section 2) gets 18,
+-- and no fitted section is lacking (L1)
 unfoldable pub panelAskedInRun : Layout → Bool
 panelAskedInRun L = every (
     between 1 mostSections (L .sections)
@@ -99,6 +100,7 @@ panelAskedInRun L = every (
     ∷ leb (L .signals) mostSignals
     ∷ leb (L .routes) mostTrainRoutes
     ∷ leb (L .lines) mostLines
+    ∷ eqb (L .lacking) 0
     ∷ [])
 
 unfoldable pub answerInRun : Layout → State → ℕ → Drawn

@@ -2,7 +2,9 @@
 mod lines;
 mod objects;
 
+use interlocking::Core;
 use interlocking::State;
+use interlocking::parts::core_of;
 use layout::Layout;
 use track::sizes::MOST_LINES;
 use track::sizes::MOST_POINTS;
@@ -15,6 +17,7 @@ ghost use Prim.Native.Nat.{_≤_};
 ghost use lib.ListN.{length};
 ghost use lib.Seq.{sets};
 ghost use Rattle.track.specs.Sizes.{mostLines};
+ghost use Rattle.interlocking.specs.Parts.{bare};
 ghost use Rattle.panel.specs.Panel.{image, panelLength, answerWhere, drawnWhere, answer, drawn, panelAskedInRun, answerInRun, drawnInRun};
 ghost use Rattle.panel.specs.Writes.{FitsTables};
 
@@ -37,9 +40,9 @@ fn panel_length(l: Layout) -> usize
 }
 
 // The image, over the first bytes of the buffer.
-fn draw(l: Layout, s: State, buffer: &mut [u8])
+fn draw(l: Layout, s: Core, buffer: &mut [u8])
     requires { ⌜ FitsTables l × (panelLength l ≤ length (now buffer)) ⌝ }
-    ensures { λ _. ⌜ now (buffer .exit) ≡ sets (now (buffer .entry)) 0 (image l s) ⌝ }
+    ensures { λ _. ⌜ now (buffer .exit) ≡ sets (now (buffer .entry)) 0 (image l (bare s)) ⌝ }
 {
     let ls = l.line;
     let objects = objects::put_readings(l, s, buffer);
@@ -58,9 +61,9 @@ fn draw(l: Layout, s: State, buffer: &mut [u8])
 
 // The image of a layout within the tables into a lent buffer: 0 and its length, with later bytes untouched; 27 for a buffer that is too short, with
 // length 0 and the whole buffer untouched.
-fn draw_in(l: Layout, s: State, buffer: &mut [u8]) -> Drawn
+fn draw_in(l: Layout, s: Core, buffer: &mut [u8]) -> Drawn
     requires { ⌜ FitsTables l ⌝ }
-    ensures { λ r. ⌜ (r ≡ answerWhere true l s (length (now (buffer .entry)))) × (now (buffer .exit) ≡ drawnWhere true l s (now (buffer .entry))) ⌝ }
+    ensures { λ r. ⌜ (r ≡ answerWhere true l (bare s) (length (now (buffer .entry)))) × (now (buffer .exit) ≡ drawnWhere true l (bare s) (now (buffer .entry))) ⌝ }
 {
     let n = panel_length(l);
     if buffer.len() < n {
@@ -92,21 +95,23 @@ pub fn panel(state: State, layout: Layout, buffer: &mut [u8]) -> Drawn
             length: 0,
         };
     }
-    draw_in(layout, state, buffer)
+    let core = core_of(state);
+    draw_in(layout, core, buffer)
 }
 
-// There is a section, and there are no more objects than the tables hold.
+// There is a section, none that is fitted is lacking, and there are no more objects than the tables hold.
 fn is_drawable(l: Layout) -> bool
     ensures { λ r. ⌜ r ≡ panelAskedInRun l ⌝ }
 {
-    let ways = (l.routes <= MOST_TRAIN_ROUTES) & (l.lines <= MOST_LINES);
+    let ways = (l.routes <= MOST_TRAIN_ROUTES) & ((l.lines <= MOST_LINES) & (l.lacking == 0));
     let objects = (l.points <= MOST_POINTS) & ((l.signals <= MOST_SIGNALS) & ways);
     (1 <= l.sections) & (l.sections <= MOST_SECTIONS) & objects
 }
 
-// The same in a run that asked soundness before its first event: 18 asks no more of the layout than is needed to draw it, and nothing of the state.
-pub fn panel_in_run(state: State, layout: Layout, buffer: &mut [u8]) -> Drawn
-    ensures { λ r. ⌜ (r ≡ answerInRun layout state (length (now (buffer .entry)))) × (now (buffer .exit) ≡ drawnInRun layout state (now (buffer .entry))) ⌝ }
+// The same in a run that asked soundness before its first event, of the nine tables: 18 asks no more of the layout than is needed to draw it and that no
+// fitted section is lacking, and nothing of the state.
+pub fn panel_in_run(core: Core, layout: Layout, buffer: &mut [u8]) -> Drawn
+    ensures { λ r. ⌜ (r ≡ answerInRun layout (bare core) (length (now (buffer .entry)))) × (now (buffer .exit) ≡ drawnInRun layout (bare core) (now (buffer .entry))) ⌝ }
 {
     if !is_drawable(layout) {
         return Drawn {
@@ -114,5 +119,5 @@ pub fn panel_in_run(state: State, layout: Layout, buffer: &mut [u8]) -> Drawn
             length: 0,
         };
     }
-    draw_in(layout, state, buffer)
+    draw_in(layout, core, buffer)
 }

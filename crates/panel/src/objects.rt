@@ -1,5 +1,5 @@
 // The bytes of sections, points, signals, routes and lines.
-use interlocking::State;
+use interlocking::Core;
 use layout::Layout;
 use track::codes::CANCELLING;
 use track::codes::IDLE;
@@ -9,6 +9,7 @@ ghost use Prim.Native.Nat.{_+_, _≤_};
 ghost use lib.ListN.{length, getD};
 ghost use Rattle.laws.specs.Tables.{table};
 ghost use Rattle.track.specs.Sizes.{mostTrainRoutes};
+ghost use Rattle.interlocking.specs.Parts.{bare};
 ghost use Rattle.panel.specs.Panel.{routeByte};
 ghost use Rattle.panel.specs.Writes.{Wrote, FitsTables, readingBytes, objectBytes};
 
@@ -56,18 +57,18 @@ fn put_routes(phases: &[u8; ROUTES], n: u8, buffer: &mut [u8], at: usize) -> usi
 }
 
 // What sections and points read, over the first bytes of the buffer; the place after them.
-pub fn put_readings(l: Layout, s: State, buffer: &mut [u8]) -> usize
+pub fn put_readings(l: Layout, s: Core, buffer: &mut [u8]) -> usize
     requires { ⌜ FitsTables l × (l .sections + l .points ≤ length (now buffer)) ⌝ }
-    ensures { λ r. ⌜ Wrote (now (buffer .entry)) 0 (readingBytes l s) (now (buffer .exit)) r ⌝ }
+    ensures { λ r. ⌜ Wrote (now (buffer .entry)) 0 (readingBytes l (bare s)) (now (buffer .exit)) r ⌝ }
 {
     let next = copy(&s.section, l.sections, buffer, 0);
     copy(&s.point, l.points, buffer, next)
 }
 
 // The bytes of signals, routes and lines, over the buffer from a place on; the place after them.
-pub fn put_objects(l: Layout, s: State, buffer: &mut [u8], at: usize) -> usize
+pub fn put_objects(l: Layout, s: Core, buffer: &mut [u8], at: usize) -> usize
     requires { ⌜ FitsTables l × (at + (l .signals + l .routes + l .lines) ≤ length (now buffer)) ⌝ }
-    ensures { λ r. ⌜ Wrote (now (buffer .entry)) at (objectBytes l s) (now (buffer .exit)) r ⌝ }
+    ensures { λ r. ⌜ Wrote (now (buffer .entry)) at (objectBytes l (bare s)) (now (buffer .exit)) r ⌝ }
 {
     let rs = l.route;
     let shown = signals::main_shown(l.routes, rs, &s.phase);
