@@ -1,4 +1,4 @@
--- What a run on branch T is computed with.
+-- What a run on branch T is computed with, and besides one with heads (L1).
 use Prim.Native.Nat.{ℕ}
 use Rattle.laws.specs.Choice.{if_then_else_}
 use Rattle.laws.specs.Tests.{_and_, _or_, implies, every, allBelow, anyBelow, lowestFrom, lowest}
@@ -31,6 +31,10 @@ use Rattle.interlocking.specs.Own.{ownGiven, ownStageAt, ownSection, ownPoint, 
 use Rattle.interlocking.specs.Settle.{fallenAt, signals, proceedsIn, farSections, lockingOf, routeAfter, unlessIdle, routesBy, routes, lineRelease, settle}
 use Rattle.interlocking.specs.Rows.{nothing, givesReading, aSecond, sectionRow, pointRow, throwRow, setRow, cancelRow, secureRow, manualRow, barRow, secondRow, headRow, countRow, silentRow, resetRow, noRow, rowWith, rowOf}
 use Rattle.interlocking.specs.Step.{rowRefusal, answeredBy, stepWhere, step, askedInRun, stepInRun, refusal, own, gives, after}
+use Rattle.axles.specs.Rounds.{around, signed}
+use Rattle.axles.specs.Heads.{noHead, noAxles, speaks, speaking, headAfter, net, number, readingOf, occupies, resets, sumAfter, proofAfter, withProof, proves, judged, axlesAfter, known, axlesReading}
+use Rattle.axles.specs.Heads as heads
+use Rattle.axles.specs.HeadLog.{says, hasTold, lastTold, bothSpeak, netTold, isReset, netAtReset, numberTold, occupiesTold, wasReset, provedTold, readingTold}
 use Rattle.panel.specs.Panel.{blocks, routeByte, blockBytes, lineBytes, image, panelLength, drawnWhere, drawn}
 use Rattle.panel.specs.Panel as panels
 use Rattle.step_facts.specs.Run.{box, boxInRun, stateAfter, answers, fromCold}
@@ -49,16 +53,25 @@ unfolding computed
     ownStage departure arrival beyond sectionAt signalAt farSection farSignal farStage drops farMoved farStageAt farStages
     given watchedSection watchedBlock exitPair pathPair watchedPair stepsAfter toVacate endReading vacated secondsAfter goes lockingAfter
     innerSection entranceSignal nearestBlock
-    refused noRefusal refusedIf found firstOf lacking notFree misplaced notPlaced locked conflicting byRoute byLine exitLocked blockBarred blockHeld noHeads hasHeads
+    refused noRefusal refusedIf found firstOf lacking notFree misplaced notPlaced locked conflicting byRoute byLine exitLocked blockBarred blockHeld hasHeads
     routeLocks lineLocks failing lockedExitBy lockedExit
     throwRefusal exitRefusal routeRefusal setRefusal cancelRefusal secureRefusal manualRefusal
-    cold codes routesAndLinesInRange inRange headsAt withSections withPoints withRoutes withLines withBars withAxles
-    ownGiven ownStageAt ownSection ownPoint throwReading ownThrow ownSet ownCancel ownSecure openAt ownManual ownBar headSection headsOf headsBy ownHeads
+    cold codes routesAndLinesInRange inRange withSections withPoints withRoutes withLines withBars
+    ownGiven ownStageAt ownSection ownPoint throwReading ownThrow ownSet ownCancel ownSecure openAt ownManual ownBar
     fallenAt signals proceedsIn farSections lockingOf routeAfter unlessIdle routesBy routes
     lastBlock passable wasInStage2 endsBy directionAfter directionsAfter lineRelease settle
-    numbersRefusal nothing givesReading aSecond sectionRow pointRow throwRow setRow cancelRow secureRow manualRow barRow secondRow headRow countRow silentRow resetRow noRow rowWith rowOf
+    numbersRefusal nothing givesReading aSecond sectionRow pointRow throwRow setRow cancelRow secureRow manualRow barRow secondRow noRow rowWith rowOf
     rowRefusal answeredBy stepWhere step askedInRun stepInRun refusal own gives after
     join blocks proceedShown shownBy shownFor mainShows routeByte hasSignal lightShown blockShows blockBytes lineBytes image panelLength panels.refused panels.answerWhere panels.answer drawnWhere drawn
-    box boxInRun stateAfter answers fromCold shows sectionShown pointShown signalShown routeShown lineShown blockShown isFitted named ofHeads saidOf counts gaveByReading gaveByHeads headLog gaveSection reads shown moment goesOn history
+    box boxInRun stateAfter answers fromCold shows sectionShown pointShown signalShown routeShown lineShown blockShown isFitted gaveByReading gaveSection reads shown moment goesOn history
     gaveFirst gaveSecond secondsSince position plain.ownSection path overlap routePoint routePosition linePoint linePosition
 runComputed = 0
+
+-- whoever unfolds this besides unfolds all that heads and the logs of them are made of (L1)
+unfoldable pub headsComputed : ℕ
+unfolding around signed
+    noHead noAxles speaks speaking headAfter net number readingOf occupies resets sumAfter proofAfter heads.told withProof proves judged axlesAfter known axlesReading
+    says hasTold lastTold bothSpeak netTold isReset netAtReset numberTold occupiesTold wasReset provedTold readingTold
+    headsAt withAxles headSection headsOf headsBy ownHeads noHeads headRow countRow silentRow resetRow
+    named ofHeads saidOf counts gaveByHeads headLog
+headsComputed = 0

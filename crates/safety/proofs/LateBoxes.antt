@@ -39,7 +39,7 @@ not-exact aBlockSignal L h (l, i, w, b, c, d, n) E = n (E .blockSignals l i w b 
 -- ---- two tests that say different things
 
 -- one holds and the other fails
-differ : Bool → Bool → Bool
+unfoldable pub differ : Bool → Bool → Bool
 differ true b = not b
 differ false b = b
 
@@ -115,7 +115,7 @@ module _ (L : Layout) (h : History) where
       (E .proceeds (lit-means l i w .0 (and-right _ _ u)) (may-enter-means L l i h .0 (and-left _ _ u)))
 
   -- some object of a part
-  abbrev inexactTest : Part → Bool
+  abbrev pub inexactTest : Part → Bool
   inexactTest aSection = anyBelow (L .sections) (λ g. not (eqb (shown L h .section g) (sectionReads L g h)))
   inexactTest aPoint = anyBelow (L .points) (λ p. not (eqb (shown L h .point p) (position p h)))
   inexactTest aBlock = anyBelow (L .lines) (λ l. anyBelow (lineIn L l .blocks) (blockTest l))
@@ -125,7 +125,7 @@ module _ (L : Layout) (h : History) where
   inexactTest aBlockSignal = anyBelow (L .lines) (λ l. anyBelow (lineIn L l .blocks) (λ i. anyBelow 3 (blockSignalTest l i)))
 
   -- the one that is found does not show what is told
-  is-inexact : (p : Part) → inexactTest p ≡ true → Inexact p L h
+  pub is-inexact : (p : Part) → inexactTest p ≡ true → Inexact p L h
   is-inexact aSection t = let (g, b, u) = any-some _ _ t in (g, b, eqb-false _ _ (not-true _ u))
   is-inexact aPoint t = let (p, b, u) = any-some _ _ t in (p, b, eqb-false _ _ (not-true _ u))
   is-inexact aBlock t = let (l, b, u) = any-some _ _ t in let (i, c, v) = any-some _ _ u in (l, i, b, c, block-inexact l i v)

@@ -74,7 +74,7 @@ find L p t =
     (λ z. record { at = into l i w; line = l; number = i; way = w; passes = z }) (or-cases _ _ y)
 
 -- two signals are one
-sameSignal : Signal → Signal → Bool
+unfoldable pub sameSignal : Signal → Signal → Bool
 sameSignal (main x) (main y) = eqb x y
 sameSignal (main x) (into l i w) = false
 sameSignal (into l i w) (main y) = false
@@ -125,7 +125,7 @@ abbrev otherTest : Layout → History → Signal → ℕ → ℕ → Bool
 otherTest L h x l i = someSignal L (otherAt L h x l i)
 
 -- the clause is broken
-abbrev brokenTest : Clause → Layout → History → Bool
+abbrev pub brokenTest : Clause → Layout → History → Bool
 brokenTest apart L h = togetherTest L h
 brokenTest exits L h = adriftTest L h
 brokenTest directions L h = untrueTest L h
@@ -163,7 +163,7 @@ module _ (L : Layout) (h : History) where
       not-both (ap (sameSignal (f .at)) (sym is-x) ∙ same-signal (f .at)) (not-true _ (and-right _ _ (and-right _ _ (f .passes))))))
 
   -- so the test says that it is broken
-  is-broken : (c : Clause) → brokenTest c L h ≡ true → Broken c L h
+  pub is-broken : (c : Clause) → brokenTest c L h ≡ true → Broken c L h
   is-broken apart t =
       let (r, b, u) = any-some _ _ t in
       let (q, c, v) = any-some _ _ (and-right _ _ u) in

@@ -1,0 +1,211 @@
+-- Boxes that are wrong in one thing of axle counters (L1): what becomes of a section's heads, what they say, or that a section with heads takes no reading
+-- of kind 1. Each has a short run on branch T with heads on its block. `proofs/WrongHeads` proves that with the box's own parts they are the step of a run.
+use Prim.Native.Nat.{ℕ, _+_, _-_, _%_}
+use mathlib.Core.List.{List, [], _∷_, _++_}
+use lib.Dec.{eqb}
+use lib.IntN.{ℤ, pos, negsuc, _-ℤ_}
+use lib.ListN.{set}
+use Rattle.laws.specs.Choice.{if_then_else_}
+use Rattle.track.specs.Codes.{readsNone, readSection, axlesIn, headSilent, resetAxles}
+use Rattle.track.specs.Lists.{between}
+use Rattle.tables.specs.declared.Gives.{Gives}
+use Rattle.axles.specs.declared.Axles.{Axles}
+use Rattle.axles.specs.declared.Said.{Said}
+use Rattle.axles.specs.Heads.{proved, net, number, readingOf, resets, withProof, axlesAfter, known, axlesReading}
+use Rattle.axles.specs.HeadLog.{said}
+use Rattle.layout.specs.declared.Layout.{Layout}
+use Rattle.layout.specs.Layout.{noneFitted}
+use Rattle.layout_facts.specs.BranchT.{layoutT}
+use Rattle.reasons.specs.declared.Refusal.{Refusal}
+use Rattle.reasons.specs.Refusal.{noRefusal}
+use Rattle.refusals.specs.Events.{numbersRefusal}
+use Rattle.interlocking.specs.declared.State.{State}
+use Rattle.interlocking.specs.State.{headsAt, withAxles}
+use Rattle.interlocking.specs.Own.{headSection, ownSection}
+use Rattle.interlocking.specs.Settle.{settle}
+use Rattle.interlocking.specs.Rows.{Row, givesReading, rowOf}
+use Rattle.interlocking.specs.Step.{askedInRun, gives}
+use Rattle.step_facts.specs.Run.{Event, event}
+use Rattle.safety.specs.History.{nothing}
+use Rattle.safety.specs.WrongBoxes.{Box, refuses, does}
+use Rattle.safety.specs.WrongRuns.{Run, coldRun}
+
+-- ---- a step from its parts: what is refused, what the event does itself, what it gives
+
+abbrev pub stepWith : (Layout → State → Event → Refusal) → (Layout → State → Event → State) → (Layout → State → Event → Gives) → Box
+stepWith refuse act give L s e =
+    if eqb (refuse L s e .number) 0 then record { number = 0; detail = 0; next = settle L s (act L s e) (give L s e) }
+    else record { number = refuse L s e .number; detail = refuse L s e .detail; next = s }
+
+-- what an event gives
+abbrev pub givesOwn : Layout → State → Event → Gives
+givesOwn L s e = gives L s (e .kind) (e .first) (e .second)
+
+-- what becomes of a section's heads by what an event says of them, and what they then say, 0 for nothing
+pub record Ways : Type 0 where
+  pub after : Axles → Said → Axles
+  pub says : Axles → Said → ℕ
+
+-- the box's own
+abbrev pub ownWays : Ways
+ownWays = record { after = axlesAfter; says = λ y e. axlesReading y }
+
+-- an event of heads: its section, what it says, what becomes of the heads, what they say
+abbrev sectionOf : Event → ℕ
+sectionOf e = headSection (e .kind) (e .first)
+
+abbrev sayingOf : Event → Said
+sayingOf e = said (e .kind) (e .first % 2) (e .second % 65536)
+
+abbrev pub headsThen : Ways → State → Event → Axles
+headsThen way s e = way .after (headsAt (s .axles) (sectionOf e)) (sayingOf e)
+
+abbrev pub sayThen : Ways → State → Event → ℕ
+sayThen way s e = way .says (headsThen way s e) (sayingOf e)
+
+-- what an event does itself, its heads going this way
+abbrev pub doesBy : Ways → Layout → State → Event → State
+doesBy way L s e =
+    if between axlesIn resetAxles (e .kind) then
+    (if eqb (sayThen way s e) nothing then withAxles s (set (s .axles) (sectionOf e) (headsThen way s e))
+    else ownSection (L .line) (L .lines) (withAxles s (set (s .axles) (sectionOf e) (headsThen way s e))) (sectionOf e) (sayThen way s e))
+    else does L s e
+
+-- and what it gives
+abbrev pub givesBy : Ways → Layout → State → Event → Gives
+givesBy way L s e = if between axlesIn resetAxles (e .kind) then givesReading (sectionOf e) (sayThen way s e) else givesOwn L s e
+
+-- the box whose heads go this way
+abbrev pub headsGo : Ways → Box
+headsGo way = stepWith refuses (doesBy way) (givesBy way)
+
+-- where only what heads say is another: the number by this
+abbrev pub countsBy : (Axles → ℤ) → Box
+countsBy count = headsGo (record { after = axlesAfter; says = λ y e. if known y then readingOf (count y) else readsNone })
+
+-- ---- the boxes
+
+-- a reset reads free at once: it counts as proved
+abbrev pub freeAtOnce : Box
+freeAtOnce =
+    headsGo (record { after = λ x e. if resets x e then withProof (axlesAfter x e) proved else axlesAfter x e; says = λ y e. axlesReading y })
+
+-- silence gives none and forgets nothing: the old counts are used again with the next count of either head
+abbrev pub forgetsNothing : Box
+forgetsNothing = headsGo (record {
+  after = λ x e. if eqb (e .kind) headSilent then x else axlesAfter x e;
+  says = λ y e. if eqb (e .kind) headSilent then readsNone else axlesReading y;
+})
+
+-- silence gives nothing: the section keeps what it read
+abbrev pub keepsReading : Box
+keepsReading = headsGo (record { after = axlesAfter; says = λ y e. if eqb (e .kind) headSilent then nothing else axlesReading y })
+
+-- -1 is taken as 0
+unfoldable pub minusOne : ℤ → ℤ
+minusOne (pos n) = pos n
+minusOne (negsuc n) = if eqb n 0 then pos 0 else negsuc n
+
+abbrev pub takesMinusOne : Box
+takesMinusOne = countsBy (λ y. minusOne (number y))
+
+-- 256 is taken as 255
+unfoldable pub most256 : ℤ → ℤ
+most256 (pos n) = if eqb n 256 then pos 255 else pos n
+most256 (negsuc n) = negsuc n
+
+abbrev pub takes256 : Box
+takes256 = countsBy (λ y. most256 (number y))
+
+-- the number is not taken round 65,536
+abbrev pub neverRolls : Box
+neverRolls = countsBy (λ y. net y -ℤ pos (y .sum))
+
+-- nor below 0: a difference that would be is 0
+abbrev pub stopsAtZero : Box
+stopsAtZero = countsBy (λ y. pos (y .head0 .inward + y .head1 .inward - (y .head0 .outward + y .head1 .outward) - y .sum))
+
+-- 34 is not asked: a section with heads takes a reading of kind 1
+abbrev pub readsFitted : Box
+readsFitted = stepWith (λ L s e.
+    let row : Row = rowOf L s (e .kind) (e .first) (e .second) in
+    if eqb (e .kind) readSection then numbersRefusal (askedInRun L) (row .missing) (e .first) noRefusal (row .wrong) else refuses L s e) does givesOwn
+
+-- ---- the runs
+
+-- branch T, with heads on section 1, the block: heads 2 and 3
+abbrev pub fittedT : Layout
+fittedT = record {
+  sections = layoutT .sections;
+  points = layoutT .points;
+  pointsection = layoutT .pointsection;
+  signals = layoutT .signals;
+  lines = layoutT .lines;
+  line = layoutT .line;
+  routes = layoutT .routes;
+  route = layoutT .route;
+  conflict = layoutT .conflict;
+  fitted = set noneFitted 1 1;
+  lacking = 0;
+}
+
+-- on it from the cold start
+abbrev onFitted : Box → List Event → Run
+onFitted wrong events = coldRun wrong fittedT events
+
+-- the other sections read free, and the point left
+abbrev others : List Event
+others = event 1 0 1 ∷ event 1 2 1 ∷ event 1 3 1 ∷ event 2 0 1 ∷ []
+
+-- both heads have told their counts, head 2 n axles in and nothing else, and the section is reset
+abbrev resetAt : ℕ → List Event
+resetAt n = event 11 2 n ∷ event 12 2 0 ∷ event 11 3 0 ∷ event 12 3 0 ∷ event 14 1 0 ∷ []
+
+-- then one axle goes in past head 2 and out past head 3: the block reads free
+abbrev provedAt : ℕ → List Event
+provedAt n = resetAt n ++ (event 11 2 (n + 1) ∷ event 12 3 1 ∷ [])
+
+-- the line is released by hand and secured, the routes in at B and out at A are set
+abbrev ordered : List Event
+ordered = event 7 0 1 ∷ event 6 0 1 ∷ event 4 1 0 ∷ event 4 0 0 ∷ []
+
+-- so a train is let out, the block's heads having counted from n
+abbrev letOutAt : ℕ → List Event
+letOutAt n = others ++ (provedAt n ++ ordered)
+
+-- the runs after which a signal shows proceed into a block that does not read free
+abbrev pub letInUnfree : List Run
+letInUnfree =
+    -- a reset reads free at once. A train is let into the block in which wagons may stand
+    onFitted freeAtOnce (others ++ (resetAt 0 ++ ordered))
+    -- silence forgets nothing. Head 2 falls silent, a count of head 3 comes again, and a train is let in
+    ∷ onFitted forgetsNothing (others ++ (provedAt 0 ++ (event 13 2 0 ∷ event 11 3 0 ∷ ordered)))
+    -- silence gives nothing. Head 2 falls silent under a signal at proceed
+    ∷ onFitted keepsReading (letOutAt 0 ++ (event 13 2 0 ∷ []))
+    -- -1 is taken as free. One axle more goes out than came in
+    ∷ onFitted takesMinusOne (letOutAt 0 ++ (event 12 3 2 ∷ []))
+    -- a difference below 0 is 0. Head 2 rolls over as a wagon rolls in under a signal at proceed
+    ∷ onFitted stopsAtZero (letOutAt 65534 ++ (event 11 2 0 ∷ []))
+    -- 34 is not asked. The block is told free by a reading, its heads having told nothing
+    ∷ onFitted readsFitted (others ++ (event 1 1 1 ∷ ordered))
+    ∷ []
+
+-- and into one that was not cleared
+abbrev pub letInUncleared : List Run
+letInUncleared =
+    -- 256 is taken as occupied. A train leaves A, 256 axles are in the block, it arrives at B, and as many are out: another is let in
+    onFitted takes256 (letOutAt 0 ++ (event 1 0 2 ∷ event 11 2 2 ∷ event 1 0 1 ∷ event 11 2 257 ∷ event 1 2 2 ∷ event 12 3 257 ∷ event 6 0 1 ∷ event 4 0 0 ∷ []))
+    ∷ []
+
+-- the runs after which the block's section does not show what the history tells
+abbrev pub untoldHeads : List Run
+untoldHeads =
+    -- the number is not taken round. Head 2 stood at 65,535 at the reset, and then at 1: two axles are in the block, and it shows none
+    onFitted neverRolls (resetAt 65535 ++ (event 11 2 1 ∷ []))
+    -- 256 is taken as occupied
+    ∷ onFitted takes256 (provedAt 0 ++ (event 11 2 257 ∷ []))
+    ∷ []
+
+-- 34 is not asked: a reading of the block is accepted
+abbrev pub readOfFitted : Run
+readOfFitted = onFitted readsFitted (event 1 1 1 ∷ [])
