@@ -43,7 +43,6 @@ pub mod OtherLayouts
 pub mod WrongRuns
 pub mod LateBoxes
 pub mod Words
-pub mod Sense
 pub mod WrongStories
 pub mod Unseen
 pub mod Unrefused
@@ -53,3 +52,4 @@ pub mod Only
 pub mod OnlyEvents
 pub mod WrongGrants
 pub mod WrongHeads
+pub mod Sense

@@ -1,5 +1,6 @@
 -- Demand 3 lets trains pass: a signal does show proceed into a block, by a manual release and by a proved passage, an exit signal and a block signal; one
--- of two that lead into it; and a release clears the blocks of its own line. What it refuses is in WrongRuns.
+-- of two that lead into it; and a release clears the blocks of its own line. So it does where the block has heads (L1). What it refuses is in WrongRuns and
+-- WrongHeads.
 use Prim.Native.Nat.{ℕ}
 use mathlib.Core.Path.{_≡_, refl}
 use mathlib.Core.Bool.{false}
@@ -9,6 +10,7 @@ use Rattle.laws.proofs.Tests.{not-both}
 use Rattle.track.specs.Signal.{main, into}
 use Rattle.layout.specs.Load.{load}
 use Rattle.layout_facts.specs.BranchT.{layoutT}
+use Rattle.panel.specs.Shown.{showsIdle}
 use Rattle.step_facts.specs.Run.{Event, event}
 use Rattle.safety.specs.Cases.{p1, p3, p4}
 use Rattle.safety.specs.History.{History, gaveBlock, shown, Releases, Since, LeavesFree, history}
@@ -16,11 +18,13 @@ use Rattle.safety.specs.Cleared.{Stops, Closes, Cleared}
 use Rattle.safety.specs.Demand3.{Enters, Guarded}
 use Rattle.safety.specs.OtherLayouts.{twoBlocks, twoLines, twoExits}
 use Rattle.safety.specs.WrongRuns.{readings, opened}
-use Rattle.safety.proofs.Computed.{runComputed}
-use Rattle.safety.proofs.Demand3.{demand3}
+use Rattle.safety.specs.WrongHeads.{fittedT, letOutAt}
+use Rattle.safety.proofs.Computed.{runComputed, headsComputed}
+use Rattle.safety.proofs.Demand3.{safe-run, demand3}
 use Rattle.safety.proofs.OtherLayouts.{others-load}
 use Rattle.safety.proofs.Tested.{passedTest, byHandTest, by-hand-means, passed-means, cleared-means}
 use Rattle.safety.proofs.TestedLights.{enters-means}
+use Rattle.safety.proofs.WrongHeads.{fitted-sound}
 
 -- ---- branch T
 
@@ -99,3 +103,28 @@ not-the-first = refl
 -- so it was not cleared
 pub no-other : ¬ Cleared (load twoLines .layout) 0 0 otherReleased
 no-other c = not-both (cleared-means (load twoLines .layout) 0 0 otherReleased .1 c) not-the-first
+
+-- ---- branch T with heads on its block (L1)
+
+-- a train is let out, counted into the block and, as it arrives at B, out of it; the line is secured and route 0 set again
+abbrev countedOut : List Event
+countedOut = letOutAt 0 ++ (event 1 0 2 ∷ event 11 2 2 ∷ event 1 0 1 ∷ event 1 2 2 ∷ event 12 3 2 ∷ event 6 0 1 ∷ event 4 0 0 ∷ [])
+
+-- signal 0 shows proceed again
+pub by-heads : Enters fittedT (history fittedT countedOut) (main 0) 0 0 1
+unfolding runComputed headsComputed
+by-heads = enters-means fittedT (history fittedT countedOut) (main 0) 0 0 1 .0 refl
+
+-- and has all that demand 3 asks
+pub heads-guarded : Guarded fittedT (history fittedT countedOut) (main 0) 0 0 1
+heads-guarded = safe-run fittedT fitted-sound countedOut .guarded (main 0) 0 0 1 by-heads
+
+-- the free reading that ended the block's last spell, given by a count, closed a passage
+pub heads-passage : (w : ℕ) × Since (Closes fittedT 0 0 w) (LeavesFree (gaveBlock fittedT 0 0)) (history fittedT countedOut)
+unfolding runComputed headsComputed
+heads-passage = passed-means fittedT 0 0 (history fittedT countedOut) .0 refl
+
+-- a count gives the block occupied also where it read so already: axles in the block, then section 0 occupied, one axle more, section 0 free, and route 0 goes
+pub counts-again : shown fittedT (history fittedT (letOutAt 0 ++ (event 11 2 2 ∷ event 1 0 2 ∷ event 11 2 3 ∷ event 1 0 1 ∷ []))) .route 0 ≡ showsIdle
+unfolding runComputed headsComputed
+counts-again = refl

@@ -170,7 +170,7 @@ abbrev ordered : List Event
 ordered = event 7 0 1 ∷ event 6 0 1 ∷ event 4 1 0 ∷ event 4 0 0 ∷ []
 
 -- so a train is let out, the block's heads having counted from n
-abbrev letOutAt : ℕ → List Event
+abbrev pub letOutAt : ℕ → List Event
 letOutAt n = others ++ (provedAt n ++ ordered)
 
 -- the runs after which a signal shows proceed into a block that does not read free
