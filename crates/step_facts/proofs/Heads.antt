@@ -80,17 +80,22 @@ module _ (L : Layout) (s : State) (e : Event) where
 
 -- ---- runs
 
--- an event that is refused leaves all, and so there are as many after any answer
+-- an event that is refused leaves all: so there are as many after any answer
 answer-heads : {isSound : Bool} (L : Layout) (s : State) (e : Event) {r : Answer} → Ending isSound L s (e .kind) (e .first) (e .second) r
     → length (r .next .axles) ≡ length (s .axles)
 answer-heads L s e (done p) = heads-many L s e
 answer-heads L s e (refused-by p) = refl
 
+-- and after a step
+pub step-heads : (L : Layout) (s : State) (e : Event) → length (step L s (e .kind) (e .first) (e .second) .next .axles) ≡ length (s .axles)
+unfolding step
+step-heads L s e = answer-heads L s e (ending _ L s (e .kind) (e .first) (e .second))
+
 -- and after a run
 run-heads : (L : Layout) (s : State) (es : List Event) → length (stateAfter (box L) s es .axles) ≡ length (s .axles)
-unfolding stateAfter box step
+unfolding stateAfter box
 run-heads L s [] = refl
-run-heads L s (e ∷ es) = run-heads L _ es ∙ answer-heads L s e (ending _ L s (e .kind) (e .first) (e .second))
+run-heads L s (e ∷ es) = run-heads L _ es ∙ step-heads L s e
 
 -- so from the cold start every section has its heads
 pub cold-run-heads : (L : Layout) (es : List Event) → length (fromCold L es .axles) ≡ mostSections

@@ -1,6 +1,6 @@
 -- The readings that events give sections: those of kind 1, and what a section's heads say (L1).
 use Prim.Native.Nat.{ℕ, _/_, _≤_}
-use mathlib.Core.Path.{_≡_}
+use mathlib.Core.Path.{_≡_, refl, sym, ap, ap₂, _∙_}
 use mathlib.Core.Logic.{_≢_}
 use mathlib.Core.List.{List}
 use native.Mathlib.Omega.{arith}
@@ -57,3 +57,13 @@ module _ {s : State} {e : Event} {g v : ℕ} {xs : List Axles} (t : Tells s e g 
   -- so no reading of a point, no order and no second does
   pub tells-no-order : (2 ≤ e .kind) × (e .kind ≤ 10) → ⊥
   tells-no-order h = tells-nothing (omega arith)
+
+-- it gives one reading at most, and that to one section: what it names is told by the event, and heads by the section
+pub tells-once : {s : State} {e : Event} {g v h w : ℕ} {xs ys : List Axles} → Tells s e g v xs → Tells s e h w ys → (g ≡ h) × (v ≡ w) × (xs ≡ ys)
+tells-once (by-code k) (by-code m) = (refl, refl, refl)
+tells-once (by-code k) (by-heads m p q) = absurd (omega arith)
+tells-once (by-heads m p q) (by-code k) = absurd (omega arith)
+tells-once {s} {e} (by-heads k p q) (by-heads m u w) =
+    let same = p ∙ sym u in
+    let heads = q ∙ ap (λ n. headsBy (headsAt (s .axles) n) (e .kind) (e .first) (e .second)) same ∙ sym w in
+    (same, ap axlesReading heads, ap₂ (set (s .axles)) same heads)

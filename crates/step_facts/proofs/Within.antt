@@ -12,7 +12,7 @@ use Rattle.laws.specs.Tests.{anyBelow}
 use Rattle.laws.specs.Tables.{read, put}
 use Rattle.laws.proofs.Choice.{if-both, passed-over}
 use Rattle.laws.proofs.Tests.{and-left, and-both, not-both, fails-not, every-at, all-at, any-at}
-use Rattle.track.specs.Sizes.{mostLines, mostTrainRoutes, mostRoutes}
+use Rattle.track.specs.Sizes.{mostSections, mostLines, mostTrainRoutes, mostRoutes}
 use Rattle.tables.specs.Readings.{recorded}
 use Rattle.tables.specs.Blocks.{isOpen}
 use Rattle.signals.specs.Signals.{clear, fallen}
@@ -33,7 +33,7 @@ use Rattle.interlocking.specs.Step.{own, gives, after}
 use Rattle.interlocking.proofs.Rows.{OfKind, section-row, point-row, throw-row, set-row, cancel-row, secure-row, manual-row, bar-row, unbar-row, second-row, count-row, silent-row, reset-row, no-row, row-of}
 use Rattle.step_facts.specs.Run.{Event}
 use Rattle.step_facts.proofs.Entries.{phase, direction, stage, ends, read-each, put-elsewhere}
-use Rattle.step_facts.proofs.Tells.{head-named, reset-named, Tells, by-code, by-heads, Untold}
+use Rattle.step_facts.proofs.Tells.{head-named, reset-named, Tells, by-code, by-heads, Untold, tells-nothing, tells-no-order, tells-once}
 
 -- ---- the states within one event
 
@@ -102,6 +102,24 @@ is-done L s e = go (row-of L s (e .kind) (e .first) (e .second))
     go (silent-row q) = told (sym (head-named _ _ (omega arith))) (omega arith)
     go (reset-row q) = told (sym (reset-named _ _ q)) (omega arith)
     go (no-row u) = leaves (u .no-set, u .no-cancel, u .no-secure, u .no-release, (u .no-section, u .no-in, u .no-out, u .no-silent, u .no-reset)) same
+
+module _ (L : Layout) {s : State} {e : Event} {g v : ℕ} {xs : List Axles} (told : Tells s e g v xs) where
+  -- the state that an event leaves which gives section g the reading v: it gives no other
+  pub tells-done : done L s e ≡ ownSection (L .line) (L .lines) (withAxles s xs) g v
+  tells-done = go (is-done L s e)
+    where
+      go : {t : State} → Done L s e t → t ≡ ownSection (L .line) (L .lines) (withAxles s xs) g v
+      go (reads u) = let (a, b, c) = tells-once u told in rw (a, b, c)
+      go (sets k) = absurd (tells-no-order told (omega arith))
+      go (cancels k) = absurd (tells-no-order told (omega arith))
+      go (secures k) = absurd (tells-no-order told (omega arith))
+      go (opens k) = absurd (tells-no-order told (omega arith))
+      go (leaves f u) = absurd (tells-nothing told (f .4))
+
+  -- so at its end that section reads v, and any other what it read
+  pub tells-readings : end L s e .section ≡ put mostSections (s .section) g v
+  unfolding after settle lineRelease withLines routes routesBy withRoutes farSections signals ownSection withSections withAxles
+  tells-readings = ap (λ (t : State). t .section) tells-done
 
 -- the same of points and bars; the other kinds leave both as they are
 pub data Placed (s : State) (e : Event) : State → Type 0 where
