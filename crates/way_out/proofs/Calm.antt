@@ -1,4 +1,4 @@
--- What the events of the way out do: cancel, one second, a free reading, a manual release.
+-- What the events of the way out do: cancel, one second, a manual release. What a reading does stands in Freeing.
 use Prim.Native.Nat.{ℕ, _+_, _%_, _<_}
 use mathlib.Core.Path.{_≡_, refl, sym, _∙_}
 use mathlib.Core.Logic.{_≢_, _⊎_, inl, inr, ⊎-elim}
@@ -13,10 +13,8 @@ use Rattle.laws.proofs.Choice.{if-both, chosen, passed-over}
 use Rattle.laws.proofs.Tests.{and-both, or-left, not-both}
 use Rattle.track.specs.declared.Line.{Line}
 use Rattle.track.specs.declared.Route.{Route}
-use Rattle.track.specs.Sizes.{mostSections, mostLines, mostBlocks, mostTrainRoutes, mostRoutes}
+use Rattle.track.specs.Sizes.{mostLines, mostBlocks, mostTrainRoutes, mostRoutes}
 use Rattle.track.specs.Objects.{line}
-use Rattle.tables.specs.Readings.{recorded}
-use Rattle.tables.specs.Readings as readings
 use Rattle.tables.specs.Blocks.{place, isOpen}
 use Rattle.tables.specs.declared.Gives.{Gives}
 use Rattle.release.specs.declared.Locking.{Locking}
@@ -25,10 +23,10 @@ use Rattle.layout.specs.declared.Layout.{Layout}
 use Rattle.layout.specs.Layout.{lineIn}
 use Rattle.layout_facts.specs.Plain.{Sound}
 use Rattle.interlocking.specs.declared.State.{State}
-use Rattle.interlocking.specs.State.{withSections, withRoutes, withLines}
+use Rattle.interlocking.specs.State.{withSections, withRoutes, withLines, withAxles}
 use Rattle.interlocking.specs.Own.{ownSection, ownSet, ownCancel, ownSecure, openAt, ownManual}
 use Rattle.interlocking.specs.Settle.{signals, farSections, lockingOf, routeAfter, unlessIdle, routesBy, routes, lineRelease, settle}
-use Rattle.interlocking.specs.Rows.{aSecond, sectionRow, cancelRow, manualRow, secondRow, rowOf}
+use Rattle.interlocking.specs.Rows.{aSecond, cancelRow, manualRow, secondRow, rowWith, rowOf}
 use Rattle.interlocking.specs.Step.{own, gives, after}
 use Rattle.step_facts.specs.Run.{Event, event}
 use Rattle.step_facts.proofs.Entries.{phase, direction, stage, place-line, place-block, read-block, read-each, put-here, put-elsewhere}
@@ -48,7 +46,7 @@ Calm s r = (phase s r ≡ 0) ⊎ (phase s r ≡ 3)
 module _ (L : Layout) (S : Sound L) (s : State) (e : Event) (r : ℕ) (b : r < L .routes) where
   -- an event that sets no route and does not cancel this one does not itself change its phase
   phase-own : e .kind ≢ 4 → (e .kind ≡ 5 → e .first ≢ r) → phase (done L s e) r ≡ phase s r
-  unfolding ownSection ownSet ownCancel ownSecure ownManual withSections withRoutes withLines
+  unfolding ownSection ownSet ownCancel ownSecure ownManual withSections withRoutes withLines withAxles
   phase-own d other = go (is-done L s e)
     where
       go : {t : State} → Done L s e t → phase t r ≡ phase s r
@@ -76,7 +74,7 @@ module _ (L : Layout) (S : Sound L) (s : State) (e : Event) (r : ℕ) (b : r < L
 
   -- and so is one that it cancelled
   pub cancelled : e .kind ≡ 5 → e .first ≡ r → Calm (end L s e) r
-  unfolding own rowOf cancelRow ownCancel withRoutes if_then_else_
+  unfolding own rowOf rowWith cancelRow ownCancel withRoutes if_then_else_
   cancelled k q = calm-then (inr (rw (k, q) (put-here mostRoutes 0 (s .phase) r 3 r (omega (arith, S .ranges .routeCount)) refl)))
 
 -- in an event that gives a second a cancelling route goes, or counts it
@@ -103,7 +101,7 @@ module _ (L : Layout) (S : Sound L) (s : State) (r : ℕ) (b : r < L .routes) (t
 
   -- its signal is not at proceed, so it does not fall
   still-three : phase far r ≡ 3
-  unfolding far own rowOf secondRow if_then_else_ farSections withLines
+  unfolding far own rowOf rowWith secondRow if_then_else_ farSections withLines
   still-three = phase-lit L (S .ranges .routeCount) s (event 10 0 0) r b ∙ fallen-else L s r (phase s r) (omega arith) ∙ three
 
   -- a route that is not idle takes what becomes of it
@@ -113,7 +111,7 @@ module _ (L : Layout) (S : Sound L) (s : State) (r : ℕ) (b : r < L .routes) (t
 
   -- so by the end of a second it goes, or has counted one more
   pub second-on : (phase (end L s (event 10 0 0)) r ≡ 0) ⊎ ((phase (end L s (event 10 0 0)) r ≡ 3) × (second (end L s (event 10 0 0)) r ≡ second s r + 1))
-  unfolding far own gives rowOf secondRow aSecond if_then_else_ after settle lineRelease withLines routes routesBy withRoutes farSections signals routeAfter lockingOf
+  unfolding far own gives rowOf rowWith secondRow aSecond if_then_else_ after settle lineRelease withLines routes routesBy withRoutes farSections signals routeAfter lockingOf
   second-on =
       rw (
         read-each mostRoutes 0 (L .routes) _ (lit L s (event 10 0 0) .phase) r (omega (arith, S .ranges .routeCount)) b,
@@ -123,35 +121,17 @@ module _ (L : Layout) (S : Sound L) (s : State) (r : ℕ) (b : r < L .routes) (t
       )
       (ticked (L .line) (s .section) _ _ _ refl still-three)
 
--- ---- sections
-
--- what a section reads after a free reading of section a: free where it is that one, else what it read
-module _ (L : Layout) (s : State) (a g : ℕ) (b : g < mostSections) where
-  -- the one that is read
-  pub section-free : g ≡ a → readings.reading (end L s (event 1 a 1) .section) g ≡ 1
-  unfolding own rowOf sectionRow ownSection withSections if_then_else_ after settle lineRelease withLines routes routesBy withRoutes farSections signals recorded readings.reading
-  section-free q = put-here mostSections 3 (s .section) a 1 g b q
-
-  -- one that read free before
-  pub free-on : readings.reading (s .section) g ≡ 1 → readings.reading (end L s (event 1 a 1) .section) g ≡ 1
-  unfolding own rowOf sectionRow ownSection withSections if_then_else_ after settle lineRelease withLines routes routesBy withRoutes farSections signals recorded readings.reading
-  free-on f = go (ℕ-discrete g a)
-    where
-      go : Dec (g ≡ a) → readings.reading (end L s (event 1 a 1) .section) g ≡ 1
-      go (yes q) = section-free q
-      go (no d) = put-elsewhere mostSections 3 (s .section) a 1 g b d ∙ f
+-- ---- sections, lines and blocks
 
 -- a manual release leaves the sections
 pub release-sections : (L : Layout) (s : State) (l : ℕ) → end L s (event 7 l 1) .section ≡ s .section
-unfolding own rowOf manualRow ownManual if_then_else_ after settle lineRelease withLines routes routesBy withRoutes farSections signals
+unfolding own rowOf rowWith manualRow ownManual if_then_else_ after settle lineRelease withLines routes routesBy withRoutes farSections signals
 release-sections L s l = refl
-
--- ---- lines and blocks
 
 module _ (L : Layout) (S : Sound L) (s : State) (l : ℕ) (k : ℕ) (b : k < L .lines) where
   -- a manual release makes its line neutral, and leaves neutral what is
   pub neutral-on : (k ≡ l) ⊎ (direction s k ≡ 0) → direction (end L s (event 7 l 1)) k ≡ 0
-  unfolding own rowOf manualRow ownManual withLines if_then_else_
+  unfolding own rowOf rowWith manualRow ownManual withLines if_then_else_
   neutral-on c = ⊎-elim (λ q. q ∙ own-neutral c (ℕ-discrete k l)) (λ t. t .0) (released L (S .ranges .lineCount) s (event 7 l 1) k b)
     where
       own-neutral : (k ≡ l) ⊎ (direction s k ≡ 0) → Dec (k ≡ l) → direction (done L s (event 7 l 1)) k ≡ 0
@@ -168,7 +148,7 @@ module _ (L : Layout) (S : Sound L) (s : State) (l : ℕ) (k : ℕ) (b : k < L .
 
   -- and at its end: far sections neither open a block nor shut one
   pub open-on : (i : ℕ) → i < lineIn L k .blocks → (k ≡ l) ⊎ (stage s k i ≡ 0) → stage (end L s (event 7 l 1)) k i ≡ 0
-  unfolding own rowOf manualRow ownManual withLines if_then_else_ isOpen
+  unfolding own rowOf rowWith manualRow ownManual withLines if_then_else_ isOpen
   open-on i h c =
       let few : i < mostBlocks = omega (arith, S .ranges .lines k b .blockCount) in
       eqb-true _ 0 (open-same L S s (event 7 l 1) k i b h ∙ eq-eqb _ 0 (read-block k i few (L .lines) _ (s .stage) b (S .ranges .lineCount) ∙ opened i h few c))

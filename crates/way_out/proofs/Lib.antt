@@ -1,3 +1,6 @@
+pub mod Proving
+pub mod Goes
+pub mod Freeing
 pub mod Calm
 pub mod WayOut
 pub mod NoDeadEnd

@@ -26,7 +26,7 @@ use Rattle.refusals.proofs.Granted.{granted-at, when-granted, granted-sound, gr
 use Rattle.interlocking.specs.declared.State.{State}
 use Rattle.interlocking.specs.declared.Answer.{Answer}
 use Rattle.interlocking.specs.State.{inRange}
-use Rattle.interlocking.specs.Rows.{setRow, rowOf}
+use Rattle.interlocking.specs.Rows.{setRow, rowWith, rowOf}
 use Rattle.interlocking.specs.Step.{rowRefusal, refusal, step}
 use Rattle.step_facts.proofs.Step.{Ending, done, refused-by, ending}
 use Rattle.way_out.specs.WayToProceed.{SetNeedsAgreement}
@@ -47,13 +47,13 @@ placed points n ps ws e j b c =
 module _ (L : Layout) (s : State) (r : ℕ) (exit : routeIn L r .kind ≡ 2) (pass : refusal (sound L and inRange s) L s 4 r 0 .number ≡ 0) where
   -- 18, 2: the layout is sound and has the route
   set-there : (sound L ≡ true) × (r < L .routes)
-  unfolding refusal rowRefusal rowOf setRow if_then_else_
-  set-there = (and-left _ _ (granted-sound _ _ _ _ (granted-at _ pass 0)), leb-false _ _ (granted-there _ _ _ _ (granted-at _ pass 0)))
+  unfolding refusal rowRefusal rowOf rowWith setRow if_then_else_
+  set-there = (and-left _ _ (granted-sound _ _ _ _ _ (granted-at _ pass 0)), leb-false _ _ (granted-there _ _ _ _ _ (granted-at _ pass 0)))
 
   -- 6: the points of the route and those of its line read their positions
   set-placed : (notPlaced (s .point) (routeIn L r .points) (routeIn L r .point) (routeIn L r .position) .number ≡ 0)
       × (notPlaced (s .point) (lineIn L (routeIn L r .line) .points) (lineIn L (routeIn L r .line) .point) (lineIn L (routeIn L r .line) .position) .number ≡ 0)
-  unfolding refusal rowRefusal rowOf setRow if_then_else_ setRefusal routeRefusal exitRefusal routeIn lineIn
+  unfolding refusal rowRefusal rowOf rowWith setRow if_then_else_ setRefusal routeRefusal exitRefusal routeIn lineIn
   set-placed =
       let lists = granted-at _ (granted-at _ pass 1) 2 in
       (granted-at _ lists 0, granted-at _ (rw (eq-eqb _ _ exit) at (granted-at _ lists 2)) 1)

@@ -1,28 +1,35 @@
 -- No dead end: from every state that a run can reach on an accepted layout the way out leads to rest.
 use Prim.Native.Nat.{ℕ, zero, suc, _+_, _*_, _≤_}
-use mathlib.Core.Path.{_≡_, refl}
-use mathlib.Core.Bool.{true}
-use mathlib.Core.List.{List}
+use mathlib.Core.Path.{_≡_, refl, _∙_}
+use mathlib.Core.Bool.{Bool, true, false}
+use mathlib.Core.List.{List, [], _∷_}
 use native.Mathlib.Nat.{le-refl}
 use native.Mathlib.Omega.{arith}
 use borrow.Author.Tests.{eq-eqb}
 use lib.ListN.{length, length-append}
-use Rattle.laws.proofs.Choice.{if-both}
+use Rattle.laws.specs.Choice.{if_then_else_}
+use Rattle.laws.proofs.Arrays.{nothing-at}
+use Rattle.laws.proofs.Choice.{if-both, passed-over}
 use Rattle.track.specs.Codes.{openBlock}
-use Rattle.track.specs.Sizes.{mostBlocks}
+use Rattle.track.specs.Sizes.{mostSections, mostBlocks}
+use Rattle.track.specs.Blocks.{onlySection}
+use Rattle.tables.specs.Readings.{blockReading}
 use Rattle.tables.specs.Blocks.{isOpen}
 use Rattle.layout.specs.declared.Layout.{Layout}
+use Rattle.layout.specs.Layout.{noneFitted, isFitted, lineIn}
+use Rattle.layout.specs.Load.{load}
 use Rattle.layout.specs.Sound.{sound}
 use Rattle.layout_facts.specs.Plain.{Sound}
 use Rattle.layout_facts.proofs.Sound.{sound-says}
 use Rattle.layout_facts.proofs.Loaded.{loaded-sound}
-use Rattle.step_facts.proofs.Run.{cold-run-in-range}
+use Rattle.layout_facts.proofs.LoadedCleared.{loaded-none-told}
 use Rattle.interlocking.specs.declared.State.{State}
-use Rattle.interlocking.specs.State.{inRange}
 use Rattle.interlocking.specs.Step.{step}
-use Rattle.step_facts.specs.Run.{Event}
+use Rattle.step_facts.specs.Run.{Event, event, fromCold}
+use Rattle.way_out.specs.Freeing.{counted, freeing, heads, fittedAmong, fittedBlocks}
 use Rattle.way_out.specs.WayOut.{standing, cancels, ninetySeconds, readFree, allReadFree, releases, wayOut, AtRest, WayOut, NoDeadEnd}
-use Rattle.way_out.proofs.WayOut.{Goes, after-that, cancel-all, wait-all, read-all, release-all}
+use Rattle.way_out.proofs.Goes.{Whole, run-whole, Goes, after-that, ending-so}
+use Rattle.way_out.proofs.WayOut.{cancel-all, wait-all, read-all, release-all}
 
 -- ---- how long it is
 
@@ -34,15 +41,25 @@ cancels-short L (suc n) s =
     if-both (λ (es : List Event). length es ≤ suc n) (standing s n) (λ t. let h = cancels-short L n (step L s 5 n 0 .next) in omega arith)
     (λ f. let h = cancels-short L n s in omega arith)
 
--- one reading for each block
-read-length : (L : Layout) (l n : ℕ) → length (readFree L l n) ≡ n
-unfolding readFree
-read-length L l zero = refl
-read-length L l (suc n) = let h = read-length L l n in omega arith
+-- one reading for a section that has no heads, six events more for one that has
+pub freeing-length : (L : Layout) (g : ℕ) → length (freeing L g) ≡ 1 + 6 * heads L g
+unfolding freeing counted heads if_then_else_
+freeing-length L g = go (isFitted L g)
+  where
+    go : (t : Bool) → length (if t then counted g else (event 1 g 1 ∷ [])) ≡ 1 + 6 * (if t then 1 else 0)
+    go true = refl
+    go false = refl
 
--- at most eight for each line
-read-short : (L : Layout) → Sound L → (n : ℕ) → n ≤ L .lines → length (allReadFree L n) ≤ mostBlocks * n
-unfolding allReadFree
+-- so for the blocks of a line
+read-length : (L : Layout) (l n : ℕ) → length (readFree L l n) ≡ n + 6 * fittedAmong L n (onlySection (lineIn L l))
+unfolding readFree fittedAmong
+read-length L l zero = refl
+read-length L l (suc n) =
+    length-append (freeing L (onlySection (lineIn L l) n)) _ ∙ (let h = read-length L l n in let one = freeing-length L (onlySection (lineIn L l) n) in omega arith)
+
+-- at most eight blocks for each line
+read-short : (L : Layout) → Sound L → (n : ℕ) → n ≤ L .lines → length (allReadFree L n) ≤ mostBlocks * n + 6 * fittedBlocks L n
+unfolding allReadFree fittedBlocks
 read-short L S zero b = omega arith
 read-short L S (suc l) b =
     let few = S .ranges .lines l b .blockCount in
@@ -56,7 +73,7 @@ releases-length zero = refl
 releases-length (suc n) = let h = releases-length n in omega arith
 
 -- together
-pub way-short : (L : Layout) → Sound L → (s : State) → length (wayOut L s) ≤ L .routes + 90 + 9 * L .lines
+pub way-short : (L : Layout) → Sound L → (s : State) → length (wayOut L s) ≤ L .routes + 90 + 9 * L .lines + 6 * fittedBlocks L (L .lines)
 unfolding wayOut ninetySeconds
 way-short L S s =
     let a = cancels-short L (L .routes) s in
@@ -65,31 +82,81 @@ way-short L S s =
 
 -- ---- where it leads
 
--- from any state in range to rest
-pub goes-to-rest : (L : Layout) → sound L ≡ true → (s : State) → inRange s ≡ true → Goes L s (wayOut L s) (AtRest L)
-unfolding wayOut isOpen
-goes-to-rest L ok s ranged =
+-- from any state of a run to rest
+pub goes-to-rest : (L : Layout) → sound L ≡ true → (s : State) → Whole s → Goes L s (wayOut L s) (AtRest L)
+unfolding wayOut isOpen blockReading
+goes-to-rest L ok s whole =
     let S = sound-says L ok in
-    let G = after-that (cancel-all L ok S (L .routes) s (le-refl _) ranged (λ r b c. absurd (omega arith)))
-    (λ t r calm. after-that (wait-all L ok S t r calm)
-    (λ t r idle. after-that (read-all L ok S (L .lines) t (le-refl _) r (idle, λ l i b c. absurd (omega arith)))
-    (λ t r free. release-all L ok S (L .lines) t (le-refl _) r (free .0, free .1, λ l b c. absurd (omega arith))))) in
-    record {
-      granted = G .granted;
-      ranged = G .ranged;
-      ends = record {
-        routes = G .ends .0;
-        lines = λ l b. G .ends .2 l (omega arith) b .0;
-        blocks = λ l i b c. eq-eqb _ openBlock (G .ends .2 l (omega arith) b .1 i c);
-      };
-    }
+    ending-so (after-that (cancel-all L ok S (L .routes) s (le-refl _) whole (λ r b c. absurd (omega arith)))
+    (λ t w calm. after-that (wait-all L ok S t w calm)
+    (λ t w idle. after-that (read-all L ok S (L .lines) t (le-refl _) w (idle, λ l i b c. absurd (omega arith)))
+    (λ t w free. release-all L ok S (L .lines) t (le-refl _) w (free .0, free .1, λ l b c. absurd (omega arith))))))
+    (λ t w (idle, free, rest). record {
+      routes = idle;
+      lines = λ l b. rest l (omega arith) b .0;
+      blocks = λ l i b c. eq-eqb _ openBlock (rest l (omega arith) b .1 i c);
+      free = λ l i b c. free l i (omega arith) b c;
+    })
 
--- that is the way out
-leads-out : (L : Layout) → sound L ≡ true → (s : State) → inRange s ≡ true → WayOut L s
-leads-out L ok s ranged =
-    let G = goes-to-rest L ok s ranged in
-    record { granted = G .granted; short = way-short L (sound-says L ok) s; rest = G .ends }
+-- that is the way out, from every state that a run reaches on a sound layout, sections with heads or without
+pub sound-way-out : (L : Layout) → sound L ≡ true → (es : List Event) → WayOut L (fromCold L es)
+sound-way-out L ok es =
+    let G = goes-to-rest L ok (fromCold L es) (run-whole L es) in
+    record { granted = G .granted; short = way-short L (sound-says L ok) (fromCold L es); rest = G .ends }
 
--- every state that a run reaches is in range
+-- so on an accepted one
 pub no-dead-end : NoDeadEnd
-no-dead-end bytes ok es = leads-out _ (loaded-sound bytes ok) _ (cold-run-in-range _ es)
+no-dead-end bytes ok es = sound-way-out _ (loaded-sound bytes ok) es
+
+-- ---- how long it is at most, and where no section has heads
+
+-- a section counts once
+one-section : (L : Layout) (g : ℕ) → heads L g ≤ 1
+unfolding heads
+one-section L g = if-both (λ k. k ≤ 1) _ (λ t. omega arith) (λ f. omega arith)
+
+-- of n sections at most n have heads
+pub among-few : (L : Layout) (n : ℕ) (g : ℕ → ℕ) → fittedAmong L n g ≤ n
+unfolding fittedAmong
+among-few L zero g = omega arith
+among-few L (suc n) g = let h = among-few L n g in omega (arith, one-section L (g n))
+
+-- so of the blocks of a line at most eight
+pub blocks-few : (L : Layout) → Sound L → (n : ℕ) → n ≤ L .lines → fittedBlocks L n ≤ mostBlocks * n
+unfolding fittedBlocks
+blocks-few L S zero b = omega arith
+blocks-few L S (suc l) b =
+    let few = S .ranges .lines l b .blockCount in
+    let rest = blocks-few L S l (omega arith) in
+    omega (arith, among-few L (lineIn L l .blocks) (onlySection (lineIn L l)))
+
+-- and the way out has at most 57 events for each line: seven for each block, and the release
+pub way-longest : (L : Layout) → sound L ≡ true → (s : State) → length (wayOut L s) ≤ L .routes + 90 + 57 * L .lines
+way-longest L ok s = let S = sound-says L ok in omega (arith, way-short L S s, blocks-few L S (L .lines) (omega arith))
+
+module _ (L : Layout) (none : (g : ℕ) → isFitted L g ≡ false) where
+  -- where no section has heads none of any does
+  pub none-among : (n : ℕ) (g : ℕ → ℕ) → fittedAmong L n g ≡ 0
+  unfolding fittedAmong heads
+  none-among zero g = refl
+  none-among (suc n) g = rw (none-among n g, passed-over {A = ℕ} _ 1 0 (none (g n)))
+
+  -- nor any block
+  pub none-in-blocks : (n : ℕ) → fittedBlocks L n ≡ 0
+  unfolding fittedBlocks
+  none-in-blocks zero = refl
+  none-in-blocks (suc l) = rw (none-in-blocks l, none-among (lineIn L l .blocks) (onlySection (lineIn L l)))
+
+  -- so the way out has at most nine events for each line
+  pub unfitted-short : sound L ≡ true → (s : State) → length (wayOut L s) ≤ L .routes + 90 + 9 * L .lines
+  unfitted-short ok s = omega (arith, way-short L (sound-says L ok) s, none-in-blocks (L .lines))
+
+-- an accepted layout is one, since a file tells of no heads
+pub accepted-unfitted : (bytes : List ℕ) → load bytes .number ≡ 0 → (g : ℕ) → isFitted (load bytes .layout) g ≡ false
+unfolding isFitted noneFitted
+accepted-unfitted bytes ok g = rw (loaded-none-told bytes ok .fitted, nothing-at {A = ℕ} mostSections 0 g)
+
+-- so there it has
+pub accepted-short : (bytes : List ℕ) → load bytes .number ≡ 0 → (s : State)
+    → length (wayOut (load bytes .layout) s) ≤ load bytes .layout .routes + 90 + 9 * load bytes .layout .lines
+accepted-short bytes ok s = unfitted-short _ (accepted-unfitted bytes ok) (loaded-sound bytes ok) s

@@ -31,7 +31,7 @@ use Rattle.reasons.specs.Reasons.{notPlaced, conflicting, byRoute, byLine, bloc
 use Rattle.refusals.specs.Orders.{throwRefusal, exitRefusal, routeRefusal, setRefusal, secureRefusal}
 use Rattle.interlocking.specs.declared.State.{State}
 use Rattle.interlocking.specs.State.{inRange, tablesOf}
-use Rattle.interlocking.specs.Rows.{throwRow, setRow, secureRow, rowOf}
+use Rattle.interlocking.specs.Rows.{throwRow, setRow, secureRow, rowWith, rowOf}
 use Rattle.interlocking.specs.Step.{refusal}
 use Rattle.way_out.specs.WayOut.{AtRest}
 use Rattle.step_facts.proofs.Entries.{phase, direction}
@@ -82,9 +82,9 @@ module _ (L : Layout) (s : State) (ok : sound L ≡ true) (ranged : inRange s �
   -- throw a point, where no route is locked, no line secured and the point's own section reads free
   pub throw-granted : Sound L → (p w : ℕ) → p < L .points → (w ≡ 1) ⊎ (w ≡ 2) → AtRest L s → reading (s .section) (ownSection L p) ≡ 1
       → refusal (sound L and inRange s) L s 3 p w .number ≡ 0
-  unfolding rowOf throwRow if_then_else_ throwRefusal byRoute byLine routeLocks lineLocks locked ownSection
+  unfolding rowOf rowWith throwRow if_then_else_ throwRefusal byRoute byLine routeLocks lineLocks locked ownSection noRefusal refused
   throw-granted S p w b position rest free =
-      granted L s ok ranged 3 p w (lt-leb _ p b) (one-of-two w position)
+      granted L s ok ranged 3 p w (lt-leb _ p b) refl (one-of-two w position)
       (first-none _ _ _ (found-none 15 _ _ (λ r c. fails-from _ (λ t. not-both (eq-eqb _ 0 (rest .routes r c)) (not-true _ (and-left _ _ t)))))
       (first-none _ _ _ (found-none 16 _ _ (λ l c. fails-from _ (λ t. not-both (eq-eqb _ 0 (rest .lines l c)) (not-true _ (and-left _ _ t)))))
       (last-none _ (all-free (s .section) _ (λ g c t.
@@ -94,9 +94,9 @@ module _ (L : Layout) (s : State) (ok : sound L ≡ true) (ranged : inRange s �
   -- secure a neutral line whose blocks are open and not barred and whose points read their positions
   pub secure-granted : (l w : ℕ) → l < L .lines → (w ≡ 1) ⊎ (w ≡ 2) → AtRest L s → AllUnbarred l (lineIn L l .blocks) s → LinePlaced L l s
       → refusal (sound L and inRange s) L s 6 l w .number ≡ 0
-  unfolding rowOf secureRow if_then_else_ secureRefusal blockBarred blockHeld linePoint linePosition lineIn
+  unfolding rowOf rowWith secureRow if_then_else_ secureRefusal blockBarred blockHeld linePoint linePosition lineIn noRefusal refused
   secure-granted l w b way rest bars placed =
-      granted L s ok ranged 6 l w (lt-leb _ l b) (one-of-two w way)
+      granted L s ok ranged 6 l w (lt-leb _ l b) refl (one-of-two w way)
       (first-none _ _ _ (when-none _ 12 _ (ap not (eq-eqb _ 0 (rest .lines l b))))
       (first-none _ _ _ (passing-none 11 _ _ bars)
       (first-none _ _ _ (placed-none _ _ _ _ placed) (last-none _ (passing-none 10 _ _ (λ i h. rest .blocks l i b h))))))
@@ -142,9 +142,9 @@ module _ (L : Layout) (s : State) (ok : sound L ≡ true) (ranged : inRange s �
 
   -- it is set
   pub set-granted : refusal (sound L and inRange s) L s 4 r 0 .number ≡ 0
-  unfolding rowOf setRow if_then_else_ setRefusal conflicting locked routeRefusal noRefusal refused routePoint routePosition routeIn
+  unfolding rowOf rowWith setRow if_then_else_ setRefusal conflicting locked routeRefusal noRefusal refused routePoint routePosition routeIn
   set-granted =
-      granted L s ok ranged 4 r 0 (lt-leb _ r b) refl
+      granted L s ok ranged 4 r 0 (lt-leb _ r b) refl refl
       (first-none _ _ _ (when-none _ 4 r (ap not (eq-eqb _ 0 (P .idle r b))))
       (first-none _ _ _ (found-none 5 _ _ (λ q c. fails-from _ (λ t. not-both (eq-eqb _ 0 (P .idle q c)) (not-true _ (and-left _ _ t)))))
       (last-none _ (first-none _ _ _ (placed-none _ _ _ _ (P .placed)) (first-none _ _ _ (all-free (s .section) _ listed-free)

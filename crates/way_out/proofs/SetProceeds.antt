@@ -32,7 +32,7 @@ use Rattle.interlocking.specs.declared.State.{State}
 use Rattle.interlocking.specs.State.{withRoutes, withLines}
 use Rattle.interlocking.specs.Own.{ownSet}
 use Rattle.interlocking.specs.Settle.{fallenAt, signals, farSections, lockingOf, routeAfter, unlessIdle, routesBy, routes, lineRelease, settle}
-use Rattle.interlocking.specs.Rows.{setRow, rowOf}
+use Rattle.interlocking.specs.Rows.{setRow, rowWith, rowOf}
 use Rattle.interlocking.specs.Step.{own, after}
 use Rattle.step_facts.specs.Run.{event}
 use Rattle.step_facts.proofs.Entries.{phase, read-each, put-here, put-elsewhere}
@@ -106,17 +106,17 @@ only-lowest n p r b t others = seek-here n p r (up-to r (omega arith)) b refl t
 module _ (L : Layout) (S : Sound L) (r : ℕ) (b : r < L .routes) (s : State) (P : Prepared L r s) where
   -- the event itself puts it to proceed
   own-set : phase (done L s (event 4 r 0)) r ≡ 1
-  unfolding own rowOf setRow ownSet withRoutes if_then_else_
+  unfolding own rowOf rowWith setRow ownSet withRoutes if_then_else_
   own-set = put-here mostRoutes 0 (s .phase) r 1 r (omega (arith, S .ranges .routeCount)) refl
 
   -- with no step done
   no-step : read mostTrainRoutes 0 (done L s (event 4 r 0) .steps) r ≡ 0
-  unfolding own rowOf setRow ownSet withRoutes if_then_else_
+  unfolding own rowOf rowWith setRow ownSet withRoutes if_then_else_
   no-step = put-here mostTrainRoutes 0 (s .steps) r 0 r (omega (arith, S .ranges .routeCount)) refl
 
   -- its signal does not fall
   still-lit : phase (lit L s (event 4 r 0)) r ≡ 1
-  unfolding fallenAt fallen own rowOf setRow ownSet withRoutes if_then_else_ routeIn
+  unfolding fallenAt fallen own rowOf rowWith setRow ownSet withRoutes if_then_else_ routeIn
   still-lit =
       phase-lit L (S .ranges .routeCount) s (event 4 r 0) r b ∙ chosen _ _ _ (eq-eqb _ 1 own-set) ∙ chosen _ _ _ (prepared-clear L S r b s P)
 
@@ -129,7 +129,7 @@ module _ (L : Layout) (S : Sound L) (r : ℕ) (b : r < L .routes) (s : State) (P
 
   -- the others stay idle
   others-idle : (q : ℕ) → q < L .routes → q ≢ r → phase (end L s (event 4 r 0)) q ≡ 0
-  unfolding own rowOf setRow ownSet withRoutes if_then_else_
+  unfolding own rowOf rowWith setRow ownSet withRoutes if_then_else_
   others-idle q c d =
       ⊎-elim (λ z. z) (λ z. z ∙ idle) (phase-stays L (S .ranges .routeCount) s (event 4 r 0) q c (omega (arith, idle)))
     where

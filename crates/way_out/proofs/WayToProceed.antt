@@ -15,14 +15,14 @@ use Rattle.layout_facts.specs.Plain.{path, overlap, routePosition, LineRanges, 
 use Rattle.layout_facts.proofs.Order.{one-of}
 use Rattle.layout_facts.proofs.Uses.{entered-block}
 use Rattle.interlocking.specs.declared.State.{State}
-use Rattle.interlocking.specs.State.{inRange}
 use Rattle.step_facts.specs.Run.{Event, event}
 use Rattle.way_out.specs.WayOut.{AtRest}
 use Rattle.way_out.specs.WayToProceed.{clearing, securing, lineFor, PointsAgree}
 use Rattle.step_facts.proofs.Entries.{phase}
+use Rattle.step_facts.proofs.Tells.{tells-no-order}
 use Rattle.step_facts.proofs.Within.{end}
 use Rattle.way_out.proofs.Calm.{idle-on}
-use Rattle.way_out.proofs.WayOut.{Goes, stop, goes, after-that}
+use Rattle.way_out.proofs.Goes.{Whole, Goes, stop, goes, after-that}
 use Rattle.way_out.proofs.OrdersGranted.{AllFree, LinePlaced, RoutePlaced, AllUnbarred, secure-granted, Prepared, set-granted}
 use Rattle.way_out.proofs.Resting.{open-stays, secure-else, Lasting, both-last, rest-lasts, free-lasts, bars-last, points-last, secured-on}
 use Rattle.way_out.proofs.SetProceeds.{set-on, set-shows}
@@ -49,16 +49,16 @@ module _ (L : Layout) (ok : sound L ≡ true) (S : Sound L) (r : ℕ) (b : r < L
 
   -- what reads free lasts, with rest
   vacant-lasts : Lasting L r (Vacant L r)
-  vacant-lasts = both-last (both-last (rest-lasts L S r) (free-lasts L S r _ _ (own .paths))) (free-lasts L S r _ _ (own .overlaps))
+  vacant-lasts = both-last (both-last (rest-lasts L r) (free-lasts L r _ _ (own .paths))) (free-lasts L r _ _ (own .overlaps))
 
   -- from rest the sections read free and the points come in position: no two of them are one
-  clear-all : (s : State) → inRange s ≡ true → AtRest L s → Goes L s (clearing L r) (Ready L r)
+  clear-all : (s : State) → Whole s → AtRest L s → Goes L s (clearing L r) (Ready L r)
   unfolding clearing
-  clear-all s ranged rest =
-      after-that (free-turn L ok S r (AtRest L) (rest-lasts L S r) _ _ (own .paths) s ranged rest)
-      (λ t in-range q. after-that (free-turn L ok S r _ (both-last (rest-lasts L S r) (free-lasts L S r _ _ (own .paths))) _ _ (own .overlaps) t in-range q)
-      (λ t in-range q. place-turn L ok S r (Vacant L r) vacant-lasts _ _ _ (own .points) (own .positions) (λ i j. S .rule3 .routePoints r i j b)
-      (λ j c i d z. ap (routePosition L r) (S .rule3 .routePoints r i j b d c z)) (λ t q. q .0 .0) t in-range q))
+  clear-all s whole rest =
+      after-that (free-turn L ok S r b (AtRest L) (rest-lasts L r) (λ t q. q) _ _ (own .paths) s whole rest)
+      (λ t w q. after-that (free-turn L ok S r b _ (both-last (rest-lasts L r) (free-lasts L r _ _ (own .paths))) (λ t q. q .0) _ _ (own .overlaps) t w q)
+      (λ t w q. place-turn L ok S r b (Vacant L r) vacant-lasts (λ t q. q .0 .0) _ _ _ (own .points) (own .positions) (λ i j. S .rule3 .routePoints r i j b)
+      (λ j c i d z. ap (routePosition L r) (S .rule3 .routePoints r i j b d c z)) t w q))
 
   -- ---- what an exit route asks besides
 
@@ -85,7 +85,7 @@ module _ (L : Layout) (ok : sound L ≡ true) (S : Sound L) (r : ℕ) (b : r < L
           placed = rw (same .1) (q .1);
           line = λ k. record {
             secured = secured-on L S s l (line-there .0) rest (routeIn L r .end + 1);
-            opened = open-stays L S s e (omega arith) (omega arith) l _ (line-there .0) here (rest .blocks l _ (line-there .0) here);
+            opened = open-stays L S s e (λ g v xs told. absurd (tells-no-order told (omega arith))) (omega arith) l _ (line-there .0) here (rest .blocks l _ (line-there .0) here);
             noBar = rw (same .2) (bars _ here);
             placed = rw (same .1) placed;
           };
@@ -93,30 +93,30 @@ module _ (L : Layout) (ok : sound L ≡ true) (S : Sound L) (r : ℕ) (b : r < L
 
     -- line and route do not ask one point in two positions: the bars are cleared, the line's points come in position, those of the route stay, and the
     -- line is secured
-    secure-all : PointsAgree L r → (s : State) → inRange s ≡ true → Ready L r s → Goes L s (securing L l (routeIn L r .end + 1)) (Prepared L r)
+    secure-all : PointsAgree L r → (s : State) → Whole s → Ready L r s → Goes L s (securing L l (routeIn L r .end + 1)) (Prepared L r)
     unfolding securing
-    secure-all agree s ranged q =
-        after-that (unbar-turn L ok S r (Ready L r) ready-lasts l (line-there .0) s ranged q)
-        (λ t in-range q. after-that (place-turn L ok S r _ (both-last ready-lasts (bars-last L S r l (line-there .0))) _ _ _ (lines .points) (lines .positions)
-        (λ i j. S .rule3 .linePoints l i j (line-there .0)) (λ k d j c z. agree j k c d z) (λ t q. q .0 .0 .0 .0) t in-range q)
-        (λ t in-range q. goes L ok S _ t (event 6 l (routeIn L r .end + 1)) []
-        (secure-granted L t ok in-range l _ (line-there .0) (one-of _ 1 2 (omega (arith, line-there .1))) (q .0 .0 .0 .0 .0) (q .0 .1) (q .1)) in-range
+    secure-all agree s whole q =
+        after-that (unbar-turn L ok S r b (Ready L r) ready-lasts (λ t q. q .0 .0 .0) l (line-there .0) s whole q)
+        (λ t w q. after-that (place-turn L ok S r b _ (both-last ready-lasts (bars-last L r l (line-there .0))) (λ t q. q .0 .0 .0 .0) _ _ _ (lines .points) (lines .positions)
+        (λ i j. S .rule3 .linePoints l i j (line-there .0)) (λ k d j c z. agree j k c d z) t w q)
+        (λ t w q. goes L _ t (event 6 l (routeIn L r .end + 1)) []
+        (secure-granted L t ok (w .ranged) l _ (line-there .0) (one-of _ 1 2 (omega (arith, line-there .1))) (q .0 .0 .0 .0 .0) (q .0 .1) (q .1)) w
         (λ u at still. stop L _ u still (rw at (secured-prepared t (q .0 .0) (q .0 .1) (q .1))))))
       where
         lines : LineRanges L l
         lines = S .ranges .lines l (line-there .0)
 
         ready-lasts : Lasting L r (Ready L r)
-        ready-lasts = both-last vacant-lasts (points-last L S r b)
+        ready-lasts = both-last vacant-lasts (points-last L r)
 
   -- ---- all of it
 
   -- the line, where the route is an exit route; any other has what it is set by
-  line-all : (routeIn L r .kind ≡ 2 → PointsAgree L r) → (s : State) → inRange s ≡ true → Ready L r s → Goes L s (lineFor L r) (Prepared L r)
+  line-all : (routeIn L r .kind ≡ 2 → PointsAgree L r) → (s : State) → Whole s → Ready L r s → Goes L s (lineFor L r) (Prepared L r)
   unfolding lineFor
-  line-all agree s ranged q =
-      if-both (λ es. Goes L s es (Prepared L r)) _ (λ t. let exit = eqb-true _ 2 t in secure-all exit (agree exit) s ranged q)
-      (λ f. stop L _ s ranged record {
+  line-all agree s whole q =
+      if-both (λ es. Goes L s es (Prepared L r)) _ (λ t. let exit = eqb-true _ 2 t in secure-all exit (agree exit) s whole q)
+      (λ f. stop L _ s whole record {
         idle = q .0 .0 .0 .routes;
         path = q .0 .0 .1;
         overlap = q .0 .1;
@@ -125,10 +125,10 @@ module _ (L : Layout) (ok : sound L ≡ true) (S : Sound L) (r : ℕ) (b : r < L
       })
 
   -- from rest the signal comes to proceed
-  pub comes-to-proceed : (routeIn L r .kind ≡ 2 → PointsAgree L r) → (s : State) → inRange s ≡ true → AtRest L s
+  pub comes-to-proceed : (routeIn L r .kind ≡ 2 → PointsAgree L r) → (s : State) → Whole s → AtRest L s
       → Goes L s (clearing L r ++ (lineFor L r ++ (event 4 r 0 ∷ []))) (AtProceed L r)
-  comes-to-proceed agree s ranged rest =
-      after-that (clear-all s ranged rest)
-      (λ t in-range q. after-that (line-all agree t in-range q)
-      (λ t in-range P. goes L ok S _ t (event 4 r 0) [] (set-granted L t ok in-range r b P) in-range
+  comes-to-proceed agree s whole rest =
+      after-that (clear-all s whole rest)
+      (λ t w q. after-that (line-all agree t w q)
+      (λ t w P. goes L _ t (event 4 r 0) [] (set-granted L t ok (w .ranged) r b P) w
       (λ u at still. stop L _ u still (rw at (set-on L S r b t P, set-shows L S r b t P)))))

@@ -7,8 +7,9 @@ use lib.Dec.{eqb}
 use lib.ListN.{length, replicate}
 use Rattle.laws.specs.Choice.{if_then_else_}
 use Rattle.laws.specs.Tests.{_and_}
-use Rattle.track.specs.Codes.{free, neutral, idle, cancelling, readSection, cancelRoute, releaseLine, oneSecond}
+use Rattle.track.specs.Codes.{free, neutral, idle, cancelling, cancelRoute, releaseLine, oneSecond}
 use Rattle.track.specs.Blocks.{onlySection}
+use Rattle.tables.specs.Readings.{blockReading}
 use Rattle.tables.specs.Blocks.{isOpen}
 use Rattle.tables.specs.Locks.{direction, phase, locked}
 use Rattle.layout.specs.declared.Layout.{Layout}
@@ -17,6 +18,7 @@ use Rattle.layout.specs.Load.{load}
 use Rattle.interlocking.specs.declared.State.{State}
 use Rattle.interlocking.specs.Step.{step}
 use Rattle.step_facts.specs.Run.{Event, event, box, stateAfter, fromCold}
+use Rattle.way_out.specs.Freeing.{freeing, fittedBlocks}
 
 -- ---- the way out
 
@@ -33,10 +35,10 @@ cancels L (suc r) s = if standing s r then event cancelRoute r 0 ∷ cancels L r
 unfoldable pub ninetySeconds : List Event
 ninetySeconds = replicate 90 (event oneSecond 0 0)
 
--- the first i blocks of line l read free: a reading of the one section of each
+-- the first i blocks of line l come to read free: the one section of each does
 unfoldable pub readFree : Layout → ℕ → ℕ → List Event
 readFree L l zero = []
-readFree L l (suc i) = event readSection (onlySection (lineIn L l) i) free ∷ readFree L l i
+readFree L l (suc i) = freeing L (onlySection (lineIn L l) i) ++ readFree L l i
 
 -- all blocks of the first n lines do
 unfoldable pub allReadFree : Layout → ℕ → List Event
@@ -59,16 +61,17 @@ unfoldable pub Granted : Layout → State → List Event → Type 0
 Granted L s [] = Unit {0}
 Granted L s (e ∷ es) = (step L s (e .kind) (e .first) (e .second) .number ≡ 0) × Granted L (step L s (e .kind) (e .first) (e .second) .next) es
 
--- every route is idle, every line neutral, every block open
+-- every route is idle, every line neutral, every block open and free
 pub record AtRest (L : Layout) (s : State) : Type 0 where
   pub routes : (r : ℕ) → r < L .routes → phase (s .phase) r ≡ idle
   pub lines : (l : ℕ) → l < L .lines → direction (s .direction) l ≡ neutral
   pub blocks : (l i : ℕ) → l < L .lines → i < lineIn L l .blocks → isOpen (s .stage) l i ≡ true
+  pub free : (l i : ℕ) → l < L .lines → i < lineIn L l .blocks → blockReading (s .section) (lineIn L l) i ≡ free
 
 -- the way out is granted, no longer than the layout allows, and ends at rest
 pub record WayOut (L : Layout) (s : State) : Type 0 where
   pub granted : Granted L s (wayOut L s)
-  pub short : length (wayOut L s) ≤ L .routes + 90 + 9 * L .lines
+  pub short : length (wayOut L s) ≤ L .routes + 90 + 9 * L .lines + 6 * fittedBlocks L (L .lines)
   pub rest : AtRest L (stateAfter (box L) s (wayOut L s))
 
 -- from every state that a run can reach on an accepted layout

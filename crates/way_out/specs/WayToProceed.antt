@@ -5,10 +5,11 @@ use mathlib.Core.List.{List, [], _∷_, _++_}
 use lib.Dec.{eqb}
 use lib.ListN.{length}
 use Rattle.laws.specs.Choice.{if_then_else_}
-use Rattle.laws.specs.Tables.{table}
-use Rattle.track.specs.Codes.{free, exitRoute, leaving, readSection, readPoint, throwPoint, setRoute, secureLine, unbarBlock}
+use Rattle.laws.specs.Tables.{table, join}
+use Rattle.track.specs.Codes.{exitRoute, leaving, readPoint, throwPoint, setRoute, secureLine, unbarBlock}
 use Rattle.track.specs.Signal.{main}
 use Rattle.signals.specs.MainSignals.{proceedShown}
+use Rattle.rules.specs.Rules.{isBlock}
 use Rattle.layout.specs.declared.Layout.{Layout}
 use Rattle.layout.specs.Layout.{lineIn, routeIn}
 use Rattle.layout.specs.Load.{load}
@@ -18,6 +19,7 @@ use Rattle.interlocking.specs.Step.{step}
 use Rattle.step_facts.specs.Run.{Event, event, box, stateAfter, fromCold}
 use Rattle.panel.specs.Panel.{image}
 use Rattle.panel.specs.Shown.{showsLocked, Panel, panel}
+use Rattle.way_out.specs.Freeing.{freeing, fittedAmong, fittedBlocks}
 use Rattle.way_out.specs.WayOut.{wayOut, Granted}
 
 -- ---- the events of the way, by their kind
@@ -26,9 +28,13 @@ use Rattle.way_out.specs.WayOut.{wayOut, Granted}
 unfoldable pub unbars : ℕ → ℕ → List Event
 unbars l n = table n (λ i. event unbarBlock l i)
 
--- the sections g 0, .., g (n - 1) read free
-unfoldable pub readsFree : ℕ → (ℕ → ℕ) → List Event
-readsFree n g = table n (λ j. event readSection (g j) free)
+-- section g comes to read free. A block reads free since the way out, and is left alone: an axle counted in it would take it again
+unfoldable pub readsFree : Layout → ℕ → List Event
+readsFree L g = if isBlock (L .lines) (L .line) g then [] else freeing L g
+
+-- the sections g 0, .., g (n - 1) do
+unfoldable pub allReadsFree : Layout → ℕ → (ℕ → ℕ) → List Event
+allReadsFree L n g = join n (λ j. readsFree L (g j))
 
 -- throw the points p 0, .., p (n - 1), each to its position
 unfoldable pub throws : ℕ → (ℕ → ℕ) → (ℕ → ℕ) → List Event
@@ -42,13 +48,13 @@ readsPlaced n p w = table n (λ j. event readPoint (p j) (w j))
 
 -- n points in position: the section in which each stands reads free, each is thrown, each reads its position
 unfoldable pub placing : Layout → ℕ → (ℕ → ℕ) → (ℕ → ℕ) → List Event
-placing L n p w = readsFree n (λ j. ownSection L (p j)) ++ (throws n p w ++ readsPlaced n p w)
+placing L n p w = allReadsFree L n (λ j. ownSection L (p j)) ++ (throws n p w ++ readsPlaced n p w)
 
 -- what every route asks (section 3, set route: 6, 7/8): path and overlap read free, its points in position
 unfoldable pub clearing : Layout → ℕ → List Event
 clearing L r =
-    readsFree (routeIn L r .paths) (path L r)
-    ++ (readsFree (routeIn L r .overlaps) (overlap L r)
+    allReadsFree L (routeIn L r .paths) (path L r)
+    ++ (allReadsFree L (routeIn L r .overlaps) (overlap L r)
     ++ placing L (routeIn L r .points) (routePoint L r) (routePosition L r))
 
 -- line l is secured in direction w (section 3, secure: 11, 6): no bar on it, its points in position
@@ -78,10 +84,21 @@ PointsAgree L r =
 abbrev pub shownAfter : Layout → State → List Event → Panel
 shownAfter L s es = panel L (image L (stateAfter (box L) s es))
 
+-- how many of the sections have heads in which the points of its line stand, where it is an exit route: at most 8
+unfoldable pub fittedForLine : Layout → ℕ → ℕ
+fittedForLine L r =
+    if eqb (routeIn L r .kind) exitRoute then fittedAmong L (lineIn L (routeIn L r .line) .points) (λ j. ownSection L (linePoint L (routeIn L r .line) j)) else 0
+
+-- and how many of all that a route asks for, path, overlap and the sections in which points stand: at most 28
+unfoldable pub fittedAsked : Layout → ℕ → ℕ
+fittedAsked L r =
+    fittedAmong L (routeIn L r .paths) (path L r) + fittedAmong L (routeIn L r .overlaps) (overlap L r)
+    + fittedAmong L (routeIn L r .points) (λ j. ownSection L (routePoint L r j)) + fittedForLine L r
+
 -- the way is granted, no longer than the layout allows, and ends with the route shown locked and its signal at proceed: 21 (diverging) or 22
 pub record WayToProceed (L : Layout) (s : State) (r : ℕ) : Type 0 where
   pub granted : Granted L s (wayToProceed L s r)
-  pub short : length (wayToProceed L s r) ≤ L .routes + 9 * L .lines + 160
+  pub short : length (wayToProceed L s r) ≤ L .routes + 9 * L .lines + 160 + 6 * (fittedBlocks L (L .lines) + fittedAsked L r)
   pub locks : shownAfter L s (wayToProceed L s r) .route r ≡ showsLocked
   pub shows : shownAfter L s (wayToProceed L s r) .signal (main (routeIn L r .entry)) ≡ proceedShown (routeIn L r)
 
