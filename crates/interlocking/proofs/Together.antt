@@ -13,7 +13,8 @@ use Rattle.laws.specs.Choice.{if_then_else_}
 use Rattle.laws.specs.Tests.{_and_}
 use Rattle.laws.proofs.Choice.{if-eq, if-ne, chosen, passed-over}
 use Rattle.laws.proofs.Tests.{and-left, and-right, and-both, not-both}
-use Rattle.laws.proofs.Arrays.{read-in, set-back}
+use lib.Seq.{set-getD}
+use Rattle.laws.proofs.Arrays.{read-in}
 use Rattle.track.specs.Codes.{headSilent, resetAxles}
 use Rattle.track.specs.Sizes.{mostSections}
 use Rattle.track.specs.Lists.{between}
@@ -32,7 +33,7 @@ use Rattle.interlocking.specs.Rows.{Row, sectionRow, pointRow, throwRow,
 use Rattle.interlocking.specs.Step.{rowRefusal, answeredBy, stepWhere}
 use Rattle.interlocking.specs.Parts.{coreOf, bare, whole, moves, stays, tried, isOfHeads, headsThen, headPlace, followed, coreStep, together}
 use Rattle.interlocking.proofs.Rows.{OfKind, section-row, point-row, throw-row, set-row, cancel-row, secure-row, manual-row, bar-row, unbar-row, second-row, count-row, silent-row, reset-row, no-row, row-unknown, row-of}
-use Rattle.interlocking.proofs.Lifted.{place-below, settle-parts}
+use Rattle.interlocking.proofs.Lifted.{settle-parts}
 
 -- ---- rows of the parts and of the whole
 
@@ -205,7 +206,7 @@ together-is t L s k a b d x c p r few len q at e f =
     here = rw q at at
 
     back : set (s .axles) (headPlace k a) x ≡ s .axles
-    back = ap (set (s .axles) (headPlace k a)) here ∙ set-back (s .axles) (headPlace k a) d (rw len (place-below k a))
+    back = ap (set (s .axles) (headPlace k a)) here ∙ set-getD (s .axles) (headPlace k a) d
 
     go : (of : Bool) → isOfHeads k ≡ of → Alike t a s (headPlace k a) (headsThen x k a b) (rowWith L (bare (coreOf s)) x (headsThen x k a b) k a b) (rowOf L s k a b)
     go true of = of-its-heads t L s k a b x of few d len here (row-of L s k a b)
