@@ -1,4 +1,4 @@
--- What an accepted event gives a block, and to which stage its own reading takes it: what it gives its one section, or none where it releases its line by hand.
+-- What an accepted event gives a block is what it gives its one section, and takes the block to a stage, or the event releases its line by hand and opens it.
 use Prim.Native.Nat.{ℕ, _/_, _%_, _<_}
 use mathlib.Core.Path.{_≡_, refl, sym, ap, _∙_}
 use mathlib.Core.Bool.{true}

@@ -1,5 +1,5 @@
--- Every event leaves the heads of fitted sections as the log of them tells (L1): one that says something of a section's heads changes those alone; one that is
--- refused changes nothing, and where it says something it is a reset that counts for nothing.
+-- Every event leaves the heads of fitted sections as the log of them tells (L1): one that says something of a section's heads changes those alone; one that
+-- is refused changes nothing, and where it says something it is a reset that counts for nothing.
 use Prim.Native.Nat.{ℕ, _<_, _≤_}
 use mathlib.Core.Path.{_≡_, sym, ap, _∙_}
 use mathlib.Core.Logic.{_≢_}

@@ -1,5 +1,6 @@
 -- What the state of the box and the history have to do with each other. The state holds just what the history tells: of each section and point what it reads,
--- of each block its stage and its bar, of each line its direction, of each route its phase, its steps and its seconds. It holds at the cold start.
+-- of its heads what was said of them (L1), of each block its stage and its bar, of each line its direction, of each route its phase, its steps and its
+-- seconds. It holds at the cold start.
 use Prim.Native.Nat.{ℕ, _+_, _<_, _≤_}
 use mathlib.Core.Path.{_≡_, refl}
 use mathlib.Core.Logic.{_≢_, _↔_}
@@ -46,8 +47,9 @@ pub record RouteTold (L : Layout) (s : State) (h : History) (r : ℕ) : Type 0 w
   pub stands : phase s r ≢ 0 → stepsOf s r ≡ 3 → ¬ Vacated L r h
   pub seconds : phase s r ≡ 3 → secondsOf s r ≡ secondsSince r h
 
--- the codes are in range; what shows, what sections and points read, what heads hold, what is barred, and what is held of blocks, routes and lines is as the history tells
--- it; no two conflicting routes are locked; a signal at proceed has all that keeps it there; the line of a locked exit route is secured its way
+-- the codes are in range; what shows, what sections and points read, what is held of heads, what is barred, and what is held of blocks, routes and lines
+-- is as the history tells it; no two conflicting routes are locked; a signal at proceed has all that keeps it there; the line of a locked exit route is
+-- secured its way
 pub record Inv (L : Layout) (s : State) (h : History) : Type 0 where
   pub ranged : inRange s ≡ true
   pub seen : shown L h ≡ panel L (image L s)

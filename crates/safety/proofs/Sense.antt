@@ -124,7 +124,7 @@ pub heads-passage : (w : ℕ) × Since (Closes fittedT 0 0 w) (LeavesFree (gaveB
 unfolding runComputed headsComputed
 heads-passage = passed-means fittedT 0 0 (history fittedT countedOut) .0 refl
 
--- a count gives the block occupied also where it read so already: axles in the block, then section 0 occupied, one axle more, section 0 free, and route 0 goes
+-- a count gives the block occupied also where it read so already: axles in the block, section 0 occupied, one axle more, section 0 free, and route 0 goes
 pub counts-again : shown fittedT (history fittedT (letOutAt 0 ++ (event 11 2 2 ∷ event 1 0 2 ∷ event 11 2 3 ∷ event 1 0 1 ∷ []))) .route 0 ≡ showsIdle
 unfolding runComputed headsComputed
 counts-again = refl

@@ -26,13 +26,13 @@ use Rattle.step_facts.proofs.Own.{heads-say-in}
 use Rattle.step_facts.proofs.Step.{step-done, step-refused}
 use Rattle.step_facts.proofs.Tells.{head-named, reset-named, of-no-heads}
 use Rattle.safety.specs.History.{History}
-use Rattle.safety.specs.Grants.{Grants, section, point, throw, set, cancel, secure, release, bar, unbar, second, count, silence, reset}
+use Rattle.safety.specs.Grants.{MayRead, MayCount, MayReset, Grants, section, point, throw, set, cancel, secure, release, bar, unbar, second, count, silence, reset}
 use Rattle.safety.specs.Broken.{isFree, cleared, Broken}
 use Rattle.safety.specs.LateBoxes.{aSection, Inexact}
 use Rattle.safety.specs.WrongGrants.{MisjudgedLast}
 use Rattle.safety.specs.WrongBoxes.{refuses, does}
 use Rattle.safety.specs.WrongRuns.{told, Each}
-use Rattle.safety.specs.WrongHeads.{ownWays, headsThen, sayThen, doesBy, givesBy, givesOwn, headsGo, minusOne, most256, fittedT, letInUnfree, letInUncleared, untoldHeads, readOfFitted}
+use Rattle.safety.specs.WrongHeads.{ownWays, headsThen, sayThen, doesBy, givesBy, givesOwn, headsGo, minusOne, most256, fittedT, letInUnfree, letInUncleared, untoldHeads, readOfFitted, countOfUnfitted, resetInSilence}
 use Rattle.safety.proofs.Computed.{runComputed, headsComputed}
 use Rattle.safety.proofs.WrongRuns.{sameSignal, brokenTest, is-broken, passes, each-passes}
 use Rattle.safety.proofs.LateBoxes.{differ, inexactTest, is-inexact}
@@ -129,23 +129,35 @@ wrong-heads-shown = each-passes _ (λ r. is-inexact (r .layout) (told r) aSectio
 
 -- ---- acceptance
 
+-- a reading of a section is granted only where it may be read, a count only where it may be told, a reset only where there may be one
+granted-heads : (L : Layout) (e : Event) (h : History) → Grants L e h
+    → (e .kind ≡ 1 → MayRead L (e .first)) × (e .kind ≡ 11 → MayCount L (e .first) (e .second)) × (e .kind ≡ 14 → MayReset L (e .first) (e .second) h)
+granted-heads L e h (section k x) = (λ q. x, λ q. absurd (omega arith), λ q. absurd (omega arith))
+granted-heads L e h (point k x) = (λ q. absurd (omega arith), λ q. absurd (omega arith), λ q. absurd (omega arith))
+granted-heads L e h (throw k x) = (λ q. absurd (omega arith), λ q. absurd (omega arith), λ q. absurd (omega arith))
+granted-heads L e h (set k x) = (λ q. absurd (omega arith), λ q. absurd (omega arith), λ q. absurd (omega arith))
+granted-heads L e h (cancel k x) = (λ q. absurd (omega arith), λ q. absurd (omega arith), λ q. absurd (omega arith))
+granted-heads L e h (secure k x) = (λ q. absurd (omega arith), λ q. absurd (omega arith), λ q. absurd (omega arith))
+granted-heads L e h (release k x) = (λ q. absurd (omega arith), λ q. absurd (omega arith), λ q. absurd (omega arith))
+granted-heads L e h (bar k x) = (λ q. absurd (omega arith), λ q. absurd (omega arith), λ q. absurd (omega arith))
+granted-heads L e h (unbar k x) = (λ q. absurd (omega arith), λ q. absurd (omega arith), λ q. absurd (omega arith))
+granted-heads L e h (second k x) = (λ q. absurd (omega arith), λ q. absurd (omega arith), λ q. absurd (omega arith))
+granted-heads L e h (count (inl k) x) = (λ q. absurd (omega arith), λ q. x, λ q. absurd (omega arith))
+granted-heads L e h (count (inr k) x) = (λ q. absurd (omega arith), λ q. absurd (omega arith), λ q. absurd (omega arith))
+granted-heads L e h (silence k x) = (λ q. absurd (omega arith), λ q. absurd (omega arith), λ q. absurd (omega arith))
+granted-heads L e h (reset k x) = (λ q. absurd (omega arith), λ q. absurd (omega arith), λ q. x)
+
 -- it was accepted, and the section has heads
 pub fitted-read-wrongly : MisjudgedLast (readOfFitted .layout) (told readOfFitted)
 unfolding runComputed headsComputed
-fitted-read-wrongly J = go _ (J .0 refl)
-  where
-    go : (h : History) → Grants fittedT (record { kind = 1; first = 1; second = 1 }) h → ⊥
-    go h (section k m) = not-both refl (m .noHeads)
-    go h (point k m) = absurd (omega arith)
-    go h (throw k m) = absurd (omega arith)
-    go h (set k m) = absurd (omega arith)
-    go h (cancel k m) = absurd (omega arith)
-    go h (secure k m) = absurd (omega arith)
-    go h (release k m) = absurd (omega arith)
-    go h (bar k m) = absurd (omega arith)
-    go h (unbar k m) = absurd (omega arith)
-    go h (second k m) = absurd (omega arith)
-    go h (count (inl k) m) = absurd (omega arith)
-    go h (count (inr k) m) = absurd (omega arith)
-    go h (silence k m) = absurd (omega arith)
-    go h (reset k m) = absurd (omega arith)
+fitted-read-wrongly J = not-both refl (granted-heads _ _ _ (J .0 refl) .0 refl .noHeads)
+
+-- it was accepted, and the section has none
+pub unfitted-counted-wrongly : MisjudgedLast (countOfUnfitted .layout) (told countOfUnfitted)
+unfolding runComputed headsComputed
+unfitted-counted-wrongly J = not-both (granted-heads _ _ _ (J .0 refl) .1 refl .heads) refl
+
+-- it was accepted, and the heads have told nothing
+pub silent-reset-wrongly : MisjudgedLast (resetInSilence .layout) (told resetInSilence)
+unfolding runComputed headsComputed
+silent-reset-wrongly J = not-both (granted-heads _ _ _ (J .0 refl) .2 refl .speak) refl

@@ -57,8 +57,8 @@ unfoldable pub headLog : ℕ → History → HeadLog
 headLog g [] = []
 headLog g (m ∷ h) = if saidOf g (m .event) then saying (m .event) ∷ headLog g h else headLog g h
 
--- what an event gives section g: by its heads where it has heads (L1), else by a reading of it; nothing where there is no such section. Every event that gives
--- something is accepted, whatever its code
+-- what an event gives section g: by its heads where it has heads (L1), else by a reading of it; nothing where there is no such section. Every event that
+-- gives something is accepted, whatever its code
 unfoldable pub gaveSection : Layout → ℕ → Given
 gaveSection L g m h =
     if ltb g (L .sections) then (if isFitted L g then gaveByHeads g (m .event) (headLog g h) else gaveByReading g (m .event)) else nothing

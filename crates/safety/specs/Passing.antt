@@ -27,7 +27,8 @@ PassesOn L =
     → GivesNext L es e (farSection L l i w) occupied → GivesNext L (es ++ (e ∷ [])) f (onlySection (lineIn L l) i) free
     → shown L (history L (es ++ (e ∷ f ∷ []))) .block l i ≡ openBlock
 
--- so the two readings of a train that leaves block i of line l in direction w, where no section has heads: the far section is occupied, then the block's one section is free
+-- so the two readings of a train that leaves block i of line l in direction w, where no section has heads: the far section is
+-- occupied, then the block's one section is free
 abbrev pub leavesBlock : Layout → ℕ → ℕ → ℕ → List Event
 leavesBlock L l i w = event readSection (farSection L l i w) occupied ∷ event readSection (onlySection (lineIn L l) i) free ∷ []
 

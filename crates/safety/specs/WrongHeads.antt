@@ -1,5 +1,5 @@
--- Boxes that are wrong in one thing of axle counters (L1): what becomes of a section's heads, what they say, or that a section with heads takes no reading
--- of kind 1. Each has a short run on branch T with heads on its block. `proofs/WrongHeads` proves that with the box's own parts they are the step of a run.
+-- Boxes that are wrong in one thing of axle counters (L1): what becomes of a section's heads, what they say, or what is refused by 30, 34
+-- and 35. Each has a short run on branch T with heads on its block. `proofs/WrongHeads` proves that with the box's own parts they are the step of a run.
 use Prim.Native.Nat.{ℕ, _+_, _-_, _%_}
 use mathlib.Core.List.{List, [], _∷_, _++_}
 use lib.Dec.{eqb}
@@ -125,11 +125,23 @@ neverRolls = countsBy (λ y. net y -ℤ pos (y .sum))
 abbrev pub stopsAtZero : Box
 stopsAtZero = countsBy (λ y. pos (y .head0 .inward + y .head1 .inward - (y .head0 .outward + y .head1 .outward) - y .sum))
 
+-- an event of kind k is refused by its numbers alone, with this in place of 30 and 34
+abbrev refusesBy : ℕ → (Row → Refusal) → Box
+refusesBy k misfit = stepWith (λ L s e.
+    let row : Row = rowOf L s k (e .first) (e .second) in
+    if eqb (e .kind) k then numbersRefusal (askedInRun L) (row .missing) (e .first) (misfit row) (row .wrong) else refuses L s e) does givesOwn
+
 -- 34 is not asked: a section with heads takes a reading of kind 1
 abbrev pub readsFitted : Box
-readsFitted = stepWith (λ L s e.
-    let row : Row = rowOf L s (e .kind) (e .first) (e .second) in
-    if eqb (e .kind) readSection then numbersRefusal (askedInRun L) (row .missing) (e .first) noRefusal (row .wrong) else refuses L s e) does givesOwn
+readsFitted = refusesBy readSection (λ row. noRefusal)
+
+-- 30 is not asked: a section without heads takes counts
+abbrev pub countsUnfitted : Box
+countsUnfitted = refusesBy axlesIn (λ row. noRefusal)
+
+-- 35 is not asked: a reset is accepted while a head is silent
+abbrev pub resetsSilent : Box
+resetsSilent = refusesBy resetAxles (λ row. row .misfit)
 
 -- ---- the runs
 
@@ -206,6 +218,14 @@ untoldHeads =
     ∷ onFitted takes256 (provedAt 0 ++ (event 11 2 257 ∷ []))
     ∷ []
 
--- 34 is not asked: a reading of the block is accepted
+-- the runs whose last event is accepted and should not have been: 34 is not asked of a reading of the block
 abbrev pub readOfFitted : Run
 readOfFitted = onFitted readsFitted (event 1 1 1 ∷ [])
+
+-- 30 is not asked of a count of section 0
+abbrev pub countOfUnfitted : Run
+countOfUnfitted = onFitted countsUnfitted (event 11 0 1 ∷ [])
+
+-- 35 is not asked of a reset at the cold start
+abbrev pub resetInSilence : Run
+resetInSilence = onFitted resetsSilent (event 14 1 0 ∷ [])
