@@ -15,11 +15,12 @@ use Rattle.layout.specs.declared.Layout.{Layout}
 use Rattle.layout.specs.Sound.{sound}
 use Rattle.layout_facts.proofs.BranchT.{computed}
 use Rattle.layout_facts.proofs.Lists.{between-means}
+use Rattle.reasons.specs.declared.Refusal.{Refusal}
 use Rattle.interlocking.specs.declared.State.{State}
 use Rattle.interlocking.specs.declared.Answer.{Answer}
 use Rattle.interlocking.specs.Own.{headSection, headsOf, headsBy, ownHeads}
 use Rattle.interlocking.specs.Rows.{Row, headRow, countRow, silentRow, resetRow, givesReading}
-use Rattle.interlocking.specs.Step.{stepInRun, own, gives, after}
+use Rattle.interlocking.specs.Step.{rowRefusal, stepInRun, refusal, own, gives, after}
 use Rattle.interlocking.proofs.Rows.{OfKind, section-row, point-row, throw-row, set-row, cancel-row, secure-row, manual-row, bar-row, unbar-row, second-row, count-row, silent-row, reset-row, no-row, row-of}
 use Rattle.step_facts.specs.Run.{Event, boxInRun}
 use Rattle.step_facts.proofs.Own.{heads-say-in}
@@ -32,7 +33,7 @@ use Rattle.safety.specs.LateBoxes.{aSection, Inexact}
 use Rattle.safety.specs.WrongGrants.{MisjudgedLast}
 use Rattle.safety.specs.WrongBoxes.{refuses, does}
 use Rattle.safety.specs.WrongRuns.{told, Each}
-use Rattle.safety.specs.WrongHeads.{ownWays, headsThen, sayThen, doesBy, givesBy, givesOwn, headsGo, minusOne, most256, fittedT, letInUnfree, letInUncleared, untoldHeads, readOfFitted, countOfUnfitted, resetInSilence}
+use Rattle.safety.specs.WrongHeads.{stepWith, ownWays, headsThen, sayThen, doesBy, givesBy, givesOwn, headsGo, asksBy, minusOne, most256, fittedT, letInUnfree, letInUncleared, untoldHeads, readOfFitted, countOfUnfitted, resetInSilence}
 use Rattle.safety.proofs.Computed.{runComputed, headsComputed}
 use Rattle.safety.proofs.WrongRuns.{sameSignal, brokenTest, is-broken, passes, each-passes}
 use Rattle.safety.proofs.LateBoxes.{differ, inexactTest, is-inexact}
@@ -45,6 +46,19 @@ fitted-sound = refl
 -- ---- the box's own parts
 
 module _ (L : Layout) (s : State) (e : Event) where
+  -- a step from them is the step of a run
+  pub own-step : stepWith refuses does givesOwn L s e ≡ boxInRun L s e
+  unfolding boxInRun stepInRun after
+  own-step =
+      if-both (λ (r : Answer). r ≡ boxInRun L s e) (eqb (refuses L s e .number) 0)
+      (λ t. sym (step-done _ L s (e .kind) (e .first) (e .second) (eqb-true _ 0 t)))
+      (λ f. sym (step-refused _ L s (e .kind) (e .first) (e .second) (eqb-false _ 0 f)))
+
+  -- what is refused of an event, by 30 and 34 and besides
+  pub own-asked : (k : ℕ) → asksBy k (λ row. row .misfit) (λ row. row .besides) L s e ≡ refuses L s e
+  unfolding refusal rowRefusal
+  own-asked k = if-both (λ (r : Refusal). r ≡ refuses L s e) (eqb (e .kind) k) (λ t. rw (eqb-true (e .kind) k t)) (λ f. refl)
+
   -- section g is the one that the event names
   of-section : {g : ℕ} → headSection (e .kind) (e .first) ≡ g
       → (ownHeads (L .line) (L .lines) s (headSection (e .kind) (e .first)) (headsThen ownWays s e) ≡ ownHeads (L .line) (L .lines) s g (headsThen ownWays s e))
@@ -90,11 +104,7 @@ module _ (L : Layout) (s : State) (e : Event) where
 
   -- so the box whose heads go its own way is the box
   pub own-heads : headsGo ownWays L s e ≡ boxInRun L s e
-  unfolding boxInRun stepInRun after
-  own-heads =
-      if-both (λ (r : Answer). r ≡ boxInRun L s e) (eqb (refuses L s e .number) 0)
-      (λ t. rw (own-does, own-gives) (sym (step-done _ L s (e .kind) (e .first) (e .second) (eqb-true _ 0 t))))
-      (λ f. sym (step-refused _ L s (e .kind) (e .first) (e .second) (eqb-false _ 0 f)))
+  own-heads = rw (own-does, own-gives) own-step
 
 -- ---- demand 3
 

@@ -17,7 +17,7 @@ use Rattle.layout.specs.declared.Layout.{Layout}
 use Rattle.layout.specs.Layout.{noneFitted}
 use Rattle.layout_facts.specs.BranchT.{layoutT}
 use Rattle.reasons.specs.declared.Refusal.{Refusal}
-use Rattle.reasons.specs.Refusal.{noRefusal}
+use Rattle.reasons.specs.Refusal.{noRefusal, firstOf}
 use Rattle.refusals.specs.Events.{numbersRefusal}
 use Rattle.interlocking.specs.declared.State.{State}
 use Rattle.interlocking.specs.State.{headsAt, withAxles}
@@ -125,23 +125,23 @@ neverRolls = countsBy (λ y. net y -ℤ pos (y .sum))
 abbrev pub stopsAtZero : Box
 stopsAtZero = countsBy (λ y. pos (y .head0 .inward + y .head1 .inward - (y .head0 .outward + y .head1 .outward) - y .sum))
 
--- an event of kind k is refused by its numbers alone, with this in place of 30 and 34
-abbrev refusesBy : ℕ → (Row → Refusal) → Box
-refusesBy k misfit = stepWith (λ L s e.
+-- what is refused, where an event of kind k is refused by this in place of 30 and 34, and by that besides
+abbrev pub asksBy : ℕ → (Row → Refusal) → (Row → Refusal) → Layout → State → Event → Refusal
+asksBy k misfit besides L s e =
     let row : Row = rowOf L s k (e .first) (e .second) in
-    if eqb (e .kind) k then numbersRefusal (askedInRun L) (row .missing) (e .first) (misfit row) (row .wrong) else refuses L s e) does givesOwn
+    if eqb (e .kind) k then firstOf (numbersRefusal (askedInRun L) (row .missing) (e .first) (misfit row) (row .wrong) ∷ besides row ∷ []) else refuses L s e
 
 -- 34 is not asked: a section with heads takes a reading of kind 1
 abbrev pub readsFitted : Box
-readsFitted = refusesBy readSection (λ row. noRefusal)
+readsFitted = stepWith (asksBy readSection (λ row. noRefusal) (λ row. row .besides)) does givesOwn
 
 -- 30 is not asked: a section without heads takes counts
 abbrev pub countsUnfitted : Box
-countsUnfitted = refusesBy axlesIn (λ row. noRefusal)
+countsUnfitted = stepWith (asksBy axlesIn (λ row. noRefusal) (λ row. row .besides)) does givesOwn
 
 -- 35 is not asked: a reset is accepted while a head is silent
 abbrev pub resetsSilent : Box
-resetsSilent = refusesBy resetAxles (λ row. row .misfit)
+resetsSilent = stepWith (asksBy resetAxles (λ row. row .misfit) (λ row. noRefusal)) does givesOwn
 
 -- ---- the runs
 
