@@ -11,7 +11,7 @@ use Rattle.layout.specs.Layout.{routeIn}
 use Rattle.layout.specs.Sound.{sound}
 use Rattle.layout_facts.specs.Plain.{Sound}
 use Rattle.layout_facts.proofs.Sound.{sound-says}
-use Rattle.layout_facts.proofs.Loaded.{loaded-sound}
+use Rattle.fitted.proofs.InUse.{in-use-sound}
 use Rattle.interlocking.specs.declared.State.{State}
 use Rattle.step_facts.specs.Run.{Event}
 use Rattle.panel.specs.Shown.{Panel}
@@ -66,4 +66,4 @@ safe-run L ok es = safe L (sound-says L ok) _ _ (run-has L ok es)
 
 -- on any layout file that loads with 0
 pub demand3 : Demand3
-demand3 bytes ok es = safe-run _ (loaded-sound bytes ok) es
+demand3 L u es = safe-run L (in-use-sound u) es

@@ -14,7 +14,7 @@ use Rattle.layout.specs.Layout.{lineIn}
 use Rattle.layout.specs.Sound.{sound}
 use Rattle.layout_facts.specs.Plain.{Sound}
 use Rattle.layout_facts.proofs.Sound.{sound-says}
-use Rattle.layout_facts.proofs.Loaded.{loaded-sound}
+use Rattle.fitted.proofs.InUse.{in-use-sound}
 use Rattle.interlocking.specs.declared.State.{State}
 use Rattle.panel.specs.Panel.{routeByte}
 use Rattle.step_facts.specs.Run.{Event}
@@ -125,4 +125,4 @@ exact-run L ok es = exact L (sound-says L ok) _ _ (run-has L ok es)
 
 -- on any layout file that loads with 0
 pub shows-exactly : ShowsExactly
-shows-exactly bytes ok es = exact-run _ (loaded-sound bytes ok) es
+shows-exactly L u es = exact-run L (in-use-sound u) es

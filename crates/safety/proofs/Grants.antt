@@ -16,7 +16,7 @@ use Rattle.layout.specs.Layout.{isFitted}
 use Rattle.layout.specs.Sound.{sound}
 use Rattle.layout_facts.specs.Plain.{Sound}
 use Rattle.layout_facts.proofs.Sound.{sound-says}
-use Rattle.layout_facts.proofs.Loaded.{loaded-sound}
+use Rattle.fitted.proofs.InUse.{in-use-sound}
 use Rattle.reasons.specs.Refusal.{noRefusal, refused}
 use Rattle.reasons.specs.Reasons.{noHeads, hasHeads}
 use Rattle.interlocking.specs.declared.State.{State}
@@ -156,4 +156,4 @@ accepts-run L ok es = in-every-event L ok _ (accepts L ok (sound-says L ok)) es
 
 -- on any layout file that loads with 0
 pub accepts-exactly : AcceptsExactly
-accepts-exactly bytes loads es = accepts-run _ (loaded-sound bytes loads) es
+accepts-exactly L u es = accepts-run L (in-use-sound u) es

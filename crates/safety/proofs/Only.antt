@@ -18,7 +18,7 @@ use Rattle.layout.specs.declared.Layout.{Layout}
 use Rattle.layout.specs.Layout.{lineIn}
 use Rattle.layout.specs.Sound.{sound}
 use Rattle.layout_facts.proofs.Sound.{sound-says}
-use Rattle.layout_facts.proofs.Loaded.{loaded-sound}
+use Rattle.fitted.proofs.InUse.{in-use-sound}
 use Rattle.panel.specs.Panel.{panelLength}
 use Rattle.panel.specs.Shown.{panel, signalShown, lineShown}
 use Rattle.panel.proofs.Laws.{length-image}
@@ -205,8 +205,8 @@ log-run L ok es =
 
 -- so on any layout file that loads with 0
 pub logs-exactly : LogsExactly
-logs-exactly bytes loads es = log-run _ (loaded-sound bytes loads) es
+logs-exactly L u es = log-run L (in-use-sound u) es
 
 -- and no other log with its answers
 pub only-this-log : OnlyThisLog
-only-this-log bytes loads es h s x = one-log _ h _ s x (logs-exactly bytes loads es)
+only-this-log L u es h s x = one-log _ h _ s x (logs-exactly L u es)

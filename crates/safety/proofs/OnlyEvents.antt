@@ -7,7 +7,7 @@ use mathlib.Core.List.{List, [], _∷_}
 use native.Mathlib.Decide.{ℕ-discrete}
 use Rattle.layout.specs.declared.Layout.{Layout}
 use Rattle.layout.specs.Sound.{sound}
-use Rattle.layout_facts.proofs.Loaded.{loaded-sound}
+use Rattle.fitted.proofs.InUse.{in-use-sound}
 use Rattle.step_facts.specs.Run.{Event, box}
 use Rattle.step_facts.proofs.Step.{done-detail}
 use Rattle.safety.specs.History.{Moment, History, Throughout, moment, history}
@@ -64,8 +64,8 @@ granted-log-run L ok es = record {
 
 -- so on any layout file that loads with 0
 pub logs-as-granted : LogsAsGranted
-logs-as-granted bytes loads es = granted-log-run _ (loaded-sound bytes loads) es
+logs-as-granted L u es = granted-log-run L (in-use-sound u) es
 
 -- and no other log of its events that refuses as it does
 pub only-this-granted-log : OnlyThisGrantedLog
-only-this-granted-log bytes loads es h s x = one-granted-log _ h _ s x (logs-as-granted bytes loads es)
+only-this-granted-log L u es h s x = one-granted-log _ h _ s x (logs-as-granted L u es)

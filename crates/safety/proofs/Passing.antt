@@ -10,20 +10,16 @@ use native.Mathlib.Omega.{arith}
 use borrow.Author.Tests.{eqb-true, eq-eqb}
 use Rattle.laws.specs.Choice.{if_then_else_}
 use Rattle.laws.specs.Tests.{_and_}
-use Rattle.laws.proofs.Arrays.{nothing-at}
-use Rattle.track.specs.Sizes.{mostSections}
 use Rattle.tables.specs.Readings.{recorded}
 use Rattle.tables.specs.Blocks.{isOpen}
 use Rattle.passage.specs.Passage.{beyond}
 use Rattle.passage.specs.Passage as passage
 use Rattle.layout.specs.declared.Layout.{Layout}
-use Rattle.layout.specs.Layout.{noneFitted, lineIn, isFitted}
-use Rattle.layout.specs.Load.{load}
+use Rattle.layout.specs.Layout.{lineIn}
 use Rattle.layout.specs.Sound.{sound}
 use Rattle.layout_facts.specs.Plain.{Sound}
 use Rattle.layout_facts.proofs.Sound.{sound-says}
-use Rattle.layout_facts.proofs.Loaded.{loaded-sound}
-use Rattle.layout_facts.proofs.LoadedCleared.{loaded-none-told}
+use Rattle.fitted.proofs.InUse.{in-use-sound}
 use Rattle.interlocking.specs.declared.State.{State}
 use Rattle.interlocking.specs.declared.Answer.{Answer}
 use Rattle.interlocking.specs.State.{cold, inRange}
@@ -33,7 +29,7 @@ use Rattle.step_facts.specs.Run.{Event, event, box, stateAfter, fromCold}
 use Rattle.panel.specs.Shown.{Panel, panel}
 use Rattle.safety.specs.History.{Moment, History, gaveSection, gaveBlock, shown, moment, goesOn, history}
 use Rattle.safety.specs.Cleared.{farSection, farSignal, Proceeds}
-use Rattle.safety.specs.Passing.{PassesOn, TrainsPass}
+use Rattle.safety.specs.Passing.{PassesOn, TrainsPass, PassByReadings}
 use Rattle.step_facts.proofs.Entries.{direction, stage, block, block-there}
 use Rattle.step_facts.proofs.Within.{On, done, end, direction-same}
 use Rattle.step_facts.proofs.Granted.{step-granted}
@@ -189,19 +185,16 @@ passes-on L ok es l i w e f b c held way d up far near =
     proceeds : Proceeds (panel L (image L s)) (farSignal L l i w)
     proceeds = rw (I .seen) at up
 
--- ---- on any layout file that loads with 0, by readings
-
--- no section has heads
-unfitted : (bytes : List ℕ) → load bytes .number ≡ 0 → (g : ℕ) → isFitted (load bytes .layout) g ≡ false
-unfolding isFitted noneFitted
-unfitted bytes loads g = rw (loaded-none-told bytes loads .fitted, nothing-at {A = ℕ} mostSections 0 g)
+-- ---- on any layout in use
 
 pub trains-pass : TrainsPass
+trains-pass L u = passes-on L (in-use-sound u)
+
+-- by the two readings, where neither section has heads
+pub pass-by-readings : PassByReadings
 unfolding recorded if_then_else_ moment
-trains-pass bytes loads es l i w b c held way d up =
-    let L : Layout = load bytes .layout in
-    let ok : sound L ≡ true = loaded-sound bytes loads in
+pass-by-readings L u es l i w b c far near held way d up =
+    let ok : sound L ≡ true = in-use-sound u in
     let S : Sound L = sound-says L ok in
     passes-on L ok es l i w (event 1 (farSection L l i w) 2) (event 1 (block L l i) 1) b c held way d up
-    (gives-recorded L _ _ _ (far-there L S l i w b c) (unfitted bytes loads _) refl refl)
-    (gives-recorded L _ _ _ (block-there L S l i b c) (unfitted bytes loads _) refl refl)
+    (gives-recorded L _ _ _ (far-there L S l i w b c) far refl refl) (gives-recorded L _ _ _ (block-there L S l i b c) near refl refl)

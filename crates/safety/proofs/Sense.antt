@@ -10,6 +10,7 @@ use Rattle.laws.proofs.Tests.{not-both}
 use Rattle.track.specs.Signal.{main, into}
 use Rattle.layout.specs.Load.{load}
 use Rattle.layout_facts.specs.BranchT.{layoutT}
+use Rattle.fitted.proofs.InUse.{loaded-in-use}
 use Rattle.panel.specs.Shown.{showsIdle}
 use Rattle.step_facts.specs.Run.{Event, event}
 use Rattle.safety.specs.Cases.{p1, p3, p4}
@@ -71,7 +72,7 @@ by-block-signal = enters-means (load twoBlocks .layout) (history (load twoBlocks
 
 -- and has all that demand 3 asks
 pub block-signal-guarded : Guarded (load twoBlocks .layout) (history (load twoBlocks .layout) opened) (into 0 1 1) 0 1 1
-block-signal-guarded = demand3 twoBlocks (others-load .0) opened .guarded (into 0 1 1) 0 1 1 by-block-signal
+block-signal-guarded = demand3 _ (loaded-in-use twoBlocks (others-load .0)) opened .guarded (into 0 1 1) 0 1 1 by-block-signal
 
 -- ---- two signals into one block
 

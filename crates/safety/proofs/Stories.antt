@@ -13,7 +13,7 @@ use Rattle.layout.specs.Layout.{lineIn, routeIn}
 use Rattle.layout.specs.Sound.{sound}
 use Rattle.layout_facts.specs.Plain.{InBlock, Sound, sameEntry}
 use Rattle.layout_facts.proofs.Sound.{sound-says}
-use Rattle.layout_facts.proofs.Loaded.{loaded-sound}
+use Rattle.fitted.proofs.InUse.{in-use-sound}
 use Rattle.interlocking.specs.declared.State.{State}
 use Rattle.interlocking.specs.State.{inRange}
 use Rattle.interlocking.specs.Step.{step, refusal}
@@ -128,4 +128,4 @@ stories-run L ok es = in-every-event L ok _ (stories L ok (sound-says L ok)) es
 
 -- on any layout file that loads with 0
 pub stories-kept : StoriesKept
-stories-kept bytes loads es = stories-run _ (loaded-sound bytes loads) es
+stories-kept L u es = stories-run L (in-use-sound u) es

@@ -16,8 +16,8 @@ use Rattle.track.specs.Codes.{free, exitRoute, neutral, leaving}
 use Rattle.track.specs.Signal.{Signal, main, into}
 use Rattle.layout.specs.declared.Layout.{Layout}
 use Rattle.layout.specs.Layout.{lineIn, routeIn, conflict}
-use Rattle.layout.specs.Load.{load}
 use Rattle.layout_facts.specs.Plain.{InBlock, nearestBlock}
+use Rattle.fitted.specs.InUse.{InUse}
 use Rattle.step_facts.specs.Run.{Event}
 use Rattle.safety.specs.History.{History, blockReads, shown, history}
 use Rattle.safety.specs.Locked.{Locked}
@@ -79,6 +79,6 @@ pub record Safe (L : Layout) (h : History) : Type 0 where
   -- a signal shows proceed into a block only if all that is there
   pub guarded : (x : Signal) (l i w : ℕ) → Enters L h x l i w → Guarded L h x l i w
 
--- on every layout file that loads with 0, after every list of events from the cold start: so also after those up to any one of them
+-- on every layout in use, after every list of events from the cold start: so also after those up to any one of them
 abbrev pub Demand3 : Type 0
-Demand3 = (bytes : List ℕ) → load bytes .number ≡ 0 → (es : List Event) → Safe (load bytes .layout) (history (load bytes .layout) es)
+Demand3 = (L : Layout) → InUse L → (es : List Event) → Safe L (history L es)

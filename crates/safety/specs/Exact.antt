@@ -15,7 +15,7 @@ use Rattle.track.specs.Signal.{main, into}
 use Rattle.signals.specs.Aspects.{dark, stop}
 use Rattle.layout.specs.declared.Layout.{Layout}
 use Rattle.layout.specs.Layout.{lineIn, routeIn}
-use Rattle.layout.specs.Load.{load}
+use Rattle.fitted.specs.InUse.{InUse}
 use Rattle.step_facts.specs.Run.{Event}
 use Rattle.panel.specs.Shown.{showsIdle, showsLocked, showsCancelling}
 use Rattle.safety.specs.History.{History, gaveBlock, sectionReads, shown, history}
@@ -81,6 +81,6 @@ pub record Exact (L : Layout) (h : History) : Type 0 where
   pub mains : (x : ℕ) → x < L .signals → MainSignalExact L h x
   pub blockSignals : (l i w : ℕ) → l < L .lines → i < lineIn L l .blocks → (w ≡ aToB) ⊎ (w ≡ bToA) → BlockSignalExact L h l i w
 
--- on every layout file that loads with 0, after every list of events from the cold start
+-- on every layout in use, after every list of events from the cold start
 abbrev pub ShowsExactly : Type 0
-ShowsExactly = (bytes : List ℕ) → load bytes .number ≡ 0 → (es : List Event) → Exact (load bytes .layout) (history (load bytes .layout) es)
+ShowsExactly = (L : Layout) → InUse L → (es : List Event) → Exact L (history L es)

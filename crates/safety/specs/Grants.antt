@@ -10,7 +10,7 @@ use mathlib.Core.List.{List}
 use Rattle.track.specs.Codes.{free, left, right, exitRoute, neutral, aToB, bToA, leaving, readSection, readPoint, throwPoint, setRoute, cancelRoute, secureLine, releaseLine, barBlock, unbarBlock, oneSecond, axlesIn, axlesOut, headSilent, resetAxles}
 use Rattle.layout.specs.declared.Layout.{Layout}
 use Rattle.layout.specs.Layout.{lineIn, routeIn, conflict, isFitted}
-use Rattle.layout.specs.Load.{load}
+use Rattle.fitted.specs.InUse.{InUse}
 use Rattle.axles.specs.HeadLog.{bothSpeak}
 use Rattle.step_facts.specs.Run.{Event}
 use Rattle.safety.specs.History.{Moment, History, headLog, blockReads, Throughout, history}
@@ -159,7 +159,7 @@ pub data Grants (L : Layout) (e : Event) (h : History) : Type 0 where
 abbrev pub AcceptedJust : Layout → Moment → History → Type 0
 AcceptedJust L m h = m .number ≡ 0 ↔ Grants L (m .event) h
 
--- on every layout file that loads with 0, each event of every list of events from the cold start
+-- on every layout in use, each event of every list of events from the cold start
 abbrev pub AcceptsExactly : Type 0
 AcceptsExactly =
-    (bytes : List ℕ) → load bytes .number ≡ 0 → (es : List Event) → Throughout (AcceptedJust (load bytes .layout)) (history (load bytes .layout) es)
+    (L : Layout) → InUse L → (es : List Event) → Throughout (AcceptedJust L) (history L es)

@@ -7,7 +7,7 @@ use mathlib.Core.Path.{_≡_}
 use mathlib.Core.List.{List, [], _∷_}
 use lib.ListN.{length}
 use Rattle.layout.specs.declared.Layout.{Layout}
-use Rattle.layout.specs.Load.{load}
+use Rattle.fitted.specs.InUse.{InUse}
 use Rattle.panel.specs.Panel.{panelLength}
 use Rattle.step_facts.specs.Run.{Event}
 use Rattle.safety.specs.History.{Moment, History, Throughout, history}
@@ -35,9 +35,9 @@ pub record ExactLog (L : Layout) (h : History) : Type 0 where
 
 -- ---- what is proved
 
--- the box's own log is one, on every layout file that loads with 0
+-- the box's own log is one, on every layout in use
 abbrev pub LogsExactly : Type 0
-LogsExactly = (bytes : List ℕ) → load bytes .number ≡ 0 → (es : List Event) → ExactLog (load bytes .layout) (history (load bytes .layout) es)
+LogsExactly = (L : Layout) → InUse L → (es : List Event) → ExactLog L (history L es)
 
 -- two such logs of the same events and answers are the same, on any layout
 abbrev pub OneLog : Type 0
@@ -46,5 +46,5 @@ OneLog = (L : Layout) (h k : History) → SameAnswers h k → ExactLog L h → E
 -- so one that has the box's answers is the box's log
 abbrev pub OnlyThisLog : Type 0
 OnlyThisLog =
-    (bytes : List ℕ) → load bytes .number ≡ 0 → (es : List Event) → (h : History) → SameAnswers h (history (load bytes .layout) es)
-    → ExactLog (load bytes .layout) h → h ≡ history (load bytes .layout) es
+    (L : Layout) → InUse L → (es : List Event) → (h : History) → SameAnswers h (history L es)
+    → ExactLog L h → h ≡ history L es

@@ -7,7 +7,7 @@ use mathlib.Core.Path.{_≡_}
 use mathlib.Core.Logic.{_≢_}
 use mathlib.Core.List.{List, [], _∷_}
 use Rattle.layout.specs.declared.Layout.{Layout}
-use Rattle.layout.specs.Load.{load}
+use Rattle.fitted.specs.InUse.{InUse}
 use Rattle.step_facts.specs.Run.{Event}
 use Rattle.safety.specs.History.{Moment, History, Throughout, history}
 use Rattle.safety.specs.Grants.{AcceptedJust}
@@ -34,9 +34,9 @@ pub record GrantedLog (L : Layout) (h : History) : Type 0 where
 
 -- ---- what is proved
 
--- the box's own log is one, on every layout file that loads with 0
+-- the box's own log is one, on every layout in use
 abbrev pub LogsAsGranted : Type 0
-LogsAsGranted = (bytes : List ℕ) → load bytes .number ≡ 0 → (es : List Event) → GrantedLog (load bytes .layout) (history (load bytes .layout) es)
+LogsAsGranted = (L : Layout) → InUse L → (es : List Event) → GrantedLog L (history L es)
 
 -- two such logs of the same events are the same, on any layout
 abbrev pub OneGrantedLog : Type 0
@@ -45,5 +45,5 @@ OneGrantedLog = (L : Layout) (h k : History) → SameEvents h k → GrantedLog L
 -- so one of the box's events is the box's log
 abbrev pub OnlyThisGrantedLog : Type 0
 OnlyThisGrantedLog =
-    (bytes : List ℕ) → load bytes .number ≡ 0 → (es : List Event) → (h : History) → SameEvents h (history (load bytes .layout) es)
-    → GrantedLog (load bytes .layout) h → h ≡ history (load bytes .layout) es
+    (L : Layout) → InUse L → (es : List Event) → (h : History) → SameEvents h (history L es)
+    → GrantedLog L h → h ≡ history L es

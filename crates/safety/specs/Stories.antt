@@ -1,4 +1,4 @@
--- What happened to the customer, and must not happen with this box; told from the history, on every accepted layout, in every event of every run.
+-- What happened to the customer, and must not happen with this box; told from the history, on every layout in use, in every event of every run.
 --
 -- His old box refused the zero of a broken wire, went on with the free that it had stored, and put pressure on a set of blades under a standing wagon. An
 -- input of his died and came back under a train.
@@ -12,8 +12,8 @@ use Rattle.track.specs.Codes.{free, neutral, throwPoint, openBlock}
 use Rattle.track.specs.Signal.{Signal, main}
 use Rattle.layout.specs.declared.Layout.{Layout}
 use Rattle.layout.specs.Layout.{lineIn, routeIn}
-use Rattle.layout.specs.Load.{load}
 use Rattle.layout_facts.specs.Plain.{InBlock, ownSection, path, overlap, routePoint, linePoint}
+use Rattle.fitted.specs.InUse.{InUse}
 use Rattle.step_facts.specs.Run.{Event}
 use Rattle.safety.specs.History.{Moment, History, nothing, gaveSection, gaveBlock, sectionReads, shown, Accepted, Releases, Since, Throughout, LeavesFree, history}
 use Rattle.safety.specs.Locked.{Locked}
@@ -66,4 +66,4 @@ pub record NoStory (L : Layout) (m : Moment) (h : History) : Type 0 where
   pub opens : OpensCleared L m h
 
 abbrev pub StoriesKept : Type 0
-StoriesKept = (bytes : List ℕ) → load bytes .number ≡ 0 → (es : List Event) → Throughout (NoStory (load bytes .layout)) (history (load bytes .layout) es)
+StoriesKept = (L : Layout) → InUse L → (es : List Event) → Throughout (NoStory L) (history L es)

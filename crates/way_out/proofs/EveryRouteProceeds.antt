@@ -19,6 +19,7 @@ use Rattle.layout.specs.Load.{load}
 use Rattle.layout_facts.specs.Plain.{ownSection, linePoint, linePosition, path, overlap, routePoint, routePosition, LineRanges, RouteRanges, Sound}
 use Rattle.layout_facts.proofs.Sound.{sound-says}
 use Rattle.layout_facts.proofs.Loaded.{loaded-sound}
+use Rattle.fitted.proofs.InUse.{in-use-sound}
 use Rattle.step_facts.specs.Run.{Event, fromCold}
 use Rattle.interlocking.specs.declared.State.{State}
 use Rattle.panel.specs.Panel.{routeByte}
@@ -93,7 +94,7 @@ sound-proceeds L ok es r b agree = leads-to-proceed L ok r b agree (fromCold L e
 
 -- and on an accepted one
 pub every-route-proceeds : EveryRouteProceeds
-every-route-proceeds bytes ok es r b agree = sound-proceeds _ (loaded-sound bytes ok) es r b agree
+every-route-proceeds L u es r b agree = sound-proceeds L (in-use-sound u) es r b agree
 
 -- ---- how long it is at most, and where no section has heads
 

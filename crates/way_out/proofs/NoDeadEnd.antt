@@ -23,6 +23,7 @@ use Rattle.layout_facts.specs.Plain.{Sound}
 use Rattle.layout_facts.proofs.Sound.{sound-says}
 use Rattle.layout_facts.proofs.Loaded.{loaded-sound}
 use Rattle.layout_facts.proofs.LoadedCleared.{loaded-none-told}
+use Rattle.fitted.proofs.InUse.{in-use-sound}
 use Rattle.interlocking.specs.declared.State.{State}
 use Rattle.interlocking.specs.Step.{step}
 use Rattle.step_facts.specs.Run.{Event, event, fromCold}
@@ -104,9 +105,9 @@ sound-way-out L ok es =
     let G = goes-to-rest L ok (fromCold L es) (run-whole L es) in
     record { granted = G .granted; short = way-short L (sound-says L ok) (fromCold L es); rest = G .ends }
 
--- so on an accepted one
+-- so on a layout in use
 pub no-dead-end : NoDeadEnd
-no-dead-end bytes ok es = sound-way-out _ (loaded-sound bytes ok) es
+no-dead-end L u es = sound-way-out L (in-use-sound u) es
 
 -- ---- how long it is at most, and where no section has heads
 

@@ -14,7 +14,7 @@ use Rattle.tables.specs.Blocks.{isOpen}
 use Rattle.tables.specs.Locks.{direction, phase, locked}
 use Rattle.layout.specs.declared.Layout.{Layout}
 use Rattle.layout.specs.Layout.{lineIn}
-use Rattle.layout.specs.Load.{load}
+use Rattle.fitted.specs.InUse.{InUse}
 use Rattle.interlocking.specs.declared.State.{State}
 use Rattle.interlocking.specs.Step.{step}
 use Rattle.step_facts.specs.Run.{Event, event, box, stateAfter, fromCold}
@@ -74,6 +74,6 @@ pub record WayOut (L : Layout) (s : State) : Type 0 where
   pub short : length (wayOut L s) ≤ L .routes + 90 + 9 * L .lines + 6 * fittedBlocks L (L .lines)
   pub rest : AtRest L (stateAfter (box L) s (wayOut L s))
 
--- from every state that a run can reach on an accepted layout
+-- from every state that a run can reach on a layout in use, with or without heads
 abbrev pub NoDeadEnd : Type 0
-NoDeadEnd = (bytes : List ℕ) → load bytes .number ≡ 0 → (es : List Event) → WayOut (load bytes .layout) (fromCold (load bytes .layout) es)
+NoDeadEnd = (L : Layout) → InUse L → (es : List Event) → WayOut L (fromCold L es)

@@ -12,8 +12,8 @@ use Rattle.signals.specs.MainSignals.{proceedShown}
 use Rattle.rules.specs.Rules.{isBlock}
 use Rattle.layout.specs.declared.Layout.{Layout}
 use Rattle.layout.specs.Layout.{lineIn, routeIn}
-use Rattle.layout.specs.Load.{load}
 use Rattle.layout_facts.specs.Plain.{ownSection, linePoint, linePosition, path, overlap, routePoint, routePosition}
+use Rattle.fitted.specs.InUse.{InUse}
 use Rattle.interlocking.specs.declared.State.{State}
 use Rattle.interlocking.specs.Step.{step}
 use Rattle.step_facts.specs.Run.{Event, event, box, stateAfter, fromCold}
@@ -102,12 +102,12 @@ pub record WayToProceed (L : Layout) (s : State) (r : ℕ) : Type 0 where
   pub locks : shownAfter L s (wayToProceed L s r) .route r ≡ showsLocked
   pub shows : shownAfter L s (wayToProceed L s r) .signal (main (routeIn L r .entry)) ≡ proceedShown (routeIn L r)
 
--- from every state that a run can reach on an accepted layout, for every route; of an exit route the points and those of its line agree
+-- from every state that a run can reach on a layout in use, with or without heads, for every route; of an exit route the points and those of its line agree
 abbrev pub EveryRouteProceeds : Type 0
 EveryRouteProceeds =
-    (bytes : List ℕ) → load bytes .number ≡ 0 → (es : List Event) (r : ℕ) → r < load bytes .layout .routes
-    → (routeIn (load bytes .layout) r .kind ≡ exitRoute → PointsAgree (load bytes .layout) r)
-    → WayToProceed (load bytes .layout) (fromCold (load bytes .layout) es) r
+    (L : Layout) → InUse L → (es : List Event) (r : ℕ) → r < L .routes
+    → (routeIn L r .kind ≡ exitRoute → PointsAgree L r)
+    → WayToProceed L (fromCold L es) r
 
 -- and the points must agree: where they do not, no state of any layout grants the exit route
 abbrev pub SetNeedsAgreement : Type 0
