@@ -3,9 +3,11 @@ use super::Core;
 use super::Tried;
 use super::heads;
 use super::orders;
+use super::tried::done;
+use super::tried::gives_nothing;
+use super::tried::refused;
 use axles::Axles;
 use layout::Layout;
-use reasons::Refusal;
 use reasons::events::is_fitted;
 use reasons::events::is_outside;
 use reasons::events::no_such_block;
@@ -37,44 +39,8 @@ ghost use mathlib.Core.Path.{_≡_};
 ghost use mathlib.Core.Bool.{true};
 ghost use Prim.Native.Nat.{_≤_};
 ghost use Rattle.track.specs.Sizes.{mostLines};
-ghost use Rattle.interlocking.specs.Rows.{nothing, sectionRow, pointRow, throwRow, setRow, cancelRow, secureRow, manualRow, barRow, secondRow, noRow, rowWith};
-ghost use Rattle.interlocking.specs.Parts.{bare, moves, stays, tried};
-
-// Nothing is given; a number past the last section is no section.
-fn gives_nothing() -> Gives
-    ensures { λ e. ⌜ e ≡ nothing ⌝ }
-{
-    Gives {
-        section: MOST_SECTIONS,
-        reading: 0,
-        tick: 0,
-    }
-}
-
-// A refusal leaves the state as it was.
-pub fn refused(s: Core, f: Refusal) -> Tried
-    ensures { λ r. ⌜ r ≡ stays f s ⌝ }
-{
-    let gives = gives_nothing();
-    Tried {
-        next: s,
-        gives,
-        number: f.number,
-        detail: f.detail,
-    }
-}
-
-// Not refused: the state that the event makes, and what it gives.
-pub fn done(t: Core, gives: Gives) -> Tried
-    ensures { λ r. ⌜ r ≡ moves t gives ⌝ }
-{
-    Tried {
-        next: t,
-        gives,
-        number: 0,
-        detail: 0,
-    }
-}
+ghost use Rattle.interlocking.specs.Rows.{sectionRow, pointRow, throwRow, setRow, cancelRow, secureRow, manualRow, barRow, secondRow, noRow, rowWith};
+ghost use Rattle.interlocking.specs.Parts.{bare, tried};
 
 impl Core {
     // 1: a section reading.

@@ -1,9 +1,9 @@
 // The events of axle counters, kinds 11 to 14 (request L1): what is refused of each, and the reading that the section's heads then give it.
 use super::Core;
 use super::Tried;
-use super::event::done;
-use super::event::refused;
 use super::orders;
+use super::tried::done;
+use super::tried::refused;
 use axles::Axles;
 use layout::Layout;
 use reasons::Refusal;

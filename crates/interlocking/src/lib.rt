@@ -6,6 +6,7 @@ mod orders;
 pub mod parts;
 mod range;
 mod stores;
+mod tried;
 
 use answering::answered;
 use axles::Axles;
@@ -34,9 +35,6 @@ use track::codes::STAGE_0;
 use track::codes::THROW;
 use track::codes::UNBAR;
 use track::sizes::LINES;
-use track::sizes::MOST_LINES;
-use track::sizes::MOST_SECTIONS;
-use track::sizes::MOST_TRAIN_ROUTES;
 use track::sizes::PLACES;
 use track::sizes::POINTS;
 use track::sizes::ROUTES;
@@ -53,7 +51,6 @@ ghost use Rattle.interlocking.specs.State.{cold, inRange};
 ghost use Rattle.interlocking.specs.Rows.{sectionRow, pointRow, throwRow, setRow, cancelRow, secureRow, manualRow, barRow, secondRow, countRow, silentRow, resetRow};
 ghost use Rattle.interlocking.specs.Own.{headsOf, headsBy};
 ghost use Rattle.interlocking.specs.Step.{answeredBy, stepWhere, step};
-ghost use Rattle.interlocking.specs.Parts.{coreStepInRun};
 
 // A code for each section, point, route, line and block, as `track::codes` has them: what sections and points read, the order of a point (0 none,
 // 1, 2), the phase, the steps done and the seconds counted of a route, the direction of a line, the stage and the bar of a block, at 8 * line + block.
@@ -286,25 +283,5 @@ impl State {
     {
         let asked = self.is_sound(layout);
         self.answer(layout, asked, RESET_AXLES, section, 0)
-    }
-}
-
-impl Core {
-    // One step of a run that asked `Layout::sound` and `State::in_range` before its first event, where it is the same as `State::step` on the parts.
-    pub fn step_in_run(
-        self,
-        heads: Axles,
-        layout: Layout,
-        kind: u32,
-        first: u32,
-        second: u32,
-    ) -> CoreAnswer
-        ensures { λ r. ⌜ r ≡ coreStepInRun layout self heads kind first second ⌝ }
-    {
-        let lines = layout.lines <= MOST_LINES;
-        let routes = layout.routes <= MOST_TRAIN_ROUTES;
-        let sections = (1 <= layout.sections) & (layout.sections <= MOST_SECTIONS);
-        let asked = lines & (routes & (sections & (layout.lacking == 0)));
-        answered(layout, self, heads, asked, kind, first, second)
     }
 }

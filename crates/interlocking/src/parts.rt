@@ -1,14 +1,20 @@
 // A state in parts: the nine tables, and of the heads those of the section that an event names (request L1). So a step copies no table of heads.
 use super::Core;
+use super::CoreAnswer;
 use super::State;
+use super::answering::answered;
 use axles::Axles;
 use axles::Said;
+use layout::Layout;
 use track::codes::AXLES_IN;
 use track::codes::RESET_AXLES;
+use track::sizes::MOST_LINES;
+use track::sizes::MOST_SECTIONS;
+use track::sizes::MOST_TRAIN_ROUTES;
 use track::sizes::SECTIONS;
 ghost use mathlib.Core.Path.{_≡_};
 ghost use Rattle.interlocking.specs.Own.{headSection};
-ghost use Rattle.interlocking.specs.Parts.{coreOf, whole, isOfHeads, headsThen, headPlace};
+ghost use Rattle.interlocking.specs.Parts.{coreOf, whole, isOfHeads, headsThen, headPlace, coreStepInRun};
 
 // The nine tables of a state.
 pub fn core_of(s: State) -> Core
@@ -105,4 +111,24 @@ pub fn heads_then(x: Axles, kind: u32, first: u32, second: u32) -> Axles
         count: (second % 65536) as u16,
     };
     axles::after(x, e)
+}
+
+impl Core {
+    // One step of a run that asked `Layout::sound` and `State::in_range` before its first event, where it is the same as `State::step` on the parts.
+    pub fn step_in_run(
+        self,
+        heads: Axles,
+        layout: Layout,
+        kind: u32,
+        first: u32,
+        second: u32,
+    ) -> CoreAnswer
+        ensures { λ r. ⌜ r ≡ coreStepInRun layout self heads kind first second ⌝ }
+    {
+        let lines = layout.lines <= MOST_LINES;
+        let routes = layout.routes <= MOST_TRAIN_ROUTES;
+        let sections = (1 <= layout.sections) & (layout.sections <= MOST_SECTIONS);
+        let asked = lines & (routes & (sections & (layout.lacking == 0)));
+        answered(layout, self, heads, asked, kind, first, second)
+    }
 }

@@ -65,7 +65,7 @@ module _ (L : Layout) (s : State) (e : Event) where
       go (leaves f u) = ap (λ xs. headsAt xs g) (u .6)
 
   -- there are as many as before
-  heads-many : length (end L s e .axles) ≡ length (s .axles)
+  pub heads-many : length (end L s e .axles) ≡ length (s .axles)
   unfolding ownSection ownSet ownCancel ownSecure ownManual withSections withRoutes withLines withAxles
   heads-many = rw end-axles (go (is-done L s e))
     where
