@@ -2,8 +2,8 @@
 use super::Core;
 use super::Tried;
 use super::orders;
-use super::tried::done;
-use super::tried::refused;
+use super::trial::done;
+use super::trial::refused;
 use axles::Axles;
 use layout::Layout;
 use reasons::Refusal;

@@ -6,7 +6,7 @@ mod orders;
 pub mod parts;
 mod range;
 mod stores;
-mod tried;
+mod trial;
 
 use answering::answered;
 use axles::Axles;

@@ -1,8 +1,8 @@
 -- A record of the refusal, with nothing given.
 use borrow.Author.Needs.{needs}
 use Rattle.interlocking.specs.Parts.{stays}
-use Rattle.interlocking.proofs.tried.refused.Statement.{statement}
-use Rattle.interlocking.proofs.tried.refused.Tie as tie
+use Rattle.interlocking.proofs.trial.refused.Statement.{statement}
+use Rattle.interlocking.proofs.trial.refused.Tie as tie
 
 pub refused-spec : {M : Type 1} → statement M
 unfolding stays
