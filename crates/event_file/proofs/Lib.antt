@@ -5,6 +5,7 @@ pub mod Shown
 pub mod Framing
 pub mod Rest
 pub mod Turns
+pub mod Parted
 pub mod Prefix
 pub mod Further
 pub mod Onward

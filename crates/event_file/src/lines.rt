@@ -3,8 +3,9 @@ ghost use mathlib.Core.Bool.{true};
 ghost use mathlib.Core.List.{[], _∷_, _++_};
 ghost use Prim.Native.Nat.{_+_, _*_, _≤_};
 ghost use lib.ListN.{length};
-use interlocking::State;
+use interlocking::Core;
 use layout::Layout;
+ghost use Rattle.interlocking.specs.Parts.{bare};
 ghost use Rattle.event_file.specs.Lines.{space, lineEnd, stroke, twoNumbers, threeNumbers, afterSpace, spaced, shownInRun, lineOf, mostLine};
 ghost use Rattle.event_file.specs.Writes.{imageLine};
 ghost use Rattle.numerals.specs.Digits.{decimalDigits};
@@ -101,10 +102,10 @@ pub fn put_image_line(
     end + 1
 }
 
-// A line with the panel of the state then, in a run that asked soundness before its first event.
+// A line with the panel of the tables then, in a run that asked soundness before its first event.
 pub fn put_panel_line(
     layout: Layout,
-    state: State,
+    core: Core,
     n: u64,
     answer: u8,
     detail: u32,
@@ -112,9 +113,9 @@ pub fn put_panel_line(
     at: usize,
 ) -> usize
     requires { ⌜ at + mostLine true ≤ length (now out) ⌝ }
-    ensures { λ r. ⌜ Put (now (out .entry)) at (lineOf true (shownInRun layout state) n answer detail) (mostLine true) (now (out .exit)) r ⌝ }
+    ensures { λ r. ⌜ Put (now (out .entry)) at (lineOf true (shownInRun layout (bare core)) n answer detail) (mostLine true) (now (out .exit)) r ⌝ }
 {
     let mut image = [0u8; 512];
-    let drawn = panel::panel_in_run(state, layout, &mut image);
+    let drawn = panel::panel_in_run(core, layout, &mut image);
     put_image_line(&image, drawn.length, n, answer, detail, out, at)
 }

@@ -3,6 +3,9 @@ use crate::Next;
 use crate::lines;
 use crate::next_event;
 use interlocking::State;
+use interlocking::parts::core_of;
+use interlocking::parts::head_place;
+use interlocking::parts::whole;
 use layout::Layout;
 ghost use mathlib.Core.Path.{_≡_};
 ghost use lib.ListN.{length};
@@ -99,10 +102,11 @@ fn so_far(state: State, count: u64, at: usize, written: usize) -> Piece
 }
 
 // A run over a piece of the file from a place on, from a state that was asked for soundness with its layout before the file's first event.
+// The nine tables and the heads go apart, so that an event copies only the heads that it names (request L1).
 pub fn run_piece(
     panel: bool,
     layout: Layout,
-    mut state: State,
+    state: State,
     mut count: u64,
     bytes: &[u8],
     mut at: usize,
@@ -111,10 +115,12 @@ pub fn run_piece(
 ) -> Piece
     ensures { λ r. ⌜ Went (now (out .entry)) 0 (length (now (out .entry))) (now (out .exit)) r (pieceOf (boxInRun layout) panel (shownInRun layout) last (now (bytes .entry)) (length (now (out .entry))) state count at) ⌝ }
 {
+    let mut core = core_of(state);
+    let mut axles = state.axles;
     let mut written: usize = 0;
     for _ in 0u32..65536 {
         if out.len() - written < most_line(panel) {
-            return halt(so_far(state, count, at, written), at, 1);
+            return halt(so_far(whole(core, axles), count, at, written), at, 1);
         }
         let there = next_event(bytes, at);
         let Next::Taken {
@@ -124,19 +130,23 @@ pub fn run_piece(
             next,
         } = there
         else {
-            return halt_by(so_far(state, count, at, written), there, last);
+            return halt_by(so_far(whole(core, axles), count, at, written), there, last);
         };
-        let a = state.step_in_run(layout, kind, first, second);
-        state = a.next;
+        let place = head_place(kind, first);
+        let heads = axles[place];
+        let a = core.step_in_run(heads, layout, kind, first, second);
+        core = a.next;
+        let then = a.heads;
+        axles[place] = then;
         count = next_count(count);
         at = next;
         written = if panel {
-            lines::put_panel_line(layout, state, count, a.number, a.detail, out, written)
+            lines::put_panel_line(layout, core, count, a.number, a.detail, out, written)
         } else {
             lines::put_line(count, a.number, a.detail, out, written)
         };
     }
-    so_far(state, count, at, written)
+    so_far(whole(core, axles), count, at, written)
 }
 
 // The bytes of a buffer from one place to another are brought to its front; how many they are.

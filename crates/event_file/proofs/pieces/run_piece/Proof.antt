@@ -1,65 +1,129 @@
--- The run came as far as its first i turns, and did not stop.
+-- The run came as far as its first i turns, and did not stop; its state is held in two parts.
 use Prim.Native.Nat.{_-_, _≤_}
-use mathlib.Core.Path.{refl}
+use mathlib.Core.Path.{_≡_, refl, _∙_}
 use mathlib.Core.Bool.{true}
 use mathlib.Core.Logic.{⊎-elim}
 use native.Mathlib.Omega.{arith}
 use borrow.Author.Needs.{needs}
-use lib.ListN.{length}
+use lib.ListN.{length, length-set}
 use Rattle.laws.specs.Tables.{iter}
+use Rattle.laws.proofs.Arrays.{length-mapped}
+use Rattle.track.specs.Sizes.{mostSections}
+use Rattle.interlocking.specs.Parts.{whole, together}
+use Rattle.interlocking.proofs.Lifted.{place-small}
 use Rattle.step_facts.specs.Run.{boxInRun}
 use Rattle.event_file.specs.Lines.{shownInRun}
 use Rattle.event_file.specs.Run.{turnRun, start, turns, soFar, Went}
 use Rattle.event_file.proofs.PanelText.{most-panel, most-plain, line-plain, line-panel}
 use Rattle.event_file.proofs.Reading.{next-same}
-use Rattle.event_file.proofs.Turns.{runs, run-taken}
+use Rattle.event_file.proofs.Turns.{runs, run-full, run-halted, run-taken, run-done}
+use Rattle.event_file.proofs.Parted.{from-parts, so-far-whole, run-together, line-of-whole}
 use Rattle.event_file.proofs.pieces.run_piece.Statement.{statement}
 use Rattle.event_file.proofs.pieces.run_piece.Tie as tie
 
 abbrev Inv-loop : tie.InvT-loop
-Inv-loop panel layout state₀ count₀ bytes at₀ last out₀ written₀ turn₀ state count at out written turn =
-    (turn ≤ turns)
-    × Went out₀ 0 (length out₀) out (soFar state count at written)
-    (iter (λ k. turnRun (boxInRun layout) panel (shownInRun layout) last bytes (length out₀)) turn (start state₀ count₀ at₀))
+Inv-loop panel layout count₀ bytes at₀ last out₀ core₀ axles₀ written₀ turn₀ count at out core axles written turn =
+    (turn ≤ turns) × (length axles ≡ mostSections)
+    × Went out₀ 0 (length out₀) out (soFar (whole core axles) count at written)
+    (iter (λ k. turnRun (boxInRun layout) panel (shownInRun layout) last bytes (length out₀)) turn (start (whole core₀ axles₀) count₀ at₀))
 
 abbrev μ-loop : tie.MeasureT-loop
-μ-loop panel layout state₀ count₀ bytes at₀ last out₀ written₀ turn₀ state count at out written turn = turns - turn
+μ-loop panel layout count₀ bytes at₀ last out₀ core₀ axles₀ written₀ turn₀ count at out core axles written turn = turns - turn
 
 -- no turn is made yet
 loop-holds : tie.Need-loop-holds Inv-loop μ-loop
-loop-holds c = (omega arith, search runs)
+loop-holds c = (omega arith, search (needs, length-mapped, c .before .before .before .before .good .1 .1 .0 .1 .1 .1 .1 .1 .1 .1 .1 .1 .1 .1 .0), search runs)
+
+-- no room for another line
+full : tie.Need-returns Inv-loop μ-loop
+full c =
+    let turn = c .before .before .before .before .before .before in
+    from-parts _ _ _ _ _ _ _ _ _ _ _ _ _ (turn .before .before .core-of .ensures)
+    (run-full _ _ _ _ _ _ _ _ _ _ _ _ _ _ _ (turn .loop .inv .2) (c .before .before .before .before .before .loop-test .taken) _ (c .before .before .before .before .most-line .ensures) _ _ (c .before .before .before .if1 .taken)
+    (so-far-whole _ _ _ _ _ _ (c .before .before .whole .ensures) (c .before .so-far .ensures)) (c .halt .ensures))
+
+-- no event stands at the next place
+halted : tie.Need-returns-2 Inv-loop μ-loop
+halted c =
+    let turn = c .before .before .before .before .before .before .before .before in
+    from-parts _ _ _ _ _ _ _ _ _ _ _ _ _ (turn .before .before .core-of .ensures)
+    (run-halted _ _ _ _ _ _ _ _ _ _ _ _ _ _ _ (turn .loop .inv .2) (c .before .before .before .before .before .before .before .loop-test .taken) _ (c .before .before .before .before .before .before .most-line .ensures) _ (c .before .before .before .before .before .if1 .left)
+    (next-same _ _ (c .before .before .before .before .next-event .ensures)) _ _ (search needs)
+    (so-far-whole _ _ _ _ _ _ (c .before .before .whole2 .ensures) (c .before .so-far2 .ensures)) (c .halt-by .ensures))
+
+-- all turns are made
+done : tie.Need-returns-3 Inv-loop μ-loop
+done c =
+    let turn = c .before .before .before in
+    from-parts _ _ _ _ _ _ _ _ _ _ _ _ _ (turn .before .before .core-of .ensures)
+    (run-done _ _ _ _ _ _ _ _ _ _ _ _ _ (turn .loop .inv .2)
+    (so-far-whole _ _ _ _ _ _ (c .before .whole3 .ensures) (c .so-far3 .ensures)) (turn .loop .inv .0) (omega (arith, c .before .before .loop-test .left)))
 
 -- a line that has room, with the panel
 put-panel-line-requires : tie.Need-put-panel-line-requires Inv-loop μ-loop
 put-panel-line-requires c κs =
-    let asked = c .before .before .before .before .before .before .before .before .before in
+    let asked = c .before .before .before .before .before .before .before .before .before .before .before .before in
     omega (arith, asked .if1 .left, asked .before .most-line .ensures, most-panel _ (c .before .if2 .taken), most-panel true refl)
 
 -- without it
 put-line-requires : tie.Need-put-line-requires Inv-loop μ-loop
 put-line-requires c κs =
-    let asked = c .before .before .before .before .before .before .before .before .before in
+    let asked = c .before .before .before .before .before .before .before .before .before .before .before .before in
     omega (arith, asked .if1 .left, asked .before .most-line .ensures, most-plain _ (c .before .if2 .left))
 
 -- the event that stands there is answered, and its line is written, with the panel or without
 loop-again : tie.Need-loop-again Inv-loop μ-loop
-unfolding boxInRun
+unfolding together
 loop-again c =
-    let answered = c .before in
-    let asked = answered .before .before .before .before .before .before in
-    let turn = asked .before .before .before in
-    let less = turn .loop-test .taken in (
+    let counted = c .before in
+    let named = c .before .before .before .before .before .before in
+    let asked = c .before .before .before .before .before .before .before .before .before .before in
+    let turn = c .before .before .before .before .before .before .before .before .before .before .before .before .before .before in
+    let less = c .before .before .before .before .before .before .before .before .before .before .before .before .before .loop-test .taken in (
       omega (arith, less),
-      run-taken _ _ _ _ _ _ _ _ _ _ _ _ _ _ _ (turn .before .loop .inv .1) less _ (asked .before .before .most-line .ensures) _ (asked .before .if1 .left)
-          (next-same _ _ (asked .next-event .ensures)) _ _ _ _ _ _ _ _ (search needs) (answered .before .before .step-in-run .ensures) (answered .next-count .ensures)
-          (⊎-elim (λ w. line-panel _ _ _ _ _ _ _ _ _ _ _ (w .0 .taken) (w .5) (w .6) (w .2 .ensures))
+      length-set (turn .loop .axles) (named .head-place .result) (c .before .before .before .before .step-in-run .result .heads) ∙ turn .loop .inv .1,
+      run-taken _ _ _ _ _ _ _ _ _ _ _ _ _ _ _ (turn .loop .inv .2) less _ (asked .before .before .most-line .ensures) _ (asked .before .if1 .left)
+          (next-same _ _ (asked .next-event .ensures)) _ _ _ _ _ _ _ _ (search needs)
+          (run-together _ _ _ _ _ _ _ _ _ _ (turn .loop .inv .1) (named .head-place .ensures) refl (c .before .before .before .before .step-in-run .ensures)) (counted .next-count .ensures)
+          (⊎-elim (λ w. line-panel _ _ _ _ _ _ _ _ _ _ _ (w .0 .taken) (w .5) (w .6) (line-of-whole _ _ _ _ _ _ _ _ _ _ (w .2 .ensures)))
           (λ w. line-plain _ _ _ _ _ _ _ _ _ _ _ (w .0 .left) (w .5) (w .6) (w .2 .ensures)) (c .if2 .came)),
     )
 
 pub run-piece-spec : {M : Type 1} → statement M
 run-piece-spec =
     tie.close
-    (tie.spec Inv-loop μ-loop loop-holds (λ c. search runs) (λ c κs. search needs) (λ c κs. search needs) (λ c κs. search needs) (λ c. search needs)
-    (λ c. search runs) (λ c κs. search needs) (λ c. search needs) (λ c κs. search needs) (λ c κs. search needs) (λ c. search needs)
-    (λ c. search runs) (λ c κs. search needs) (λ c κs. search needs) put-panel-line-requires put-line-requires (λ c. search needs) (λ c. search needs)
-    loop-again (λ c κs. search needs) (λ c. search needs) (λ c. search runs))
+    (tie.spec
+    Inv-loop
+    μ-loop
+    (λ c κs. search needs)
+    loop-holds
+    (λ c. search runs)
+    (λ c κs. search needs)
+    (λ c κs. search needs)
+    (λ c κs. search needs)
+    (λ c κs. search needs)
+    (λ c. search needs)
+    full
+    (λ c κs. search needs)
+    (λ c. search needs)
+    (λ c κs. search needs)
+    (λ c κs. search needs)
+    (λ c κs. search needs)
+    (λ c. c .before .before .before .before .before .before .before .before .loop .inv .2 .text .long)
+    halted
+    (λ c κs. search needs)
+    (λ c. search (needs, place-small _ _ _ (c .head-place .ensures)))
+    (λ c. search (needs, place-small _ _ _ (c .head-place .ensures)))
+    (λ c κs. search needs)
+    (λ c. search (needs, place-small _ _ _ (c .before .before .before .before .head-place .ensures)))
+    (λ c. search (needs, place-small _ _ _ (c .before .before .before .before .head-place .ensures)))
+    (λ c κs. search needs)
+    put-panel-line-requires
+    put-line-requires
+    (λ c. search needs)
+    (λ c. search needs)
+    loop-again
+    (λ c κs. search needs)
+    (λ c κs. search needs)
+    (λ c. search needs)
+    done)
