@@ -17,6 +17,7 @@ use Rattle.cabinet.specs.Calls.{Records, records}
 use Rattle.cabinet.proofs.event as event
 use Rattle.cabinet.proofs.hiruketawha_power_on as power-on
 use Rattle.cabinet.proofs.hiruketawha_load as load
+use Rattle.cabinet.proofs.hiruketawha_fit as fit
 use Rattle.cabinet.proofs.hiruketawha_event as c-event
 use Rattle.cabinet.proofs.hiruketawha_panel as panel
 
@@ -43,6 +44,10 @@ module _ {M : Type 1} (𝓤 : URA M) (H : Heap 𝓤) (A : Atoms 𝓤) (mem : Mem
   -- a layout file: the reply and both records
   pub load-determined : DeterminesLent 𝓤 load.ended (λ κs s. records (now (s .1 .0)) (now (s .0))) (load.clauses 𝓤 H A mem run)
   load-determined κs a g r q s t = both 𝓤 _ _ _ (λ p o. (only (p .0) (o .0), only (p .1) (o .1)))
+
+  -- a file of fitted sections: the reply and both records
+  pub fit-determined : DeterminesLent 𝓤 fit.ended (λ κs s. records (now (s .1 .0)) (now (s .0))) (fit.clauses 𝓤 H A mem run)
+  fit-determined κs a g r q s t = both 𝓤 _ _ _ (λ p o. (only (p .0) (o .0), only (p .1) (o .1)))
 
   -- an event from C: the reply and the state's record
   pub c-event-determined : DeterminesLent 𝓤 c-event.ended (λ κs s. now (s .0)) (c-event.clauses 𝓤 H A mem run)

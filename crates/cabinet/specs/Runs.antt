@@ -1,5 +1,5 @@
 -- The run that the records are in: the events that were given since the state last started anew, on the layout that is in use.
-use Prim.Native.Nat.{ℕ}
+use Prim.Native.Nat.{ℕ, _≤_}
 use mathlib.Core.Path.{_≡_}
 use mathlib.Core.Logic.{_⊎_}
 use mathlib.Core.List.{List, [], _∷_, _++_}
@@ -8,26 +8,55 @@ use Rattle.laws.specs.Choice.{if_then_else_}
 use Rattle.layout.specs.declared.Layout.{Layout}
 use Rattle.layout.specs.Layout.{noLayout}
 use Rattle.layout.specs.Load.{load}
+use Rattle.fitted.specs.Numbers.{numbersOf}
+use Rattle.fitted.specs.Fitted.{Among, equipped}
+use Rattle.fitted.specs.InUse.{InUse}
 use Rattle.step_facts.specs.Run.{Event, event, fromCold}
-use Rattle.cabinet.specs.Calls.{Records, Call, powerOn, loadFile, giveEvent, drawPanel, recordsAfter, tells}
+use Rattle.cabinet.specs.Calls.{Records, Call, powerOn, loadFile, fitSections, giveEvent, drawPanel, recordsAfter, tells}
 
--- the events since then in their order, the calls being newest first: the state starts anew at power-on and by an accepted layout file
+-- the events since then in their order, the calls being newest first: the state starts anew at power-on and by an accepted file, of a
+-- layout or of fitted sections
 unfoldable pub eventsSince : List Call → List Event
 eventsSince [] = []
 eventsSince (powerOn ∷ cs) = []
 eventsSince (loadFile bytes ∷ cs) = if eqb (load bytes .number) 0 then [] else eventsSince cs
+eventsSince (fitSections bytes ∷ cs) = if eqb (numbersOf bytes .fault) 0 then [] else eventsSince cs
 eventsSince (giveEvent k a b ∷ cs) = eventsSince cs ++ (event k a b ∷ [])
 eventsSince (drawPanel buffer ∷ cs) = eventsSince cs
 
--- a layout that a file was accepted for
-pub record OfFile (L : Layout) : Type 0 where
-  pub file : List ℕ
-  pub done : load file .number ≡ 0
-  pub its : load file .layout ≡ L
+-- ---- the layout
 
--- after any calls from power-on: there is no layout, or one that was accepted, and the state is what the events since then made of the cold start on it
+-- the layout of the last file that was accepted, as it was loaded; none where none was since power-on
+unfoldable pub loadedAfter : List Call → Layout
+loadedAfter [] = noLayout
+loadedAfter (powerOn ∷ cs) = noLayout
+loadedAfter (loadFile bytes ∷ cs) = if eqb (load bytes .number) 0 then load bytes .layout else loadedAfter cs
+loadedAfter (fitSections bytes ∷ cs) = loadedAfter cs
+loadedAfter (giveEvent k a b ∷ cs) = loadedAfter cs
+loadedAfter (drawPanel buffer ∷ cs) = loadedAfter cs
+
+-- the sections that were told since then: those of the last file of fitted sections that was accepted, no others (L1)
+unfoldable pub toldAfter : List Call → List ℕ
+toldAfter [] = []
+toldAfter (powerOn ∷ cs) = []
+toldAfter (loadFile bytes ∷ cs) = if eqb (load bytes .number) 0 then [] else toldAfter cs
+toldAfter (fitSections bytes ∷ cs) = if eqb (numbersOf bytes .fault) 0 then numbersOf bytes .list else toldAfter cs
+toldAfter (giveEvent k a b ∷ cs) = toldAfter cs
+toldAfter (drawPanel buffer ∷ cs) = toldAfter cs
+
+-- the layout that was loaded, with these
+unfoldable pub layoutAfter : List Call → Layout
+layoutAfter cs = equipped (toldAfter cs) (loadedAfter cs)
+
+-- none is in use: no file was accepted, or a section was told that the layout lacks
+unfoldable pub Lacking : List Call → Type 0
+Lacking cs = (loadedAfter cs ≡ noLayout) ⊎ ((g : ℕ) × Among (toldAfter cs) g × (loadedAfter cs .sections ≤ g))
+
+-- after any calls from power-on: the layout is what the accepted files say; it is in use, or something is lacking; and the state is what the events since
+-- then made of the cold start on it
 pub record InRun (cs : List Call) : Type 0 where
-  pub layout : (recordsAfter cs .layout ≡ noLayout) ⊎ OfFile (recordsAfter cs .layout)
+  pub layout : recordsAfter cs .layout ≡ layoutAfter cs
+  pub used : InUse (recordsAfter cs .layout) ⊎ Lacking cs
   pub state : recordsAfter cs .state ≡ fromCold (recordsAfter cs .layout) (eventsSince cs)
 
 -- ---- 18

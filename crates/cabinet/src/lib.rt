@@ -1,4 +1,4 @@
-// The records that live in the cabinet from power-on, and the entries of the static library that a controller links (sections 2, 3, 7).
+// The records that live in the cabinet from power-on, and the entries of the static library that a controller links (sections 2, 3, 7, L1).
 // One thin entry lends the state's record to the event and changes it there; all else takes and returns states as values.
 // Each call's contract is the call's definition in specs/Calls.
 use interlocking::State;
@@ -6,8 +6,9 @@ use layout::Layout;
 use panel::Drawn;
 ghost use mathlib.Core.Path.{_≡_};
 ghost use Rattle.layout.specs.Load.{load};
-ghost use Rattle.cabinet.specs.Calls.{records, powerOn, loadFile, giveEvent, drawPanel, afterCall, tells};
-ghost use Rattle.cabinet.specs.Cabinet.{reply, loadReply, drawnReply, loadOver};
+ghost use Rattle.fitted.specs.Fitted.{fit};
+ghost use Rattle.cabinet.specs.Calls.{records, powerOn, loadFile, fitSections, giveEvent, drawPanel, afterCall, tells};
+ghost use Rattle.cabinet.specs.Cabinet.{reply, loadReply, drawnReply, fileOver, loadOver, fitOver};
 
 // What is told of an event: the answer's number and its detail.
 #[repr(C)]
@@ -16,14 +17,14 @@ pub struct Reply {
     pub detail: u32,
 }
 
-// What is told of a layout file: the answer's number and its detail.
+// What is told of a layout file, or of a file of fitted sections: the answer's number and its detail.
 #[repr(C)]
 pub struct LoadReply {
     pub number: u8,
     pub detail: usize,
 }
 
-// The answer to a layout file, with what it leaves in both records.
+// The answer to such a file, with what it leaves in both records.
 struct LoadedOver {
     number: u8,
     detail: usize,
@@ -45,27 +46,44 @@ pub fn event(state: &mut State, layout: Layout, kind: u32, first: u32, second: u
     }
 }
 
-// A layout file for records that hold a layout and a state: an accepted file starts the state anew, a refused one leaves both as they were.
-fn load_over(bytes: &[u8], layout: Layout, state: State) -> LoadedOver
-    ensures { λ r. ⌜ r ≡ loadOver (records layout state) (load (now (bytes .entry))) ⌝ }
+// An answered file for records that hold a layout and a state: an accepted one leaves the layout that it makes and starts the state anew, a refused
+// one leaves both as they were.
+fn file_over(number: u8, detail: usize, made: Layout, layout: Layout, state: State) -> LoadedOver
+    ensures { λ r. ⌜ r ≡ fileOver (records layout state) number detail made ⌝ }
 {
-    let loaded = layout::load(bytes);
-    let accepted = loaded.layout;
     let anew = State::cold();
-    if loaded.number == 0 {
+    if number == 0 {
         return LoadedOver {
-            number: loaded.number,
-            detail: loaded.detail,
-            layout: accepted,
+            number,
+            detail,
+            layout: made,
             state: anew,
         };
     }
     LoadedOver {
-        number: loaded.number,
-        detail: loaded.detail,
+        number,
+        detail,
         layout,
         state,
     }
+}
+
+// A layout file for them.
+fn load_over(bytes: &[u8], layout: Layout, state: State) -> LoadedOver
+    ensures { λ r. ⌜ r ≡ loadOver (records layout state) (load (now (bytes .entry))) ⌝ }
+{
+    let loaded = layout::load(bytes);
+    let made = loaded.layout;
+    file_over(loaded.number, loaded.detail, made, layout, state)
+}
+
+// A file of fitted sections for them (L1).
+fn fit_over(bytes: &[u8], layout: Layout, state: State) -> LoadedOver
+    ensures { λ r. ⌜ r ≡ fitOver (records layout state) (fit layout (now (bytes .entry))) ⌝ }
+{
+    let fitting = fitted::fit(layout, bytes);
+    let made = fitting.layout;
+    file_over(fitting.number, fitting.detail, made, layout, state)
 }
 
 // Both records at power-on: a layout with no objects, so that every event gets 18 until a file is loaded, and the cold start.
@@ -90,6 +108,24 @@ pub extern "C" fn hiruketawha_load(
     let s = *state;
     let l = *layout;
     let a = load_over(bytes, l, s);
+    *layout = a.layout;
+    *state = a.state;
+    LoadReply {
+        number: a.number,
+        detail: a.detail,
+    }
+}
+
+// The sections that have heads (L1), told beside the layout: the layout's record is equipped with these and no others, and the state starts anew.
+// A refused file leaves every byte of both records as it was.
+#[no_mangle]
+pub extern "C" fn hiruketawha_fit(state: &mut State, layout: &mut Layout, bytes: &[u8]) -> LoadReply
+    ensures { λ r. ⌜ (r ≡ loadReply (tells (records (now (layout .entry)) (now (state .entry))) (fitSections (now (bytes .entry)))))
+        × (records (now (layout .exit)) (now (state .exit)) ≡ afterCall (records (now (layout .entry)) (now (state .entry))) (fitSections (now (bytes .entry)))) ⌝ }
+{
+    let s = *state;
+    let l = *layout;
+    let a = fit_over(bytes, l, s);
     *layout = a.layout;
     *state = a.state;
     LoadReply {

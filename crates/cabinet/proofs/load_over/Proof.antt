@@ -1,8 +1,9 @@
--- An accepted file gives its own layout and the cold state, a refused one the records before.
+-- What the answer to the layout file leaves.
 use borrow.Author.Needs.{needs}
-use Rattle.cabinet.proofs.Laws.{load-accepted, load-refused}
+use Rattle.cabinet.specs.Cabinet.{loadOver}
 use Rattle.cabinet.proofs.load_over.Statement.{statement}
 use Rattle.cabinet.proofs.load_over.Tie as tie
 
 pub load-over-spec : {M : Type 1} → statement M
-load-over-spec = tie.close (tie.spec (λ c κs. search needs) (λ c κs. search needs) (λ c. search (needs, load-accepted, load-refused)) (λ c. search (needs, load-accepted, load-refused)))
+unfolding loadOver
+load-over-spec = tie.close (tie.spec (λ c κs. search needs) (λ c κs. search needs) (λ c. cc))
