@@ -1,4 +1,4 @@
--- However the event file is cut into reads, the program prints what is printed of the whole file.
+-- However the event file and the file of fitted sections are cut into reads, the program prints what is printed of the whole files.
 use Prim.Native.Nat.{ℕ, zero, suc, _+_, _<_, _≤_}
 use mathlib.Core.Path.{_≡_, refl, sym, ap, ap₂, subst, _∙_}
 use mathlib.Core.Bool.{Bool, true, false}
@@ -13,25 +13,27 @@ use Rattle.laws.specs.Choice.{if_then_else_}
 use Rattle.laws.proofs.Choice.{if-lt, if-ge, if-eq, if-ne}
 use Rattle.numerals.specs.Digits.{fitting}
 use Rattle.layout.specs.declared.Layout.{Layout}
-use Rattle.layout.specs.Sound.{sound}
 use Rattle.layout.specs.Load.{load}
 use Rattle.layout_facts.proofs.Loaded.{loaded-sound}
+use Rattle.fitted.specs.declared.Fitting.{Fitting}
+use Rattle.fitted.specs.Fitted.{fit}
+use Rattle.fitted.proofs.Cut.{cut-fits-same}
 use Rattle.interlocking.specs.declared.State.{State}
 use Rattle.interlocking.specs.declared.Answer.{Answer}
 use Rattle.interlocking.specs.State.{inRange, cold}
 use Rattle.interlocking.specs.Step.{step}
 use Rattle.step_facts.specs.Run.{Event, box, boxInRun}
 use Rattle.step_facts.proofs.Range.{cold-in-range}
-use Rattle.step_facts.proofs.Step.{step-in-range, run-step-same}
+use Rattle.step_facts.proofs.Step.{step-in-range}
 use Rattle.event_file.specs.declared.Next.{Next}
 use Rattle.event_file.specs.declared.Next.the-variants.{Taken, Bad, Nothing}
 use Rattle.event_file.specs.Read.{eventAt}
 use Rattle.event_file.specs.Lines.{nextCount, shown, shownInRun, lineOf, mostText, mostLine}
 use Rattle.event_file.specs.Run.{Run}
-use Rattle.event_file.specs.List.{mostFault, layoutWord, eventsWord, faultLine, answerLine, listNext, faultIn, opening, listFrom, printed}
-use Rattle.event_file.specs.Buffer.{roomForLines, mostCalls, isLast, Onward, readOn, goOn, listInCalls, printedInCalls}
+use Rattle.event_file.specs.List.{mostFault, layoutWord, fittedWord, eventsWord, faultLine, answerLine, listNext, faultIn, opening, listFrom, listOn, printedBy, printed}
+use Rattle.event_file.specs.Buffer.{roomForLines, mostCalls, isLast, Onward, readOn, goOn, listInCalls, listOnInCalls, printedByInCalls, printedInCalls}
 use Rattle.event_file.proofs.PanelText.{text-room, line-room}
-use Rattle.event_file.proofs.Shown.{shown-same}
+use Rattle.event_file.proofs.Asked.{AskedOnce, fit-once}
 use Rattle.event_file.proofs.Onward.{fromPlace}
 use Rattle.event_file.proofs.Outcomes.{Outcome, goes, waits, ends, fails, piece-outcome}
 
@@ -120,7 +122,7 @@ cut-list-same f panel show calls room first reads s n r few =
 
 -- ---- soundness asked once, before the first event
 
-module _ (panel : Bool) (L : Layout) (file : List ℕ) (h : sound L ≡ true) where
+module _ (panel : Bool) (L : Layout) (file : List ℕ) (o : AskedOnce L) where
   -- from a state in range the step of a run answers what the step does, and leaves a state in range for what follows
   next-asked-once : (rest other : State → ℕ → List ℕ) → ((t : State) (next : ℕ) → inRange t ≡ true → rest t next ≡ other t next)
       → (s : State) (n : ℕ) (x : Next) → inRange s ≡ true → listNext (boxInRun L) panel (shownInRun L) s n rest x ≡ listNext (box L) panel (shown L) s n other x
@@ -128,8 +130,8 @@ module _ (panel : Bool) (L : Layout) (file : List ℕ) (h : sound L ≡ true) wh
   next-asked-once rest other same s n (Taken kind first second next) e =
       let r : Answer = step L s kind first second in
       let after = step-in-range L s kind first second e in
-      rw (run-step-same L s kind first second h e)
-      (ap₂ (λ bytes xs. lineOf panel bytes n (r .number) (r .detail) ++ xs) (shown-same L (r .next) h after) (same (r .next) next after))
+      rw (o .steps s kind first second e)
+      (ap₂ (λ bytes xs. lineOf panel bytes n (r .number) (r .detail) ++ xs) (o .shows (r .next) after) (same (r .next) next after))
   next-asked-once rest other same s n (Bad number at) e = refl
   next-asked-once rest other same s n Nothing e = refl
 
@@ -149,18 +151,31 @@ unfolding if_then_else_
 choice-same true x y z w p q = p refl
 choice-same false x y z w p q = q refl
 
--- with room for a line, and more calls than bytes and later reads together, the program prints what is printed of the two files
-pub cut-print-same : (calls room : ℕ) (panel : Bool) (layoutFile first : List ℕ) (reads : List (List ℕ)) → mostLine panel ≤ room
-    → length (flatten (first ∷ reads)) + length reads < calls
-    → printedInCalls calls room panel layoutFile first reads ≡ printed panel layoutFile (flatten (first ∷ reads))
-unfolding printedInCalls printed
-cut-print-same calls room panel layoutFile first reads r few =
-    let L : Layout = load layoutFile .layout in
-    choice-same (eqb (load layoutFile .number) 0) _ _ _ _
-    (λ t. ap₂ (λ xs ys. xs ++ ys) (sym (room-text room (mostLine panel) (opening panel L) r))
-    (cut-list-same (boxInRun L) panel (shownInRun L) calls room first reads cold 0 r few
-    ∙ list-asked-once panel L (flatten (first ∷ reads)) (loaded-sound layoutFile (eqb-true _ 0 t)) _ cold 0 0 cold-in-range))
-    (λ t. sym (fault-room room panel layoutWord _ _ r))
+module _ (calls room : ℕ) (panel : Bool) (first : List ℕ) (reads : List (List ℕ)) (r : mostLine panel ≤ room) (few : length (flatten (first ∷ reads)) + length reads < calls) where
+  -- the list on a layout
+  cut-list-on : (L : Layout) → AskedOnce L → listOnInCalls calls room panel L first reads ≡ listOn panel L (flatten (first ∷ reads))
+  unfolding listOnInCalls listOn
+  cut-list-on L o =
+      ap₂ (λ xs ys. xs ++ ys) (sym (room-text room (mostLine panel) (opening panel L) r))
+      (cut-list-same (boxInRun L) panel (shownInRun L) calls room first reads cold 0 r few
+      ∙ list-asked-once panel L (flatten (first ∷ reads)) o _ cold 0 0 cold-in-range)
+
+  -- by the answer to the file of fitted sections
+  cut-print-by : (f : Fitting) → AskedOnce (f .layout) → printedByInCalls calls room panel f first reads ≡ printedBy panel f (flatten (first ∷ reads))
+  unfolding printedByInCalls printedBy
+  cut-print-by f o = choice-same (eqb (f .number) 0) _ _ _ _ (λ t. cut-list-on (f .layout) o) (λ t. sym (fault-room room panel fittedWord _ _ r))
+
+  -- with room for a line, and more calls than bytes and later reads of the event file together, the program prints what is printed of the three files,
+  -- however the file of fitted sections is cut
+  pub cut-print-same : (layoutFile told : List ℕ) (tells : List (List ℕ))
+      → printedInCalls calls room panel layoutFile told tells first reads ≡ printed panel layoutFile (flatten (told ∷ tells)) (flatten (first ∷ reads))
+  unfolding printedInCalls printed
+  cut-print-same layoutFile told tells =
+      let L : Layout = load layoutFile .layout in
+      choice-same (eqb (load layoutFile .number) 0) _ _ _ _
+      (λ t. ap (λ (f : Fitting). printedByInCalls calls room panel f first reads) (cut-fits-same L told tells)
+      ∙ cut-print-by (fit L (flatten (told ∷ tells))) (fit-once L (flatten (told ∷ tells)) (loaded-sound layoutFile (eqb-true _ 0 t))))
+      (λ t. sym (fault-room room panel layoutWord _ _ r))
 
 -- the program's buffer has room for every line
 room-enough : (panel : Bool) → mostLine panel ≤ roomForLines
@@ -169,6 +184,9 @@ room-enough true = omega arith
 room-enough false = omega arith
 
 -- so it is with the program's own numbers
-pub program-prints : (panel : Bool) (layoutFile first : List ℕ) (reads : List (List ℕ)) → length (flatten (first ∷ reads)) + length reads < mostCalls
-    → printedInCalls mostCalls roomForLines panel layoutFile first reads ≡ printed panel layoutFile (flatten (first ∷ reads))
-program-prints panel layoutFile first reads few = cut-print-same mostCalls roomForLines panel layoutFile first reads (room-enough panel) few
+pub program-prints : (panel : Bool) (layoutFile told : List ℕ) (tells : List (List ℕ)) (first : List ℕ) (reads : List (List ℕ))
+    → length (flatten (first ∷ reads)) + length reads < mostCalls
+    → printedInCalls mostCalls roomForLines panel layoutFile told tells first reads
+    ≡ printed panel layoutFile (flatten (told ∷ tells)) (flatten (first ∷ reads))
+program-prints panel layoutFile told tells first reads few =
+    cut-print-same mostCalls roomForLines panel first reads (room-enough panel) few layoutFile told tells

@@ -2,6 +2,7 @@ pub mod Reading
 pub mod Numerals
 pub mod PanelText
 pub mod Shown
+pub mod Asked
 pub mod Framing
 pub mod Rest
 pub mod Turns

@@ -1,31 +1,41 @@
--- What is printed of a layout file and an event file: the opening, a line for each event of the file, answered as a run from the cold start, and what
--- ends the list; or the line of a refused layout.
+-- What is printed of a layout file, a file of fitted sections and an event file: the opening, a line for each event of the file, answered as a run from
+-- the cold start, and what ends the list; or the line of a refused layout, or of a fault in the file of fitted sections.
 use Prim.Native.Nat.{ℕ, zero, suc, _+_, _<_, _≤_}
-use mathlib.Core.Path.{_≡_, refl, sym, ap, _∙_}
-use mathlib.Core.Bool.{Bool, true}
+use mathlib.Core.Path.{_≡_, refl, sym, ap, ap₂, _∙_}
+use mathlib.Core.Bool.{Bool, true, false}
 use mathlib.Core.List.{List, [], _∷_, _++_, flatMap, append-assoc}
 use native.Mathlib.Omega.{arith}
 use native.Mathlib.Numerals.{add-one}
+use borrow.Author.Tests.{eqb-false}
+use lib.Dec.{eqb}
 use lib.ListN.{length, getD}
 use Rattle.laws.specs.Choice.{if_then_else_}
-use Rattle.laws.proofs.Choice.{if-lt, if-eq, if-ne}
+use Rattle.laws.specs.Tests.{_and_}
+use Rattle.laws.proofs.Choice.{if-lt, if-eq, if-ne, if-both}
+use Rattle.laws.proofs.Tests.{fails-from}
 use Rattle.layout.specs.declared.Layout.{Layout}
 use Rattle.layout.specs.Sound.{sound}
 use Rattle.layout.specs.Load.{load}
 use Rattle.layout_facts.proofs.Loaded.{loaded-sound}
+use Rattle.fitted.specs.declared.Fitting.{Fitting}
+use Rattle.fitted.specs.Numbers.{none, numbersFrom, fromPlace, numbersOf}
+use Rattle.fitted.specs.Fitted.{Among, equipped, fitBy, fit}
+use Rattle.fitted.specs.InUse.{InUse}
+use Rattle.fitted.proofs.Equipped.{equipped-none, equipped-sound}
+use Rattle.fitted.proofs.InUse.{in-use-sound}
 use Rattle.interlocking.specs.declared.State.{State}
 use Rattle.interlocking.specs.declared.Answer.{Answer}
 use Rattle.interlocking.specs.State.{cold, inRange}
-use Rattle.panel.specs.Panel.{image}
+use Rattle.panel.specs.Panel.{image, refused, answerWhere, answer}
 use Rattle.step_facts.specs.Run.{Event, event, box, answers, fromCold}
 use Rattle.step_facts.proofs.Range.{cold-in-range}
-use Rattle.step_facts.proofs.Step.{step-in-range}
+use Rattle.step_facts.proofs.Step.{step-in-range, unsound-18}
 use Rattle.step_facts.proofs.Run.{cold-run-in-range}
 use Rattle.event_file.specs.declared.Next.{Next}
 use Rattle.event_file.specs.declared.Next.the-variants.{Taken, Bad, Nothing}
 use Rattle.event_file.specs.Read.{eventAt}
-use Rattle.event_file.specs.Lines.{nextCount, shown, lineOf}
-use Rattle.event_file.specs.List.{layoutWord, header, faultLine, answerLine, listNext, listFrom, opening, printed}
+use Rattle.event_file.specs.Lines.{nextCount, shownBy, shown, lineOf}
+use Rattle.event_file.specs.List.{layoutWord, fittedWord, header, faultLine, answerLine, listNext, listFrom, opening, listOn, printedBy, printed, WellFitted}
 use Rattle.event_file.specs.Events.{eventsNext, eventsFrom, eventsOf, behindNext, behindFrom, behindEvents, endingBy, endingOf, ToldLine, linesOf, told, toldOf}
 use Rattle.event_file.proofs.Reading.{event-none}
 use Rattle.event_file.proofs.Onward.{Past, event-past, one-more}
@@ -85,11 +95,30 @@ module _ (L : Layout) (h : sound L ≡ true) where
       rw (shown-whole L (box L s e .next) h after)
       (ap (λ (ts : List ToldLine). told (image L) (follows n) (box L s e) ∷ ts) (told-whole follows (follows n) (box L s e .next) es after))
 
--- what is shown of a state in a run on an accepted layout is its panel image, whole
-pub run-shown-whole : (layoutFile : List ℕ) (es : List Event) → load layoutFile .number ≡ 0
-    → let L : Layout = load layoutFile .layout in shown L (fromCold L es) ≡ image L (fromCold L es)
-run-shown-whole layoutFile es h =
-    let L : Layout = load layoutFile .layout in shown-whole L (fromCold L es) (loaded-sound layoutFile h) (cold-run-in-range L es)
+-- what is shown of a state in a run on a layout in use is its panel image, whole
+pub run-shown-whole : {L : Layout} → InUse L → (es : List Event) → shown L (fromCold L es) ≡ image L (fromCold L es)
+run-shown-whole {L} u es = shown-whole L (fromCold L es) (in-use-sound u) (cold-run-in-range L es)
+
+-- ---- a layout that is not sound
+
+-- every event is refused
+abbrev unserved : State → Event → Answer
+unserved s e = record { number = 18; detail = 0; next = s }
+
+module _ (L : Layout) (h : sound L ≡ false) where
+  -- the panel shows nothing
+  shown-none : (s : State) → shown L s ≡ []
+  unfolding shown shownBy answer answerWhere refused _and_ if_then_else_
+  shown-none s = rw h
+
+  -- so it is of each line
+  told-none : (follows : ℕ → ℕ) (n : ℕ) (s : State) (es : List Event)
+      → toldOf follows (shown L) n (answers (box L) s es) ≡ toldOf follows (λ t. []) n (answers unserved s es)
+  unfolding answers told toldOf box _and_
+  told-none follows n s [] = refl
+  told-none follows n s (e ∷ es) =
+      rw (unsound-18 L s (e .kind) (e .first) (e .second) (rw h), shown-none s)
+      (ap (λ (ts : List ToldLine). told (λ t. []) (follows n) (unserved s e) ∷ ts) (told-none follows (follows n) s es))
 
 -- ---- the events' numbers
 
@@ -126,34 +155,78 @@ answers-length f s (e ∷ es) = ap suc (answers-length f (f s e .next) es)
 -- ---- all that is printed
 
 -- a refused layout prints its one line
-pub refused-prints : (panel : Bool) (layoutFile file : List ℕ) → (load layoutFile .number ≡ 0 → ⊥)
-    → printed panel layoutFile file ≡ faultLine layoutWord (load layoutFile .number) (load layoutFile .detail)
+pub refused-prints : (panel : Bool) (layoutFile fittedFile file : List ℕ) → (load layoutFile .number ≡ 0 → ⊥)
+    → printed panel layoutFile fittedFile file ≡ faultLine layoutWord (load layoutFile .number) (load layoutFile .detail)
 unfolding printed
-refused-prints panel layoutFile file h = sym (if-ne _ 0 _ _ _ h refl)
+refused-prints panel layoutFile fittedFile file h = sym (if-ne _ 0 _ _ _ h refl)
 
-module _ (panel : Bool) (layoutFile file : List ℕ) (h : load layoutFile .number ≡ 0) where
-  -- the accepted layout, and what is answered to the file's events from the cold start
+-- where no section is told as fitted, the list is that on the layout of the file
+pub nothing-fitted-prints : (panel : Bool) (layoutFile file : List ℕ)
+    → printed panel layoutFile [] file
+    ≡ if eqb (load layoutFile .number) 0 then listOn panel (load layoutFile .layout) file else faultLine layoutWord (load layoutFile .number) (load layoutFile .detail)
+unfolding printed printedBy fit fitBy numbersOf fromPlace numbersFrom none if_then_else_
+nothing-fitted-prints panel layoutFile file = rw (equipped-none layoutFile)
+
+module _ (panel : Bool) (layoutFile fittedFile file : List ℕ) (h : load layoutFile .number ≡ 0) where
+  -- the answer to the file of fitted sections, the layout with them, and what is answered to the file's events from the cold start
+  abbrev fitting : Fitting
+  fitting = fit (load layoutFile .layout) fittedFile
+
   abbrev L : Layout
-  L = load layoutFile .layout
+  L = fitting .layout
 
   abbrev answered : List Answer
   answered = answers (box L) cold (eventsOf file)
 
-  -- the opening with a panel shows the cold start's image, whole
-  pub opening-whole : opening panel L ≡ if panel then lineOf panel (image L cold) 0 0 0 else header
+  -- L1, a fault in the file of fitted sections prints its one line
+  pub misfit-prints : (fitting .number ≡ 0 → ⊥) → printed panel layoutFile fittedFile file ≡ faultLine fittedWord (fitting .number) (fitting .detail)
+  unfolding printed printedBy
+  misfit-prints d = sym (if-eq _ 0 _ _ _ h refl) ∙ sym (if-ne _ 0 _ _ _ d refl)
+
+  -- else the opening, the line of each event, and what ends the list
+  list-prints : fitting .number ≡ 0 → printed panel layoutFile fittedFile file ≡ opening panel L ++ (linesOf panel (toldOf nextCount (shown L) 0 answered) ++ endingOf file)
+  unfolding printed printedBy listOn
+  list-prints k = sym (if-eq _ 0 _ _ _ h (if-eq _ 0 _ _ _ k refl)) ∙ ap (λ xs. opening panel L ++ xs) (file-lines file (box L) panel (shown L) cold 0)
+
+  -- the layout is the loaded one with the sections that the file tells
+  told-layout : fitting .number ≡ 0 → equipped (numbersOf fittedFile .list) (load layoutFile .layout) ≡ L
+  unfolding fit fitBy
+  told-layout k = if-both (λ (r : Fitting). r .number ≡ 0 → equipped (numbersOf fittedFile .list) (load layoutFile .layout) ≡ r .layout) (eqb (numbersOf fittedFile .fault) 0)
+      (λ t z. refl) (λ t z. absurd (eqb-false _ 0 t z)) k
+
+  -- ---- each section told is there
+
+  module _ (w : WellFitted (load layoutFile .layout) fittedFile) where
+    -- so the layout is one in use
+    pub fitted-in-use : InUse L
+    fitted-in-use = record { file = layoutFile; told = numbersOf fittedFile .list; done = h; there = w .there; its = told-layout (w .whole) }
+
+    -- the opening with a panel shows the cold start's image, whole
+    pub opening-whole : opening panel L ≡ if panel then lineOf panel (image L cold) 0 0 0 else header
+    unfolding opening
+    opening-whole = rw (shown-whole L cold (in-use-sound fitted-in-use) cold-in-range)
+
+    -- the opening, the line of each event with the whole panel, and what ends the list
+    pub accepted-prints : printed panel layoutFile fittedFile file ≡ opening panel L ++ (linesOf panel (toldOf nextCount (image L) 0 answered) ++ endingOf file)
+    accepted-prints =
+        list-prints (w .whole) ∙ ap (λ (ts : List ToldLine). opening panel L ++ (linesOf panel ts ++ endingOf file))
+        (told-whole L (in-use-sound fitted-in-use) nextCount 0 cold (eventsOf file) cold-in-range)
+
+    -- of a file shorter than 2 to the 64th bytes, the line of the n-th event has the number n
+    pub short-prints : length file < 18446744073709551616
+        → printed panel layoutFile fittedFile file ≡ opening panel L ++ (linesOf panel (toldOf suc (image L) 0 answered) ++ endingOf file)
+    short-prints few =
+        let fewer : 0 + length answered ≤ 18446744073709551615 = omega (arith, answers-length (box L) cold (eventsOf file), events-few file) in
+        accepted-prints ∙ ap (λ (ts : List ToldLine). opening panel L ++ (linesOf panel ts ++ endingOf file)) (told-short (image L) 0 answered fewer)
+
+  -- ---- a section is told that the layout lacks
+
+  -- L1, every event is refused by 18, and no panel has a byte
+  pub lacking-prints : fitting .number ≡ 0 → (g : ℕ) → Among (numbersOf fittedFile .list) g → load layoutFile .layout .sections ≤ g
+      → printed panel layoutFile fittedFile file
+      ≡ (if panel then lineOf panel [] 0 0 0 else header) ++ (linesOf panel (toldOf nextCount (λ s. []) 0 (answers unserved cold (eventsOf file))) ++ endingOf file)
   unfolding opening
-  opening-whole = rw (shown-whole L cold (loaded-sound layoutFile h) cold-in-range)
-
-  -- the opening, the line of each event with the whole panel, and what ends the list
-  pub accepted-prints : printed panel layoutFile file ≡ opening panel L ++ (linesOf panel (toldOf nextCount (image L) 0 answered) ++ endingOf file)
-  unfolding printed
-  accepted-prints =
-      sym (if-eq _ 0 _ _ _ h refl) ∙ ap (λ xs. opening panel L ++ xs) (file-lines file (box L) panel (shown L) cold 0
-      ∙ ap (λ (ts : List ToldLine). linesOf panel ts ++ endingOf file) (told-whole L (loaded-sound layoutFile h) nextCount 0 cold (eventsOf file) cold-in-range))
-
-  -- of a file shorter than 2 to the 64th bytes, the line of the n-th event has the number n
-  pub short-prints : length file < 18446744073709551616
-      → printed panel layoutFile file ≡ opening panel L ++ (linesOf panel (toldOf suc (image L) 0 answered) ++ endingOf file)
-  short-prints few =
-      let fewer : 0 + length answered ≤ 18446744073709551615 = omega (arith, answers-length (box L) cold (eventsOf file), events-few file) in
-      accepted-prints ∙ ap (λ (ts : List ToldLine). opening panel L ++ (linesOf panel ts ++ endingOf file)) (told-short (image L) 0 answered fewer)
+  lacking-prints k g a past =
+      let none : sound L ≡ false = rw (← told-layout k) (fails-from _ (λ e. let b = equipped-sound (load layoutFile .layout) (numbersOf fittedFile .list) (loaded-sound layoutFile h) .0 e g a in omega arith)) in
+      list-prints k ∙ ap₂ (λ (xs : List ℕ) (ts : List ToldLine). (if panel then lineOf panel xs 0 0 0 else header) ++ (linesOf panel ts ++ endingOf file)) (shown-none L none cold)
+      (told-none L none nextCount 0 cold (eventsOf file))

@@ -29,7 +29,6 @@ use Rattle.event_file.specs.Run.{Run, stopped, took, nextOf, turnOf, aft
 use Rattle.numerals.specs.Writes.{Put}
 use Rattle.event_file.proofs.Next.{the-type}
 use Rattle.numerals.proofs.Writes.{put-then, put-within}
-use Rattle.event_file.proofs.Reading.{next-same}
 use Rattle.event_file.proofs.Onward.{Past, event-past}
 
 -- ---- why a run ends
@@ -262,4 +261,4 @@ module _ (f : State → Event → Answer) (panel : Bool) (show : State → List 
               text = put-within (length b - written) (omega (arith, d)) (went .text);
             }))
 
-pub ruleset runs = (needs, next-same, run-start, run-within, run-full, run-halted, run-done)
+pub ruleset runs = (needs, run-start, run-within)

@@ -11,6 +11,7 @@ use Rattle.event_file.proofs.Reading.{next-same}
 use Rattle.event_file.proofs.next_event.Reads as next-event
 use Rattle.event_file.proofs.frame.opening_line.Reads as opening-line
 use Rattle.event_file.proofs.frame.layout_fault.Reads as layout-fault
+use Rattle.event_file.proofs.frame.fitted_fault.Reads as fitted-fault
 use Rattle.event_file.proofs.frame.events_fault.Reads as events-fault
 use Rattle.event_file.proofs.pieces.bring_rest.Reads as bring-rest
 use Rattle.event_file.proofs.pieces.run_piece.Reads as run-piece
@@ -26,6 +27,10 @@ opening-line-determined κs a r q s t p o = (only (p .place) (o .place), only (p
 -- the line of a layout file's answer
 pub layout-fault-determined : DeterminesBytes (λ κs s. now (s .1 .1 .0)) layout-fault.Post
 layout-fault-determined κs a r q s t p o = (only (p .place) (o .place), only (p .buffer) (o .buffer))
+
+-- the line of a fault in a file of fitted sections
+pub fitted-fault-determined : DeterminesBytes (λ κs s. now (s .1 .1 .0)) fitted-fault.Post
+fitted-fault-determined κs a r q s t p o = (only (p .place) (o .place), only (p .buffer) (o .buffer))
 
 -- the line of a fault in an event file
 pub events-fault-determined : DeterminesBytes (λ κs s. now (s .1 .1 .0)) events-fault.Post

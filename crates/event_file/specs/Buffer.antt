@@ -6,15 +6,18 @@ use mathlib.Core.List.{List, [], _∷_, _++_}
 use lib.ListN.{drop}
 use lib.Dec.{eqb, ltb}
 use Rattle.laws.specs.Choice.{if_then_else_}
+use Rattle.layout.specs.declared.Layout.{Layout}
 use Rattle.layout.specs.declared.Loaded.{Loaded}
 use Rattle.layout.specs.Load.{load}
+use Rattle.fitted.specs.declared.Fitting.{Fitting}
+use Rattle.fitted.specs.Pieces.{fitInReads}
 use Rattle.interlocking.specs.declared.State.{State}
 use Rattle.interlocking.specs.declared.Answer.{Answer}
 use Rattle.interlocking.specs.State.{cold}
 use Rattle.step_facts.specs.Run.{Event, boxInRun}
 use Rattle.event_file.specs.Lines.{shownInRun}
 use Rattle.event_file.specs.Run.{Run, pieceOf}
-use Rattle.event_file.specs.List.{layoutWord, eventsWord, faultIn, openingIn}
+use Rattle.event_file.specs.List.{layoutWord, fittedWord, eventsWord, faultIn, openingIn}
 
 -- the bytes of the buffer that lines are written into, and the most calls: more than any file uses up
 abbrev pub roomForLines : ℕ
@@ -52,10 +55,19 @@ listInCalls (suc calls) f panel show room bytes reads before s n at =
     let g : Run = pieceOf f panel show (isLast reads) bytes room s n at in
     g .text ++ goOn room (listInCalls calls f panel show room) bytes reads before g
 
--- all that the program prints of a layout file and the reads of an event file, the first and those after it
-unfoldable pub printedInCalls : ℕ → ℕ → Bool → List ℕ → List ℕ → List (List ℕ) → List ℕ
-printedInCalls calls room panel layoutFile first reads =
+-- the list on a layout, from the first read of the event file on
+unfoldable pub listOnInCalls : ℕ → ℕ → Bool → Layout → List ℕ → List (List ℕ) → List ℕ
+listOnInCalls calls room panel L first reads =
+    openingIn room panel L ++ listInCalls calls (boxInRun L) panel (shownInRun L) room first reads 0 cold 0 0
+
+-- L1, by the answer to a file of fitted sections
+unfoldable pub printedByInCalls : ℕ → ℕ → Bool → Fitting → List ℕ → List (List ℕ) → List ℕ
+printedByInCalls calls room panel r first reads =
+    if eqb (r .number) 0 then listOnInCalls calls room panel (r .layout) first reads else faultIn room fittedWord (r .number) (r .detail)
+
+-- all that the program prints of a layout file and the reads of the other two, of each the first and those after it
+unfoldable pub printedInCalls : ℕ → ℕ → Bool → List ℕ → List ℕ → List (List ℕ) → List ℕ → List (List ℕ) → List ℕ
+printedInCalls calls room panel layoutFile told tells first reads =
     let loaded : Loaded = load layoutFile in
-    if eqb (loaded .number) 0 then
-    openingIn room panel (loaded .layout) ++ listInCalls calls (boxInRun (loaded .layout)) panel (shownInRun (loaded .layout)) room first reads 0 cold 0 0
+    if eqb (loaded .number) 0 then printedByInCalls calls room panel (fitInReads (loaded .layout) told tells) first reads
     else faultIn room layoutWord (loaded .number) (loaded .detail)

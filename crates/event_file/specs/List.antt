@@ -1,5 +1,6 @@
--- What the event program prints of a layout file and an event file (section 8), as one list of bytes.
-use Prim.Native.Nat.{ℕ, zero, suc}
+-- What the event program prints of a layout file, a file of fitted sections (L1) and an event file (section 8), as one list of bytes.
+use Prim.Native.Nat.{ℕ, zero, suc, _<_}
+use mathlib.Core.Path.{_≡_}
 use mathlib.Core.Bool.{Bool}
 use mathlib.Core.List.{List, [], _∷_, _++_}
 use lib.ListN.{length}
@@ -10,6 +11,9 @@ use Rattle.numerals.specs.Words.{ascii}
 use Rattle.layout.specs.declared.Layout.{Layout}
 use Rattle.layout.specs.declared.Loaded.{Loaded}
 use Rattle.layout.specs.Load.{load}
+use Rattle.fitted.specs.declared.Fitting.{Fitting}
+use Rattle.fitted.specs.Numbers.{numbersOf}
+use Rattle.fitted.specs.Fitted.{Among, fit}
 use Rattle.interlocking.specs.declared.State.{State}
 use Rattle.interlocking.specs.declared.Answer.{Answer}
 use Rattle.interlocking.specs.State.{cold}
@@ -22,6 +26,10 @@ use Rattle.event_file.specs.Lines.{twoNumbers, lineEnd, nextCount, shown
 -- what begins the line of a layout file's answer
 unfoldable pub layoutWord : List ℕ
 layoutWord = ascii "layout "
+
+-- what begins the line of a fault in a file of fitted sections (L1)
+unfoldable pub fittedWord : List ℕ
+fittedWord = ascii "fitted "
 
 -- what begins the line of a fault in an event file
 unfoldable pub eventsWord : List ℕ
@@ -68,10 +76,22 @@ faultIn room word number detail = fitting room 0 mostFault (faultLine word numbe
 abbrev pub openingIn : ℕ → Bool → Layout → List ℕ
 openingIn room panel L = fitting room 0 (mostLine panel) (opening panel L)
 
--- all that is printed; a file has no more events than bytes, and one more place to end at
-unfoldable pub printed : Bool → List ℕ → List ℕ → List ℕ
-printed panel layoutFile file =
+-- the list on a layout; a file has no more events than bytes, and one more place to end at
+unfoldable pub listOn : Bool → Layout → List ℕ → List ℕ
+listOn panel L file = opening panel L ++ listFrom (suc (length file)) (box L) panel (shown L) file cold 0 0
+
+-- L1, by the answer to a file of fitted sections: the list on the layout with them, or only the line of that file's fault
+unfoldable pub printedBy : Bool → Fitting → List ℕ → List ℕ
+printedBy panel r file = if eqb (r .number) 0 then listOn panel (r .layout) file else faultLine fittedWord (r .number) (r .detail)
+
+-- all that is printed; the file of fitted sections has no bytes where none is told
+unfoldable pub printed : Bool → List ℕ → List ℕ → List ℕ → List ℕ
+printed panel layoutFile fittedFile file =
     let loaded : Loaded = load layoutFile in
-    if eqb (loaded .number) 0 then
-    opening panel (loaded .layout) ++ listFrom (suc (length file)) (box (loaded .layout)) panel (shown (loaded .layout)) file cold 0 0
+    if eqb (loaded .number) 0 then printedBy panel (fit (loaded .layout) fittedFile) file
     else faultLine layoutWord (loaded .number) (loaded .detail)
+
+-- L1, a file of fitted sections is whole, and the layout has each section that it tells
+pub record WellFitted (L : Layout) (fittedFile : List ℕ) : Type 0 where
+  pub whole : fit L fittedFile .number ≡ 0
+  pub there : (g : ℕ) → Among (numbersOf fittedFile .list) g → g < L .sections

@@ -9,7 +9,7 @@ ghost use Prim.Native.Nat.{_≤_};
 ghost use lib.ListN.{length};
 ghost use Rattle.interlocking.specs.State.{cold};
 ghost use Rattle.event_file.specs.Lines.{shown, lineOf, mostLine};
-ghost use Rattle.event_file.specs.List.{layoutWord, eventsWord, header, faultLine, mostFault, faultIn, openingIn};
+ghost use Rattle.event_file.specs.List.{layoutWord, fittedWord, eventsWord, header, faultLine, mostFault, faultIn, openingIn};
 ghost use Rattle.numerals.specs.Writes.{Put};
 
 // The header.
@@ -63,6 +63,16 @@ pub fn layout_fault(number: u64, detail: u64, out: &mut [u8]) -> usize
         return 0;
     }
     put_fault(b"layout ", number, detail, out)
+}
+
+// The line of a fault in a file of fitted sections (request L1), where the buffer has room for it.
+pub fn fitted_fault(number: u64, place: u64, out: &mut [u8]) -> usize
+    ensures { λ r. ⌜ Put (now (out .entry)) 0 (faultIn (length (now (out .entry))) fittedWord number place) mostFault (now (out .exit)) r ⌝ }
+{
+    if out.len() < 49 {
+        return 0;
+    }
+    put_fault(b"fitted ", number, place, out)
 }
 
 // The line of a fault in an event file, where the buffer has room for it.

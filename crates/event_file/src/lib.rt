@@ -4,6 +4,7 @@ mod lines;
 mod pieces;
 
 pub use frame::events_fault;
+pub use frame::fitted_fault;
 pub use frame::layout_fault;
 pub use frame::opening_line;
 use numbers::Number;

@@ -30,25 +30,30 @@ Inv-loop panel layout count₀ bytes at₀ last out₀ core₀ axles₀ written�
 abbrev μ-loop : tie.MeasureT-loop
 μ-loop panel layout count₀ bytes at₀ last out₀ core₀ axles₀ written₀ turn₀ count at out core axles written turn = turns - turn
 
--- no turn is made yet
+-- no turn is made yet, and the table of heads is as long as its array
 loop-holds : tie.Need-loop-holds Inv-loop μ-loop
-loop-holds c = (omega arith, search (needs, length-mapped, c .before .before .before .before .good .1 .1 .0 .1 .1 .1 .1 .1 .1 .1 .1 .1 .1 .1 .0), search runs)
+loop-holds c =
+    let start = c .before .before .before .before in
+    (omega arith, search (needs, length-mapped, start .good .1 .1 .0 .1 .1 .1 .1 .1 .1 .1 .1 .1 .1 .1 .0), search runs)
 
 -- no room for another line
 full : tie.Need-returns Inv-loop μ-loop
 full c =
-    let turn = c .before .before .before .before .before .before in
+    let asked = c .before .before .before in
+    let turn = asked .before .before .before in
     from-parts _ _ _ _ _ _ _ _ _ _ _ _ _ (turn .before .before .core-of .ensures)
-    (run-full _ _ _ _ _ _ _ _ _ _ _ _ _ _ _ (turn .loop .inv .2) (c .before .before .before .before .before .loop-test .taken) _ (c .before .before .before .before .most-line .ensures) _ _ (c .before .before .before .if1 .taken)
+    (run-full _ _ _ _ _ _ _ _ _ _ _ _ _ _ _ (turn .loop .inv .2) (asked .before .before .loop-test .taken) _ (asked .before .most-line .ensures) _ _ (asked .if1 .taken)
     (so-far-whole _ _ _ _ _ _ (c .before .before .whole .ensures) (c .before .so-far .ensures)) (c .halt .ensures))
 
 -- no event stands at the next place
 halted : tie.Need-returns-2 Inv-loop μ-loop
 halted c =
-    let turn = c .before .before .before .before .before .before .before .before in
+    let found = c .before .before .before .before in
+    let asked = found .before in
+    let turn = asked .before .before .before in
     from-parts _ _ _ _ _ _ _ _ _ _ _ _ _ (turn .before .before .core-of .ensures)
-    (run-halted _ _ _ _ _ _ _ _ _ _ _ _ _ _ _ (turn .loop .inv .2) (c .before .before .before .before .before .before .before .loop-test .taken) _ (c .before .before .before .before .before .before .most-line .ensures) _ (c .before .before .before .before .before .if1 .left)
-    (next-same _ _ (c .before .before .before .before .next-event .ensures)) _ _ (search needs)
+    (run-halted _ _ _ _ _ _ _ _ _ _ _ _ _ _ _ (turn .loop .inv .2) (asked .before .before .loop-test .taken) _ (asked .before .most-line .ensures) _ (asked .if1 .left)
+    (next-same _ _ (found .next-event .ensures)) _ _ (search needs)
     (so-far-whole _ _ _ _ _ _ (c .before .before .whole2 .ensures) (c .before .so-far2 .ensures)) (c .halt-by .ensures))
 
 -- all turns are made
@@ -56,8 +61,8 @@ done : tie.Need-returns-3 Inv-loop μ-loop
 done c =
     let turn = c .before .before .before in
     from-parts _ _ _ _ _ _ _ _ _ _ _ _ _ (turn .before .before .core-of .ensures)
-    (run-done _ _ _ _ _ _ _ _ _ _ _ _ _ (turn .loop .inv .2)
-    (so-far-whole _ _ _ _ _ _ (c .before .whole3 .ensures) (c .so-far3 .ensures)) (turn .loop .inv .0) (omega (arith, c .before .before .loop-test .left)))
+    (run-done _ _ _ _ _ _ _ _ _ _ _ _ _ (turn .loop .inv .2) (so-far-whole _ _ _ _ _ _ (c .before .whole3 .ensures) (c .so-far3 .ensures)) (turn .loop .inv .0)
+    (omega (arith, c .before .before .loop-test .left)))
 
 -- a line that has room, with the panel
 put-panel-line-requires : tie.Need-put-panel-line-requires Inv-loop μ-loop
@@ -71,20 +76,20 @@ put-line-requires c κs =
     let asked = c .before .before .before .before .before .before .before .before .before .before .before .before in
     omega (arith, asked .if1 .left, asked .before .most-line .ensures, most-plain _ (c .before .if2 .left))
 
--- the event that stands there is answered, and its line is written, with the panel or without
+-- the event that stands there is answered, the heads that it leaves are stored, and its line is written, with the panel or without
 loop-again : tie.Need-loop-again Inv-loop μ-loop
 unfolding together
 loop-again c =
-    let counted = c .before in
-    let named = c .before .before .before .before .before .before in
-    let asked = c .before .before .before .before .before .before .before .before .before .before in
-    let turn = c .before .before .before .before .before .before .before .before .before .before .before .before .before .before in
-    let less = c .before .before .before .before .before .before .before .before .before .before .before .before .before .loop-test .taken in (
+    let answered = c .before .before .before .before in
+    let named = answered .before .before in
+    let found = named .before .before .before .before in
+    let turn = found .before .before .before .before in
+    let less = found .before .before .before .loop-test .taken in (
       omega (arith, less),
-      length-set (turn .loop .axles) (named .head-place .result) (c .before .before .before .before .step-in-run .result .heads) ∙ turn .loop .inv .1,
-      run-taken _ _ _ _ _ _ _ _ _ _ _ _ _ _ _ (turn .loop .inv .2) less _ (asked .before .before .most-line .ensures) _ (asked .before .if1 .left)
-          (next-same _ _ (asked .next-event .ensures)) _ _ _ _ _ _ _ _ (search needs)
-          (run-together _ _ _ _ _ _ _ _ _ _ (turn .loop .inv .1) (named .head-place .ensures) refl (c .before .before .before .before .step-in-run .ensures)) (counted .next-count .ensures)
+      length-set (turn .loop .axles) (named .head-place .result) (answered .step-in-run .result .heads) ∙ turn .loop .inv .1,
+      run-taken _ _ _ _ _ _ _ _ _ _ _ _ _ _ _ (turn .loop .inv .2) less _ (found .before .before .most-line .ensures) _ (found .before .if1 .left)
+          (next-same _ _ (found .next-event .ensures)) _ _ _ _ _ _ _ _ (search needs)
+          (run-together _ _ _ _ _ _ _ _ _ _ (turn .loop .inv .1) (named .head-place .ensures) refl (answered .step-in-run .ensures)) (c .before .next-count .ensures)
           (⊎-elim (λ w. line-panel _ _ _ _ _ _ _ _ _ _ _ (w .0 .taken) (w .5) (w .6) (line-of-whole _ _ _ _ _ _ _ _ _ _ (w .2 .ensures)))
           (λ w. line-plain _ _ _ _ _ _ _ _ _ _ _ (w .0 .left) (w .5) (w .6) (w .2 .ensures)) (c .if2 .came)),
     )
