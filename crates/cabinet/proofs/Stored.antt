@@ -4,7 +4,7 @@
 -- The file's slice is Copy: what it owns is had twice. One copy goes to the callee beside the lifetime's token, which comes back, and one is kept for the exit.
 -- All that the proof knows of the callee is that it meets its contract. No field of the layout or of the state is named.
 -- Assumes nothing.
-use mathlib.Core.Path.{_≡_, refl, ap, _∙_}
+use mathlib.Core.Path.{_≡_, refl, sym, ap, subst, _∙_}
 use Prim.Native.Nat.{ℕ}
 use mathlib.Core.List.{[], _∷_, List}
 use lib.ListN.{length}
@@ -119,7 +119,7 @@ pub record Fits (asked : List ℕ → Call) (gives : Answers) : Type 0 where
 
 module _ {M : Type 1} (𝓤 : URA M) where
   -- what an entry promises: the reply is what the call tells, and the records are those that it leaves
-  abbrev stores : (List ℕ → Call) → Clauses 𝓤 entry.ended
+  abbrev pub stores : (List ℕ → Call) → Clauses 𝓤 entry.ended
   stores asked κs a = record {
     ghost = Unit {0};
     requires = λ g. emp 𝓤;
@@ -268,8 +268,10 @@ module _ {asked : List ℕ → Call} {gives : Answers} (fits : Fits asked gives)
   goes : AllGo 𝓤 H A W 3 (entry.signature .params) (entry.ended .kept) stayed
   goes = (goes-ref 𝓤 H A W 3 0 tt (plain (λ _. S.the-row)), (goes-ref 𝓤 H A W 3 1 tt (plain (λ _. L.the-row)), (goes-none-slice 𝓤 H A W 3 (2 ∷ []) tt (plain (λ _. u8)) yes, tt)))
 
-  -- so the code meets the contract wherever the function that it calls meets its own
-  pub stored-meets : (𝓣 : Tables 𝓤 H) → Triple 𝓤 (𝓣 .C f) (Over 𝓤 H A gives)
-      → Meets 𝓤 H A entry.signature (WpFn 𝓤 H (𝓣 .C) (𝓣 .Λ) (storing f)) (closing 𝓤 H A entry.ended (stores 𝓤 asked))
-  stored-meets 𝓣 known = walk-meets 𝓤 H A entry.ended stayed W goes (stores 𝓤 asked) (WpFn 𝓤 H (𝓣 .C) (𝓣 .Λ) (storing f)) (WpFn-mono 𝓤 H (W .laws) 𝓣 (storing f))
-      (stored-walks (𝓣 .C) (𝓣 .Λ) (fmOf 𝓤 H (W .laws) 𝓣) known)
+  -- so the code meets the contract, where that is what the call tells and leaves and the function that it calls meets its own
+  pub stored-meets : (c : Clauses 𝓤 entry.ended) → c ≡ stores 𝓤 asked → (𝓣 : Tables 𝓤 H) → Triple 𝓤 (𝓣 .C f) (Over 𝓤 H A gives)
+      → Meets 𝓤 H A entry.signature (WpFn 𝓤 H (𝓣 .C) (𝓣 .Λ) (storing f)) (closing 𝓤 H A entry.ended c)
+  stored-meets c same 𝓣 known =
+      subst (λ (p : Clauses 𝓤 entry.ended). Meets 𝓤 H A entry.signature (WpFn 𝓤 H (𝓣 .C) (𝓣 .Λ) (storing f)) (closing 𝓤 H A entry.ended p)) (sym same)
+      (walk-meets 𝓤 H A entry.ended stayed W goes (stores 𝓤 asked) (WpFn 𝓤 H (𝓣 .C) (𝓣 .Λ) (storing f)) (WpFn-mono 𝓤 H (W .laws) 𝓣 (storing f))
+      (stored-walks (𝓣 .C) (𝓣 .Λ) (fmOf 𝓤 H (W .laws) 𝓣) known))
