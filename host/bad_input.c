@@ -47,20 +47,35 @@ static void power_on(void) {
     EXPECT(kept_beside());
 }
 
-/* A file that is refused so: both records keep every byte. */
-static void refused(const uint8_t *bytes, size_t length, uint8_t number, size_t detail) {
+/* One of the two calls that take a file. Where it is accepted the state starts anew; where it is refused both records keep every byte. */
+typedef struct hiruketawha_load_reply takes(struct hiruketawha_state *, struct hiruketawha_layout *, const uint8_t *, size_t);
+
+static struct hiruketawha_load_reply give(takes *call, const uint8_t *bytes, size_t length) {
     struct hiruketawha_layout on = *layout;
     struct hiruketawha_state before = *state;
-    struct hiruketawha_load_reply reply = hiruketawha_load(state, layout, bytes, length);
-    EXPECT(reply.number == number && reply.detail == detail);
-    EXPECT(memcmp(layout, &on, sizeof on) == 0 && memcmp(state, &before, sizeof before) == 0 && kept_beside());
+    struct hiruketawha_load_reply reply = call(state, layout, bytes, length);
+    EXPECT(kept_beside());
+    if (reply.number == 0) EXPECT(reply.detail == 0 && memcmp(state, &cold, sizeof cold) == 0);
+    else EXPECT(memcmp(layout, &on, sizeof on) == 0 && memcmp(state, &before, sizeof before) == 0);
+    return reply;
 }
 
-/* A file that is accepted: the state starts anew. */
-static void accepted(const uint8_t *bytes, size_t length) {
-    struct hiruketawha_load_reply reply = hiruketawha_load(state, layout, bytes, length);
-    EXPECT(reply.number == 0 && reply.detail == 0);
-    EXPECT(memcmp(state, &cold, sizeof cold) == 0 && kept_beside());
+/* A layout file that is refused so. */
+static void refused(const uint8_t *bytes, size_t length, uint8_t number, size_t detail) {
+    struct hiruketawha_load_reply reply = give(hiruketawha_load, bytes, length);
+    EXPECT(reply.number == number && reply.detail == detail);
+}
+
+/* One that is accepted. */
+static void accepted(const uint8_t *bytes, size_t length) { EXPECT(give(hiruketawha_load, bytes, length).number == 0); }
+
+/* Sections that are told as fitted, right before a page that may not be touched. */
+static struct hiruketawha_load_reply told(const uint8_t *bytes, size_t length) {
+    uint8_t *file = before_a_wall(length);
+    memcpy(file, bytes, length);
+    struct hiruketawha_load_reply reply = give(hiruketawha_fit, file, length);
+    EXPECT(munmap(file + length - PAGE, 2 * PAGE) == 0);
+    return reply;
 }
 
 /* Cut files, each beginning of branch T; none at all; one with a byte too many; one of another version. P8 is the cut at 48. */
@@ -82,12 +97,12 @@ static void test_files(void) {
     refused(without_end, 3, HIRUKETAWHA_BAD_NUMBER, 0);
 }
 
-/* An event: 0 to 18; a refusal leaves the state as it was; the layout stays. */
+/* An event: one of its numbers; a refusal leaves the state as it was; the layout stays. */
 static uint8_t answer(uint32_t kind, uint32_t first, uint32_t second) {
     struct hiruketawha_layout on = *layout;
     struct hiruketawha_state before = *state;
     struct hiruketawha_reply reply = hiruketawha_event(state, layout, kind, first, second);
-    EXPECT(reply.number <= 18 && memcmp(layout, &on, sizeof on) == 0 && kept_beside());
+    EXPECT(OF_EVENT(reply.number) && memcmp(layout, &on, sizeof on) == 0 && kept_beside());
     EXPECT(reply.number == 0 || memcmp(state, &before, sizeof before) == 0);
     return reply.number;
 }
@@ -112,17 +127,28 @@ static void test_second_file(void) {
     accepted(branch_t, sizeof branch_t);
 }
 
-/* Numbers of any size, on branch T: kinds past 10 and objects that there aren't are refused so. */
+/* An event of axle counters with a fitted section or none, by its numbers. */
+static void expect_heads(uint32_t kind, uint32_t first, uint32_t second, uint8_t number) {
+    if (first >= (kind == HIRUKETAWHA_RESET_AXLES ? 4 : 8)) EXPECT(number == HIRUKETAWHA_NO_SUCH_OBJECT);
+    else if (!layout->fitted[kind == HIRUKETAWHA_RESET_AXLES ? first : first / 2]) EXPECT(number == HIRUKETAWHA_NO_HEADS);
+    else if (second > (kind < HIRUKETAWHA_HEAD_SILENT ? 65535 : 0)) EXPECT(number == HIRUKETAWHA_SECOND_WRONG);
+    else EXPECT(number == 0 || (kind == HIRUKETAWHA_RESET_AXLES && number == HIRUKETAWHA_RESET_SILENT));
+}
+
+/* Numbers of any size, on branch T: kinds past 14 and objects that there aren't are refused so. */
 static void test_numbers(void) {
-    static const uint32_t any[] = {0,   1,   2,   3,   4,     7,     8,     10,         11,         47,         48,         63,         64,
-                                   127, 128, 255, 256, 257, 65535, 65536, 65537, 0x7FFFFFFF, 0x80000000, 0x80000001, 0xFFFFFFFF};
+    static const uint32_t any[] = {0,  1,  2,   3,   4,   7,   8,   10,    11,    12,    13,         14,         15,         47,
+                                   48, 63, 64,  127, 128, 255, 256, 257,   65535, 65536, 65537,      0x7FFFFFFF, 0x80000000, 0x80000001,
+                                   0xFFFFFFFF};
     enum { MANY = sizeof any / sizeof any[0] };
     for (int k = 0; k < MANY; k++)
         for (int i = 0; i < MANY; i++)
             for (int j = 0; j < MANY; j++) {
                 uint8_t number = answer(any[k], any[i], any[j]);
-                if (any[k] == 0 || any[k] > 10) EXPECT(number == HIRUKETAWHA_UNKNOWN_KIND);
+                if (any[k] == 0 || any[k] > 14) EXPECT(number == HIRUKETAWHA_UNKNOWN_KIND);
+                else if (any[k] > 10) expect_heads(any[k], any[i], any[j], number);
                 else if (any[k] < 10 && any[i] > 3) EXPECT(number == HIRUKETAWHA_NO_SUCH_OBJECT);
+                else if (any[k] == 1) EXPECT(number == (layout->fitted[any[i]] ? HIRUKETAWHA_HAS_HEADS : 0));
                 else if (any[k] > 2 && any[k] < 10 && any[j] > 3)
                     EXPECT(number == HIRUKETAWHA_SECOND_WRONG || number == HIRUKETAWHA_NO_SUCH_OBJECT);
             }
@@ -145,13 +171,46 @@ static void test_buffers(void) {
 
 /* A record that isn't sound: every event and every panel gets 18, whatever the buffer. */
 static void unsound(void) {
-    for (uint32_t kind = 0; kind <= 11; kind++) EXPECT(answer(kind, random_byte() % 4, random_byte() % 4) == HIRUKETAWHA_NOT_SOUND);
+    for (uint32_t kind = 0; kind <= 15; kind++) EXPECT(answer(kind, random_byte() % 4, random_byte() % 4) == HIRUKETAWHA_NOT_SOUND);
     uint8_t image[512];
     memset(image, UNTOUCHED, sizeof image);
     struct hiruketawha_drawn drawn = hiruketawha_panel(state, layout, image, sizeof image);
     struct hiruketawha_drawn none = hiruketawha_panel(state, layout, NULL, 0);
     EXPECT(drawn.number == HIRUKETAWHA_NOT_SOUND && drawn.length == 0 && none.number == HIRUKETAWHA_NOT_SOUND && none.length == 0);
     for (size_t i = 0; i < sizeof image; i++) EXPECT(image[i] == UNTOUCHED);
+}
+
+/* Fitted sections, on branch T: files that end inside a number, numbers that are badly formed, any bytes; a section told twice; none; ones that
+ * there are not. A refused file leaves those that were told. */
+static void test_fit(void) {
+    static const struct {
+        uint8_t bytes[4], length, number, detail;
+    } bad[] = {{{0x80}, 1, 21, 0},          {{1, 0x80}, 2, 21, 1},       {{1, 3, 0xFF, 0xFF}, 4, 21, 2}, {{1, 0x80, 0}, 3, 22, 1},
+               {{0xFF, 0xFF, 4}, 3, 22, 0}, {{0xFF, 0xFF, 0xFF}, 3, 22, 0}, {{0x80, 0x80, 0}, 3, 22, 0}};
+    EXPECT(told((uint8_t[]){3, 1, 3}, 3).number == 0 && layout->fitted[1] && layout->fitted[3] && !layout->fitted[0]);
+    EXPECT(answer(HIRUKETAWHA_AXLES_IN, 2, 1) == 0 && answer(HIRUKETAWHA_READ_POINT, 0, 1) == 0);
+    for (size_t i = 0; i < sizeof bad / sizeof bad[0]; i++) {
+        struct hiruketawha_load_reply reply = told(bad[i].bytes, bad[i].length);
+        EXPECT(reply.number == bad[i].number && reply.detail == bad[i].detail);
+    }
+    EXPECT(state->axles[1].head0.hasin == 1 && state->point[0] == 1);
+    test_numbers();
+    for (int i = 0; i < 2000; i++) {
+        uint8_t bytes[40];
+        size_t length = random_byte() % sizeof bytes;
+        for (size_t j = 0; j < length; j++) bytes[j] = random_byte() % (i % 2 ? 256 : 4);
+        struct hiruketawha_load_reply reply = told(bytes, length);
+        EXPECT(i % 2 ? reply.number == 0 || reply.number == 21 || reply.number == 22 : reply.number == 0 && !layout->lacking);
+        EXPECT(reply.number == 0 || reply.detail < length);
+    }
+    EXPECT(told((uint8_t[]){1, 4}, 2).number == 0 && layout->lacking);
+    unsound();
+    EXPECT(told((uint8_t[]){0xFF, 0xFF, 3}, 3).number == 0 && layout->lacking);
+    unsound();
+    EXPECT(give(hiruketawha_fit, NULL, 0).number == 0 && !layout->lacking && answer(HIRUKETAWHA_READ_SECTION, 1, 1) == 0);
+    EXPECT(told((uint8_t[]){2}, 1).number == 0 && layout->fitted[2]);
+    accepted(branch_t, sizeof branch_t);
+    EXPECT(!layout->fitted[2]);
 }
 
 /* No layout; a layout of zeros, of 255s, of any bytes; a state of them. */
@@ -190,7 +249,8 @@ static void test_one_byte(void) {
         *state = cold;
         ((uint8_t *)state)[j] = 4 + random_byte() % 252;
         uint8_t number = answer(HIRUKETAWHA_SECOND, 0, 0);
-        EXPECT(number == HIRUKETAWHA_NOT_SOUND || (number == 0 && ((uint8_t *)state)[j] < 90));
+        if (j >= offsetof(struct hiruketawha_state, axles)) EXPECT(number == 0);
+        else EXPECT(number == HIRUKETAWHA_NOT_SOUND || (number == 0 && ((uint8_t *)state)[j] < 90));
     }
     *state = cold;
 }
@@ -200,6 +260,8 @@ static void every_call(void) {
     hiruketawha_power_on(state, layout);
     hiruketawha_load(state, layout, branch_t, sizeof branch_t);
     for (uint32_t kind = 1; kind <= 10; kind++) hiruketawha_event(state, layout, kind, 0, kind < 4 || kind == 6 || kind == 7);
+    hiruketawha_fit(state, layout, (uint8_t[]){0}, 1);
+    for (uint32_t kind = 11; kind <= 14; kind++) hiruketawha_event(state, layout, kind, 0, 0);
     hiruketawha_panel(state, layout, image, sizeof image);
 }
 
@@ -226,6 +288,7 @@ int main(void) {
     test_second_file();
     test_buffers();
     test_numbers();
+    test_fit();
     test_records();
     test_one_byte();
     test_stack();

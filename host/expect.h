@@ -1,9 +1,11 @@
-/* Ends a test at the first thing that is not as it must be. */
+/* Ends a test at the first thing that is not as it must be; the numbers that an event can be answered by. */
 #ifndef EXPECT_H
 #define EXPECT_H
 
 #include <stdio.h>
 #include <stdlib.h>
+
+#define OF_EVENT(number) ((number) <= 18 || (number) == 30 || (number) == 34 || (number) == 35)
 
 #define EXPECT(holds)                                                                \
     do {                                                                             \

@@ -50,6 +50,24 @@ pub struct Layout {
 
 #[repr(C)]
 #[derive(Clone, Copy)]
+pub struct Head {
+    pub inward: u16,
+    pub outward: u16,
+    pub hasin: u8,
+    pub hasout: u8,
+}
+
+#[repr(C)]
+#[derive(Clone, Copy)]
+pub struct Axles {
+    pub head0: Head,
+    pub head1: Head,
+    pub sum: u16,
+    pub proof: u16,
+}
+
+#[repr(C)]
+#[derive(Clone, Copy)]
 pub struct State {
     pub section: [u8; 64],
     pub point: [u8; 32],
@@ -60,6 +78,7 @@ pub struct State {
     pub direction: [u8; 8],
     pub stage: [u8; 64],
     pub bar: [u8; 64],
+    pub axles: [Axles; 64],
 }
 
 #[repr(C)]
@@ -86,6 +105,7 @@ pub struct Drawn {
 extern "C" {
     fn hiruketawha_power_on(state: *mut State, layout: *mut Layout);
     fn hiruketawha_load(state: *mut State, layout: *mut Layout, bytes: *const u8, length: usize) -> LoadReply;
+    fn hiruketawha_fit(state: *mut State, layout: *mut Layout, bytes: *const u8, length: usize) -> LoadReply;
     fn hiruketawha_event(state: *mut State, layout: *const Layout, kind: u32, first: u32, second: u32) -> Reply;
     fn hiruketawha_panel(state: *const State, layout: *const Layout, image: *mut u8, length: usize) -> Drawn;
 }
@@ -111,6 +131,13 @@ impl Cabinet {
     pub fn load(&mut self, bytes: &[u8]) -> LoadReply {
         // SAFETY: the library reads these bytes, reads and writes both records, and keeps nothing.
         unsafe { hiruketawha_load(&mut self.state, &mut self.layout, bytes.as_ptr(), bytes.len()) }
+    }
+
+    /// The sections that have heads: where the file is accepted they are these and the state starts anew; where it is refused both records stay
+    /// what they were.
+    pub fn fit(&mut self, bytes: &[u8]) -> LoadReply {
+        // SAFETY: the library reads these bytes, reads and writes both records, and keeps nothing.
+        unsafe { hiruketawha_fit(&mut self.state, &mut self.layout, bytes.as_ptr(), bytes.len()) }
     }
 
     /// One event on the state.

@@ -1,7 +1,7 @@
 /* Holds the header's records to the library's own: how large they are, and where each field lies.
  * C fills a layout by the header's fields and writes it as a layout file; what the library loads from the file must be the same bytes.
  * Then events that touch the first and the last entry of each table of a state must change the bytes that C finds under that name, and
- * no other. */
+ * no other; so must sections that are told as fitted, and what their heads tell. */
 #include <string.h>
 
 #include "expect.h"
@@ -43,11 +43,17 @@ static void expect_cold(void) {
     EXPECT(all(UNTOUCHED, layout.before, GUARD) && all(UNTOUCHED, layout.after, GUARD));
 }
 
-/* Power-on writes every byte of both records. */
-static void test_power_on(void) {
+/* What is wanted is the cold state. */
+static void fill_cold(void) {
+    memset(&want, 0, sizeof want);
     memset(want.section, 3, sizeof want.section);
     memset(want.point, 3, sizeof want.point);
     memset(want.stage, 1, sizeof want.stage);
+}
+
+/* Power-on writes every byte of both records. */
+static void test_power_on(void) {
+    fill_cold();
     forget();
     hiruketawha_power_on(&state.record, &layout.record);
     EXPECT(all(0, (const uint8_t *)&layout.record, sizeof layout.record));
@@ -128,6 +134,48 @@ static void test_route(int r) {
     read_section(route->path[6], 1);
 }
 
+/* ---- heads (request L1) */
+
+/* The first and the last section have heads: they stand in the layout, and the state starts anew. */
+static void test_fit(void) {
+    static const uint8_t sections[] = {63, 0};
+    wide.fitted[0] = wide.fitted[63] = 1;
+    struct hiruketawha_load_reply told = hiruketawha_fit(&state.record, &layout.record, sections, sizeof sections);
+    EXPECT(told.number == 0 && told.detail == 0);
+    EXPECT(memcmp(&layout.record, &wide, sizeof wide) == 0);
+    fill_cold();
+    expect_cold();
+}
+
+/* Each count of both heads, a reset, an axle in, and a silence: what they tell stands there, and the section reads what it says. */
+static void test_heads(int section) {
+    struct hiruketawha_axles *axles = &want.axles[section];
+    axles->head0.inward = 0x0102;
+    axles->head0.hasin = 1;
+    done(HIRUKETAWHA_AXLES_IN, 2 * section, 0x0102);
+    axles->head0.outward = 0x0304;
+    axles->head0.hasout = 1;
+    done(HIRUKETAWHA_AXLES_OUT, 2 * section, 0x0304);
+    axles->head1.inward = 0x0506;
+    axles->head1.hasin = 1;
+    done(HIRUKETAWHA_AXLES_IN, 2 * section + 1, 0x0506);
+    axles->head1.outward = 0x0708;
+    axles->head1.hasout = 1;
+    done(HIRUKETAWHA_AXLES_OUT, 2 * section + 1, 0x0708);
+    axles->sum = 0x0102 + 0x0506 - 0x0304 - 0x0708;
+    axles->proof = 1;
+    done(HIRUKETAWHA_RESET_AXLES, section, 0);
+    axles->head1.inward++;
+    axles->proof = 2;
+    want.section[section] = 2;
+    if (section == 63) want.stage[63] = 2;
+    done(HIRUKETAWHA_AXLES_IN, 2 * section + 1, axles->head1.inward);
+    memset(&axles->head0, 0, sizeof axles->head0);
+    want.section[section] = 3;
+    if (section == 63) want.stage[63] = 1;
+    done(HIRUKETAWHA_HEAD_SILENT, 2 * section, 0);
+}
+
 /* ---- where each field lies, as C has it */
 
 #define FIELD(type, name)                                                                                                         \
@@ -185,6 +233,18 @@ static void print_state(void) {
     FIELD(state, direction);
     FIELD(state, stage);
     FIELD(state, bar);
+    FIELD(state, axles);
+}
+
+static void print_axles(void) {
+    FIELD(head, inward);
+    FIELD(head, outward);
+    FIELD(head, hasin);
+    FIELD(head, hasout);
+    FIELD(axles, head0);
+    FIELD(axles, head1);
+    FIELD(axles, sum);
+    FIELD(axles, proof);
 }
 
 int main(void) {
@@ -194,12 +254,17 @@ int main(void) {
     test_route(0);
     test_route(47);
     test_lines();
+    test_fit();
+    test_heads(0);
+    test_heads(63);
     EXPECT(sizeof(struct hiruketawha_line) == 30 && sizeof(struct hiruketawha_route) == 40);
-    EXPECT(sizeof(struct hiruketawha_layout) == 4566 && sizeof(struct hiruketawha_state) == 408);
+    EXPECT(sizeof(struct hiruketawha_layout) == 4566 && sizeof(struct hiruketawha_state) == 1432);
+    EXPECT(sizeof(struct hiruketawha_head) == 6 && sizeof(struct hiruketawha_axles) == 16);
     print_line();
     print_route();
     print_layout();
     print_state();
+    print_axles();
     printf("as the library has them\n");
     return 0;
 }

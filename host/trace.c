@@ -1,6 +1,7 @@
-/* An event program over the C entries, for peer/compare: trace LAYOUT EVENTS [panel].
- * It prints what section 8 says; with `panel`, the panel's bytes after each event too. Beside that it holds each call to what the header
- * says of the bytes that are lent: a refusal leaves the records as they were, and the panel writes its image's bytes and no other. */
+/* An event program over the C entries, for peer/compare: trace LAYOUT EVENTS [panel] [fitted FILE].
+ * It prints what section 8 says; with `panel`, the panel's bytes after each event too, none where it gets 18; FILE has the sections that
+ * have heads. Beside that it holds each call to what the header says of the bytes that are lent: a refusal leaves the records as they were,
+ * and the panel writes its image's bytes and no other. */
 #include <string.h>
 
 #include "expect.h"
@@ -13,7 +14,7 @@ struct file {
     size_t length;
 };
 
-static struct file layout_file, event_file;
+static struct file layout_file, fitted_file, event_file;
 static struct hiruketawha_layout layout;
 static struct hiruketawha_state state;
 
@@ -47,11 +48,17 @@ static int all_untouched(const uint8_t *bytes, size_t from, size_t to) {
     return 1;
 }
 
-/* The panel three times: with room to spare, into a buffer of its own length, and into one that is a byte too short. */
+/* The panel three times: with room to spare, into a buffer of its own length, and into one that is a byte too short. Where a fitted section is
+ * lacking there is none. */
 static void print_panel(void) {
     uint8_t image[ROOM], exact[ROOM];
     memset(image, UNTOUCHED, ROOM);
     struct hiruketawha_drawn drawn = hiruketawha_panel(&state, &layout, image, ROOM);
+    printf(" | ");
+    if (layout.lacking) {
+        EXPECT(drawn.number == HIRUKETAWHA_NOT_SOUND && drawn.length == 0 && all_untouched(image, 0, ROOM));
+        return;
+    }
     EXPECT(drawn.number == 0 && drawn.length <= HIRUKETAWHA_PANEL_MOST);
     EXPECT(all_untouched(image, drawn.length, ROOM) && memchr(image, UNTOUCHED, drawn.length) == NULL);
     memset(exact, UNTOUCHED, ROOM);
@@ -60,15 +67,14 @@ static void print_panel(void) {
     memset(exact, UNTOUCHED, ROOM);
     struct hiruketawha_drawn shorter = hiruketawha_panel(&state, &layout, exact, drawn.length - 1);
     EXPECT(shorter.number == HIRUKETAWHA_BUFFER_SHORT && shorter.length == 0 && all_untouched(exact, 0, ROOM));
-    printf(" |");
-    for (size_t i = 0; i < drawn.length; i++) printf(" %d", image[i]);
+    for (size_t i = 0; i < drawn.length; i++) printf(i == 0 ? "%d" : " %d", image[i]);
 }
 
 static struct hiruketawha_reply event(const uint32_t numbers[3]) {
     struct hiruketawha_state before = state;
     struct hiruketawha_layout on = layout;
     struct hiruketawha_reply reply = hiruketawha_event(&state, &layout, numbers[0], numbers[1], numbers[2]);
-    EXPECT(reply.number <= 18 && memcmp(&on, &layout, sizeof on) == 0);
+    EXPECT(OF_EVENT(reply.number) && memcmp(&on, &layout, sizeof on) == 0);
     EXPECT(reply.number == 0 || memcmp(&before, &state, sizeof before) == 0);
     return reply;
 }
@@ -91,24 +97,34 @@ static void run_events(int with_panel) {
     }
 }
 
-static struct hiruketawha_load_reply load(void) {
+/* One of the two calls that take a file. The state was cold, and is cold. */
+typedef struct hiruketawha_load_reply takes(struct hiruketawha_state *, struct hiruketawha_layout *, const uint8_t *, size_t);
+
+static struct hiruketawha_load_reply give(takes *call, const struct file *file) {
     struct hiruketawha_state before = state;
     struct hiruketawha_layout on = layout;
-    struct hiruketawha_load_reply reply = hiruketawha_load(&state, &layout, layout_file.bytes, layout_file.length);
+    struct hiruketawha_load_reply reply = call(&state, &layout, file->bytes, file->length);
     EXPECT(memcmp(&before, &state, sizeof before) == 0);
     EXPECT(reply.number == 0 || memcmp(&on, &layout, sizeof on) == 0);
     return reply;
 }
 
 int main(int count, char **words) {
-    EXPECT(count == 3 || (count == 4 && strcmp(words[3], "panel") == 0));
-    int with_panel = count == 4;
+    int with_panel = count > 3 && strcmp(words[3], "panel") == 0;
+    int fitted = 3 + with_panel;
+    EXPECT(count == fitted || (count == fitted + 2 && strcmp(words[fitted], "fitted") == 0));
     slurp(words[1], &layout_file);
     slurp(words[2], &event_file);
+    if (count > fitted) slurp(words[fitted + 1], &fitted_file);
     hiruketawha_power_on(&state, &layout);
-    struct hiruketawha_load_reply loaded = load();
+    struct hiruketawha_load_reply loaded = give(hiruketawha_load, &layout_file);
     if (loaded.number != 0) {
         printf("layout %d %zu\n", loaded.number, loaded.detail);
+        return 0;
+    }
+    struct hiruketawha_load_reply told = give(hiruketawha_fit, &fitted_file);
+    if (told.number != 0) {
+        printf("fitted %d %zu\n", told.number, told.detail);
         return 0;
     }
     printf(with_panel ? "0 0 0" : "event answer detail");

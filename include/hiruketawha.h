@@ -24,7 +24,7 @@ extern "C" {
 enum {
     HIRUKETAWHA_DONE = 0, /* detail 0 */
 
-    /* Of an event (section 3), in this order: 18, 1, 2, 3, then by its kind. */
+    /* Of an event (section 3; request L1), in this order: 18, 1, 2, 30 or 34, 3, then by its kind. */
     HIRUKETAWHA_UNKNOWN_KIND = 1,        /* detail 0 */
     HIRUKETAWHA_NO_SUCH_OBJECT = 2,      /* detail: the first number */
     HIRUKETAWHA_SECOND_WRONG = 3,        /* the second number is wrong (both, for kind 10); detail 0 */
@@ -42,9 +42,14 @@ enum {
     HIRUKETAWHA_POINT_IN_ROUTE = 15,     /* the point is locked by a route; detail: the route */
     HIRUKETAWHA_POINT_IN_LINE = 16,      /* the point is locked by a line; detail: the line */
     HIRUKETAWHA_EXIT_LOCKED = 17,        /* an exit route is locked; detail: the route */
-    HIRUKETAWHA_NOT_SOUND = 18,          /* a record breaks section 2 or has a code outside its range; detail 0. Also of the panel */
+    HIRUKETAWHA_NOT_SOUND = 18,          /* a record breaks section 2, lacks a fitted section, or has a code outside its range; detail 0.
+                                          * Also of the panel */
+    HIRUKETAWHA_NO_HEADS = 30,           /* the section has no heads; detail: the section */
+    HIRUKETAWHA_HAS_HEADS = 34,          /* a reading, kind 1, of a section with heads; detail: the section */
+    HIRUKETAWHA_RESET_SILENT = 35,       /* a reset while a head is silent; detail: the section */
 
-    /* Of a layout file (section 2): the first fault met. Detail: the offset of the number's first byte. */
+    /* Of a layout file (section 2): the first fault met. Detail: the offset of the number's first byte. 21 and 22 also of a file of fitted
+     * sections (request L1). */
     HIRUKETAWHA_FILE_ENDS = 21,          /* the file ends early; where nothing is left of it the detail is its length */
     HIRUKETAWHA_BAD_NUMBER = 22,         /* a number is badly formed or too large */
     HIRUKETAWHA_OUT_OF_RANGE = 23,       /* a version, count or code is outside its range, or a conflict pair is out of order */
@@ -72,10 +77,17 @@ enum {
     HIRUKETAWHA_RELEASE_LINE = 7,        /* line, ground: 1 not left, 2 in siding, 3 returned */
     HIRUKETAWHA_BAR = 8,                 /* line, block counted from 0 */
     HIRUKETAWHA_UNBAR = 9,               /* line, block counted from 0 */
-    HIRUKETAWHA_SECOND = 10              /* one second has passed */
+    HIRUKETAWHA_SECOND = 10,             /* one second has passed */
+
+    /* Of axle counters (request L1). A head is 2 * section + 0 or 1, a count 0 to 65,535, the axles since the head's own start. */
+    HIRUKETAWHA_AXLES_IN = 11,           /* head, count */
+    HIRUKETAWHA_AXLES_OUT = 12,          /* head, count */
+    HIRUKETAWHA_HEAD_SILENT = 13,        /* head */
+    HIRUKETAWHA_RESET_AXLES = 14         /* section */
 };
 
-/* ---- The records. Every field is a byte or bytes, so there is no padding; a test holds sizes and places to the library's. */
+/* ---- The records. Every field is a byte or bytes, but for the 16-bit numbers of the heads, each at an even place: so there is no padding. A
+ * test holds sizes and places to the library's. */
 
 /* A line: its blocks from end A to end B, the inner section and the entrance signal at each end, its points with their positions (1 left,
  * 2 right). Entries past a count are not looked at; in a layout that was loaded they are 0. 30 bytes. */
@@ -124,8 +136,26 @@ struct hiruketawha_layout {
     uint8_t lacking; /* 1 where a section was told as fitted that there is not, else 0 */
 };
 
-/* A state: a code for each section, point, route, line and block. Read it by the panel; a code outside its range gets every event 18.
- * 408 bytes. */
+/* A head of a section (request L1): the axles that it told in and out, and for each count 1 where it has come since the cold start or the
+ * head's last silence; else the head is silent. 6 bytes. */
+struct hiruketawha_head {
+    uint16_t inward;
+    uint16_t outward;
+    uint8_t hasin;
+    uint8_t hasout;
+};
+
+/* The heads of a section: its two heads; all in less all out at the last reset, round 65,536; 0 before the first reset, 1 after one, 2 once
+ * the number has since been in 1 to 255 with neither head silent. No value is outside its range. 16 bytes. */
+struct hiruketawha_axles {
+    struct hiruketawha_head head0;
+    struct hiruketawha_head head1;
+    uint16_t sum;
+    uint16_t proof;
+};
+
+/* A state: a code for each section, point, route, line and block, and the heads of each section. Read it by the panel; a code outside its
+ * range gets every event 18. 1,432 bytes. */
 struct hiruketawha_state {
     uint8_t section[64]; /* 1 free, 2 occupied, 3 none */
     uint8_t point[32];   /* 1 left, 2 right, 3 none */
@@ -136,6 +166,7 @@ struct hiruketawha_state {
     uint8_t direction[8]; /* of a line: 0 neutral, 1 from A to B, 2 from B to A */
     uint8_t stage[64];   /* of a block, at 8 * line + block: 0 open; 1, 2, 3 held in stage 0, 1, 2 */
     uint8_t bar[64];     /* of a block, likewise: 1 barred, else 0 */
+    struct hiruketawha_axles axles[64]; /* of a section; looked at only where it is fitted */
 };
 
 /* What is told of an event. 8 bytes. */
@@ -144,7 +175,7 @@ struct hiruketawha_reply {
     uint32_t detail;
 };
 
-/* What is told of a layout file. 16 bytes. */
+/* What is told of a layout file, and of a file of fitted sections. 16 bytes. */
 struct hiruketawha_load_reply {
     uint8_t number;
     size_t detail;
@@ -163,17 +194,26 @@ struct hiruketawha_drawn {
 
 /* Both records at power-on, each written whole, whatever it held. The layout has no objects: it is not sound, so every event and every
  * panel gets 18 until a file is loaded. The state is cold (sections 1 and 5): everything reads none, no order, no route, no line secured,
- * every block held in stage 0, no bar. */
+ * every block held in stage 0, no bar, every head silent. */
 void hiruketawha_power_on(struct hiruketawha_state *state, struct hiruketawha_layout *layout);
 
 /* A layout file of `length` bytes into the layout's record (section 2). Where it is accepted, 0 and 0, and both records are written whole:
- * the state starts anew, cold, since what is promised of a run holds for one layout from the cold start. Where it is refused, 21 to 26
- * with the detail, and both records keep every byte: a layout that was in use stays in use, and so does its state. */
+ * the state starts anew, cold, since what is promised of a run holds for one layout from the cold start; no section has heads until that
+ * is told. Where it is refused, 21 to 26 with the detail, and both records keep every byte: a layout that was in use stays in use, and so
+ * does its state. */
 struct hiruketawha_load_reply hiruketawha_load(struct hiruketawha_state *state, struct hiruketawha_layout *layout, const uint8_t *bytes,
                                                size_t length);
 
-/* One event (sections 3 to 6) on the state's record, on that layout; numbers of any size. 0 and 0, and the record is the next state; or a
- * refusal, 1 to 18, and the record is as it was. */
+/* The sections that have heads (request L1), told beside the layout once it is loaded: a file of `length` bytes, section numbers in the
+ * number form (section 2), in any order. Where it is accepted, 0 and 0, and both records are written whole: just these sections have heads,
+ * whatever was told before, none where there are no bytes; and the state starts anew, cold. A section that the layout lacks is accepted too
+ * and makes the layout unsound: every event and every panel gets 18 until a layout is loaded or sections are told anew. Where the file is
+ * refused, 21 or 22 with the offset, and both records keep every byte. */
+struct hiruketawha_load_reply hiruketawha_fit(struct hiruketawha_state *state, struct hiruketawha_layout *layout, const uint8_t *bytes,
+                                              size_t length);
+
+/* One event (sections 3 to 6; request L1) on the state's record, on that layout; numbers of any size. 0 and 0, and the record is the next state; or a
+ * refusal, 1 to 18, 30, 34 or 35, and the record is as it was. */
 struct hiruketawha_reply hiruketawha_event(struct hiruketawha_state *state, const struct hiruketawha_layout *layout, uint32_t kind,
                                            uint32_t first, uint32_t second);
 
