@@ -43,6 +43,10 @@ pub even-reads-free : (x : Axles) (a0 a1 b0 b1 i0 i1 o0 o1 : ℕ) → Counted x 
 unfolding axlesReading readingOf if_then_else_
 even-reads-free x a0 a1 b0 b1 i0 i1 o0 o1 c e k = rw (k, number-small x a0 a1 b0 b1 i0 i1 o0 o1 0 c (omega arith) (omega arith))
 
+-- L1: 65,536 axles in by one head and out by the other since the reset read free again
+pub round-reads-free : (x : Axles) (a0 a1 b0 b1 : ℕ) → Counted x a0 a1 b0 b1 65536 0 0 65536 → known x ≡ true → axlesReading x ≡ free
+round-reads-free x a0 a1 b0 b1 c k = even-reads-free x a0 a1 b0 b1 65536 0 0 65536 c refl k
+
 -- ---- axles that come in and go out
 
 -- one of two counts goes on
@@ -72,10 +76,6 @@ passing-known n i j x = refl
 pub passing-reads : (n i j : ℕ) (x : Axles) → axlesReading (passed n i j x) ≡ axlesReading x
 unfolding axlesReading
 passing-reads n i j x = rw (passing-known n i j x, passing-leaves n i j x)
-
--- L1: a section that reads free reads free again once 65,536 axles have come in by one head and gone out by the other
-pub round-reads-free : (i j : ℕ) (x : Axles) → axlesReading x ≡ free → axlesReading (passed 65536 i j x) ≡ free
-round-reads-free i j x e = passing-reads 65536 i j x ∙ e
 
 -- ---- a count told again
 

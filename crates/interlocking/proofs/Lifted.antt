@@ -1,11 +1,10 @@
 -- The step of the whole state, from that of its parts.
 use Prim.Native.Nat.{ℕ, _%_, _<_}
-use mathlib.Core.Path.{_≡_, refl, sym, ap, _∙_, fun-ext}
+use mathlib.Core.Path.{_≡_, refl, sym, _∙_, fun-ext}
 use mathlib.Core.Bool.{Bool, true, false, not, _&&_}
 use native.Mathlib.Omega.{arith}
 use borrow.Author.Tests.{ltb-true, not-true, not-false}
 use lib.Dec.{ltb}
-use Rattle.laws.specs.Choice.{if_then_else_}
 use Rattle.laws.specs.Tests.{_and_}
 use Rattle.laws.specs.Tables.{each}
 use Rattle.laws.proofs.Choice.{if-true, if-false, if-both}
@@ -16,7 +15,6 @@ use Rattle.tables.specs.declared.Gives.{Gives}
 use Rattle.layout.specs.declared.Layout.{Layout}
 use Rattle.axles.specs.declared.Axles.{Axles}
 use Rattle.axles.specs.Heads.{axlesAfter}
-use Rattle.axles.specs.HeadLog.{said}
 use Rattle.interlocking.specs.Own.{headSection, headsBy}
 use Rattle.interlocking.specs.declared.State.{State}
 use Rattle.interlocking.specs.declared.Core.{Core}

@@ -3,15 +3,13 @@ use Prim.Native.Nat.{ℕ, _/_, _*_, _<_, _≤_}
 use mathlib.Core.Path.{_≡_, refl, ap, subst, _∙_}
 use mathlib.Core.Bool.{Bool, true, false, not}
 use mathlib.Core.Logic.{_≢_, inl, inr}
-use mathlib.Core.List.{List, []}
 use native.Mathlib.Decide.{ℕ-discrete, decLt}
 use native.Mathlib.Omega.{arith}
 use borrow.Author.Tests.{eq-eqb, ne-eqb, lt-ltb, le-leb, leb-true}
-use lib.Dec.{eqb, ltb, leb}
+use lib.Dec.{eqb, leb}
 use lib.ListN.{length, getD, set}
 use Rattle.laws.specs.Choice.{if_then_else_}
-use Rattle.laws.specs.Tests.{_and_}
-use Rattle.laws.proofs.Choice.{if-eq, if-ne, chosen, passed-over}
+use Rattle.laws.proofs.Choice.{chosen, passed-over}
 use Rattle.laws.proofs.Tests.{and-left, and-right, and-both, not-both}
 use lib.Seq.{set-getD}
 use Rattle.laws.proofs.Arrays.{read-in}
@@ -19,7 +17,7 @@ use Rattle.track.specs.Codes.{headSilent, resetAxles}
 use Rattle.track.specs.Sizes.{mostSections}
 use Rattle.track.specs.Lists.{between}
 use Rattle.axles.specs.declared.Axles.{Axles}
-use Rattle.axles.specs.Heads.{noAxles, speaking}
+use Rattle.axles.specs.Heads.{noAxles}
 use Rattle.layout.specs.declared.Layout.{Layout}
 use Rattle.reasons.specs.declared.Refusal.{Refusal}
 use Rattle.reasons.specs.Refusal.{refused, noRefusal, refusedIf, firstOf}
@@ -29,7 +27,7 @@ use Rattle.interlocking.specs.declared.Core.{Core}
 use Rattle.interlocking.specs.declared.CoreAnswer.{CoreAnswer}
 use Rattle.interlocking.specs.State.{headsAt, withSections, withPoints, withRoutes, withLines, withBars, withAxles}
 use Rattle.interlocking.specs.Own.{ownSection, ownPoint, ownThrow, ownSet, ownCancel, ownSecure, ownManual, ownBar, headSection, headsOf, headsBy, ownHeads}
-use Rattle.interlocking.specs.Rows.{Row, sectionRow, pointRow, throwRow, setRow, cancelRow, secureRow, manualRow, barRow, secondRow, headRow, countRow, silentRow, resetRow, noRow, rowWith, rowOf}
+use Rattle.interlocking.specs.Rows.{Row, sectionRow, pointRow, throwRow, setRow, cancelRow, secureRow, manualRow, barRow, secondRow, headRow, countRow, silentRow, stillSilent, resetRow, noRow, rowWith, rowOf}
 use Rattle.interlocking.specs.Step.{rowRefusal, answeredBy, stepWhere}
 use Rattle.interlocking.specs.Parts.{coreOf, bare, whole, moves, stays, tried, isOfHeads, headsThen, headPlace, followed, coreStep, together}
 use Rattle.interlocking.proofs.Rows.{OfKind, section-row, point-row, throw-row, set-row, cancel-row, secure-row, manual-row, bar-row, unbar-row, second-row, count-row, silent-row, reset-row, no-row, row-unknown, row-of}
@@ -170,9 +168,9 @@ module _ (t : Bool) (L : Layout) (s : State) (k a b : ℕ) (x : Axles) (of : isO
   unfolding resetRow headSection
   reset-alike n e =
       let g : headSection k a ≡ a = chosen _ a (a / 2) (eq-eqb k resetAxles n) in
-      rw e (subst (λ i. Alike t a s (headPlace k a) (headsThen x k a b) (headRow L (bare (coreOf s)) (headsThen x k a b) i (leb (L .sections) a) (not (eqb b 0)) (refusedIf (not (speaking x)) 35 a))
-      (headRow L s (headsBy (headsOf s k a) k a b) i (leb (L .sections) a) (not (eqb b 0)) (refusedIf (not (speaking (headsOf s k a))) 35 a))) g
-      (heads-row _ _ _ _ (λ h q. let c = few q in le-leb _ a (omega arith)) (λ q. ap (λ z. refusedIf (not (speaking z)) 35 a) q)))
+      rw e (subst (λ i. Alike t a s (headPlace k a) (headsThen x k a b) (headRow L (bare (coreOf s)) (headsThen x k a b) i (leb (L .sections) a) (not (eqb b 0)) (stillSilent x a))
+      (headRow L s (headsBy (headsOf s k a) k a b) i (leb (L .sections) a) (not (eqb b 0)) (stillSilent (headsOf s k a) a))) g
+      (heads-row _ _ _ _ (λ h q. let c = few q in le-leb _ a (omega arith)) (λ q. ap (λ z. stillSilent z a) q)))
 
   -- its row, kind by kind
   of-its-heads : {v : Row} → OfKind L s a b k v → Alike t a s (headPlace k a) (headsThen x k a b) (rowWith L (bare (coreOf s)) x (headsThen x k a b) k a b) v

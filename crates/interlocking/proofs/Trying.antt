@@ -9,7 +9,6 @@ use borrow.Author.Needs.{needs}
 use borrow.Author.Tests.{eqb-true, leb-true, leb-false, not-false}
 use lib.Dec.{eqb, leb}
 use lib.ListN.{length, getD, List·getD-eq-default}
-use Rattle.laws.specs.Choice.{if_then_else_}
 use Rattle.laws.specs.Tests.{_and_}
 use Rattle.laws.proofs.Choice.{if-eq, if-ne}
 use Rattle.laws.proofs.Tests.{and-right}
@@ -34,7 +33,7 @@ use Rattle.interlocking.specs.Settle.{settle}
 use Rattle.axles.specs.Heads.{speaking, axlesReading}
 use Rattle.interlocking.specs.State.{withSections, withAxles}
 use Rattle.interlocking.specs.Own.{ownSection, ownPoint, ownHeads}
-use Rattle.interlocking.specs.Rows.{Row, givesReading, headRow, noRow, rowWith}
+use Rattle.interlocking.specs.Rows.{Row, givesReading, headRow, stillSilent, noRow, rowWith}
 use Rattle.interlocking.specs.Step.{rowRefusal}
 use Rattle.interlocking.specs.Parts.{coreOf, bare, moves, stays, tried, followed}
 
@@ -122,7 +121,8 @@ unfolding noHeads isFitted
 misfit-none L g x has e p = rw p at e
 
 -- that a head is silent
-pub silent-found : (y : Axles) (g : ℕ) (x : Refusal) (on : Bool) → x ≡ refusedIf (not on) 35 g → on ≡ speaking y → x ≡ refusedIf (not (speaking y)) 35 g
+pub silent-found : (y : Axles) (g : ℕ) (x : Refusal) (on : Bool) → x ≡ refusedIf (not on) 35 g → on ≡ speaking y → x ≡ stillSilent y g
+unfolding stillSilent
 silent-found y g x on e p = rw p at e
 
 -- the tables after a reading, with what is recorded of its code

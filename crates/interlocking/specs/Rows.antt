@@ -169,15 +169,20 @@ countRow L s y a b = headRow L s y (a / 2) (leb (2 * L .sections) a) (ltb 65535 
 unfoldable pub silentRow : Layout → State → Axles → ℕ → ℕ → Row
 silentRow L s y a b = headRow L s y (a / 2) (leb (2 * L .sections) a) (not (eqb b 0)) noRefusal
 
--- 14: reset (section); 35 while one of its heads, x before the event, is silent
+-- 35: one of the heads x of section g is silent
+unfoldable pub stillSilent : Axles → ℕ → Refusal
+stillSilent x g = refusedIf (not (speaking x)) 35 g
+
+-- 14: reset (section); x is its heads before the event
 unfoldable pub resetRow : Layout → State → Axles → Axles → ℕ → ℕ → Row
-resetRow L s x y a b = headRow L s y a (leb (L .sections) a) (not (eqb b 0)) (refusedIf (not (speaking x)) 35 a)
+resetRow L s x y a b = headRow L s y a (leb (L .sections) a) (not (eqb b 0)) (stillSilent x a)
 
 -- a kind that has no row: 1
 unfoldable pub noRow : State → Row
 noRow s = record { missing = false; misfit = noRefusal; wrong = false; besides = refused 1 0; does = s; gives = nothing }
 
--- the row of kind k; where it is of a section's heads, x is what these were, and y what becomes of them
+-- the row of kind k; where it is of a section's heads, x is what these were, and y what becomes of them, told apart from the state because the code hands
+-- them through a step apart (Parts)
 unfoldable pub rowWith : Layout → State → Axles → Axles → ℕ → ℕ → ℕ → Row
 rowWith L s x y k a b =
     if eqb k readSection then sectionRow L s a b
@@ -196,5 +201,6 @@ rowWith L s x y k a b =
     else if eqb k resetAxles then resetRow L s x y a b
     else noRow s
 
+-- the row of kind k in a state
 unfoldable pub rowOf : Layout → State → ℕ → ℕ → ℕ → Row
 rowOf L s k a b = rowWith L s (headsOf s k a) (headsBy (headsOf s k a) k a b) k a b

@@ -88,32 +88,32 @@ fn completed(
     next
 }
 
-// The answer to an event, where soundness was asked, x being the heads of the section that it names. The routes are walked once: signals fall and routes are let go in one
-// turn, since far sections move no route; so the table of routes is copied once.
+// The answer to an event, where soundness was asked, with the heads of the section that it names. The routes are walked once: signals fall and
+// routes are let go in one turn, since far sections move no route; so the table of routes is copied once.
 pub fn answered(
     l: Layout,
     before: Core,
-    x: Axles,
+    heads: Axles,
     sound: bool,
     kind: u32,
     first: u32,
     second: u32,
 ) -> CoreAnswer
     requires { ⌜ (sound ≡ true → (l .lines ≤ mostLines) × (l .routes ≤ mostTrainRoutes)) ⌝ }
-    ensures { λ r. ⌜ r ≡ coreStep sound l before x kind first second ⌝ }
+    ensures { λ r. ⌜ r ≡ coreStep sound l before heads kind first second ⌝ }
 {
     let ls = l.line;
     let rs = l.route;
     let n = l.routes;
     let m = l.lines;
-    let y = heads_then(x, kind, first, second);
-    let t = event_tried(before, x, y, l, sound, kind, first, second);
+    let then = heads_then(heads, kind, first, second);
+    let t = event_tried(before, heads, then, l, sound, kind, first, second);
     if t.number != 0 {
         return CoreAnswer {
             number: t.number,
             detail: t.detail,
             next: before,
-            heads: x,
+            heads,
         };
     }
     let s = t.next;
@@ -155,6 +155,6 @@ pub fn answered(
         number: 0,
         detail: 0,
         next,
-        heads: y,
+        heads: then,
     }
 }

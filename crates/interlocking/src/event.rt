@@ -1,4 +1,5 @@
-// The events of section 3's table, a method for each kind that holds what is refused of it and what it does; `specs/Rows` has the same table.
+// The events of section 3's table, a method for each kind that holds what is refused of it and what it does (those of heads stand in `heads`);
+// `specs/Rows` has the same table.
 use super::Core;
 use super::Tried;
 use super::heads;
@@ -272,9 +273,9 @@ pub fn event_tried(
         BAR => s.set_bar(layout, sound, first, second, 1),
         UNBAR => s.set_bar(layout, sound, first, second, 0),
         SECOND => s.second(sound, first, second),
-        AXLES_IN => heads::counted(s, y, layout, sound, first, second),
-        AXLES_OUT => heads::counted(s, y, layout, sound, first, second),
-        HEAD_SILENT => heads::silent(s, y, layout, sound, first, second),
+        AXLES_IN => heads::of_head(s, y, layout, sound, first, 65535 < second),
+        AXLES_OUT => heads::of_head(s, y, layout, sound, first, 65535 < second),
+        HEAD_SILENT => heads::of_head(s, y, layout, sound, first, second != 0),
         RESET_AXLES => heads::reset(s, x, y, layout, sound, first, second),
         _ => s.unknown(sound, first),
     }

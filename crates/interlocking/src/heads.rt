@@ -14,9 +14,11 @@ use refusals::numbers_refusal;
 use tables::Gives;
 ghost use mathlib.Core.Path.{_≡_};
 ghost use mathlib.Core.Bool.{true};
-ghost use Prim.Native.Nat.{_≤_};
+ghost use Prim.Native.Nat.{_*_, _/_, _≤_};
+ghost use lib.Dec.{leb};
 ghost use Rattle.track.specs.Sizes.{mostLines};
-ghost use Rattle.interlocking.specs.Rows.{headRow, countRow, silentRow, resetRow};
+ghost use Rattle.reasons.specs.Refusal.{noRefusal};
+ghost use Rattle.interlocking.specs.Rows.{headRow, resetRow};
 ghost use Rattle.interlocking.specs.Parts.{bare, tried};
 
 // An event of the heads of section g, which become y: refused by its numbers or besides, or the section is given what they say.
@@ -57,44 +59,14 @@ fn said_of(
     )
 }
 
-// 11, 12: a head, twice the section plus 0 or 1, has counted so many axles in, or out.
-pub fn counted(s: Core, y: Axles, layout: Layout, sound: bool, head: u32, count: u32) -> Tried
+// 11, 12, 13: what a head, twice the section plus 0 or 1, says, where the second number is wrong or not.
+pub fn of_head(s: Core, y: Axles, layout: Layout, sound: bool, head: u32, wrong: bool) -> Tried
     requires { ⌜ (sound ≡ true → layout .lines ≤ mostLines) ⌝ }
-    ensures { λ r. ⌜ r ≡ tried sound s head (countRow layout (bare s) y head count) ⌝ }
+    ensures { λ r. ⌜ r ≡ tried sound s head (headRow layout (bare s) y (head / 2) (leb (2 * layout .sections) head) wrong noRefusal) ⌝ }
 {
     let missing = 2 * (layout.sections as u32) <= head;
     let none = no_refusal();
-    said_of(
-        s,
-        y,
-        layout,
-        sound,
-        head,
-        head / 2,
-        missing,
-        65535 < count,
-        none,
-    )
-}
-
-// 13: a head is silent; the second number is unused.
-pub fn silent(s: Core, y: Axles, layout: Layout, sound: bool, head: u32, unused: u32) -> Tried
-    requires { ⌜ (sound ≡ true → layout .lines ≤ mostLines) ⌝ }
-    ensures { λ r. ⌜ r ≡ tried sound s head (silentRow layout (bare s) y head unused) ⌝ }
-{
-    let missing = 2 * (layout.sections as u32) <= head;
-    let none = no_refusal();
-    said_of(
-        s,
-        y,
-        layout,
-        sound,
-        head,
-        head / 2,
-        missing,
-        unused != 0,
-        none,
-    )
+    said_of(s, y, layout, sound, head, head / 2, missing, wrong, none)
 }
 
 // 14: a section's heads are reset; the second number is unused. 35 while one of them is silent.

@@ -1,19 +1,14 @@
 -- What holds where nothing is refused.
-use Prim.Native.Nat.{ℕ, zero, suc, _<_, _≤_}
-use mathlib.Core.Path.{_≡_, refl, ap, subst, _∙_}
+use Prim.Native.Nat.{ℕ, zero, suc, _<_}
+use mathlib.Core.Path.{_≡_, refl, ap, _∙_}
 use mathlib.Core.Bool.{Bool, true, false}
 use mathlib.Core.List.{List, [], _∷_}
 use native.Mathlib.Decide.{ℕ-discrete}
 use native.Mathlib.Omega.{arith}
-use borrow.Author.Tests.{leb-true, leb-false, eqb-true, ne-eqb, not-false}
-use lib.Dec.{eqb}
+use borrow.Author.Tests.{not-false}
 use lib.ListN.{getD}
 use Rattle.laws.specs.Choice.{if_then_else_}
-use Rattle.laws.specs.Tests.{_and_, _or_}
 use Rattle.laws.proofs.Choice.{if-eq, if-ne}
-use Rattle.laws.proofs.Tests.{and-left, and-right, and-both, fails-from, fails-not, not-both}
-use Rattle.track.specs.Lists.{between}
-use Rattle.layout.specs.declared.Layout.{Layout}
 use Rattle.reasons.specs.declared.Refusal.{Refusal}
 use Rattle.reasons.specs.Refusal.{refused, noRefusal, refusedIf, firstOf}
 use Rattle.refusals.specs.Events.{numbersRefusal}

@@ -17,7 +17,7 @@ use Rattle.interlocking.proofs.answering.answered.Tie as tie
 
 -- the five tables, made for the routes before r
 abbrev Inv-loop : tie.InvT-loop
-Inv-loop before sound kind first second ls rs n m y s e entry₀ fallen₀ phase₀ steps₀ seconds₀ r₀ entry fallen phase steps seconds r =
+Inv-loop before sound kind first second ls rs n m then s e entry₀ fallen₀ phase₀ steps₀ seconds₀ r₀ entry fallen phase steps seconds r =
     (m ≤ mostLines) × (n ≤ mostTrainRoutes) × (length rs ≡ mostTrainRoutes)
     × Redone mostTrainRoutes n (λ i was. route rs i .entry) entry₀ entry r
     × Redone mostRoutes n (fallenAt ls rs (bare s)) (s .phase) fallen r
@@ -27,7 +27,7 @@ Inv-loop before sound kind first second ls rs n m y s e entry₀ fallen₀ phase
 
 -- the routes left
 abbrev μ-loop : tie.MeasureT-loop
-μ-loop before sound kind first second ls rs n m y s e entry₀ fallen₀ phase₀ steps₀ seconds₀ r₀ entry fallen phase steps seconds r = n - r
+μ-loop before sound kind first second ls rs n m then s e entry₀ fallen₀ phase₀ steps₀ seconds₀ r₀ entry fallen phase steps seconds r = n - r
 
 -- the event is refused
 refused : tie.Need-returns Inv-loop μ-loop

@@ -1,7 +1,7 @@
 -- Kind by kind, the row of the method that is called.
 use borrow.Author.Needs.{needs}
 use Rattle.laws.specs.Choice.{if_then_else_}
-use Rattle.interlocking.specs.Rows.{rowWith}
+use Rattle.interlocking.specs.Rows.{countRow, silentRow, rowWith}
 use Rattle.interlocking.proofs.Rows.{row-at, row-none}
 use Rattle.interlocking.proofs.event.event_tried.Statement.{statement}
 use Rattle.interlocking.proofs.event.event_tried.Tie as tie
@@ -28,7 +28,7 @@ other c =
     }) (c .unknown .ensures)
 
 pub event-tried-spec : {M : Type 1} → statement M
-unfolding rowWith if_then_else_
+unfolding rowWith countRow silentRow if_then_else_
 event-tried-spec =
     tie.close
     (tie.spec
@@ -57,8 +57,8 @@ event-tried-spec =
     (λ c. row-at _ _ _ _ _ _ _ _ _ 8 (c .before .match .keys8) (c .set-bar .ensures))
     (λ c. row-at _ _ _ _ _ _ _ _ _ 9 (c .before .match .keys9) (c .set-bar2 .ensures))
     (λ c. row-at _ _ _ _ _ _ _ _ _ 10 (c .before .match .keys10) (c .second .ensures))
-    (λ c. row-at _ _ _ _ _ _ _ _ _ 11 (c .before .match .keys11) (c .counted .ensures))
-    (λ c. row-at _ _ _ _ _ _ _ _ _ 12 (c .before .match .keys12) (c .counted2 .ensures))
-    (λ c. row-at _ _ _ _ _ _ _ _ _ 13 (c .before .match .keys13) (c .silent .ensures))
+    (λ c. row-at _ _ _ _ _ _ _ _ _ 11 (c .before .match .keys11) (c .of-head .ensures))
+    (λ c. row-at _ _ _ _ _ _ _ _ _ 12 (c .before .match .keys12) (c .of-head2 .ensures))
+    (λ c. row-at _ _ _ _ _ _ _ _ _ 13 (c .before .match .keys13) (c .of-head3 .ensures))
     (λ c. row-at _ _ _ _ _ _ _ _ _ 14 (c .before .match .keys14) (c .reset .ensures))
     other)
