@@ -1,11 +1,14 @@
-// The event program (section 8): events LAYOUT [EVENTS [panel]]
+// The event program (section 8): events LAYOUT [EVENTS [panel] [fitted FILE]]
 // Runs the event file on the layout from the cold start and prints event number, answer and detail of each event, with `panel` also the
-// panel after it. The event file may be of any length: it is read into one buffer, a piece at a time.
+// panel after it. FILE has the fitted sections (request L1), none where it is not named. Event file and FILE may be of any length: they are read a piece
+// at a time.
 // Without an event file it only loads the layout, and prints `layout`, the answer and its detail.
 // Where the list is not whole, standard error says why, in one line: `./run` goes by it.
 mod files;
+mod heads;
 mod listing;
 
+use layout::Layout;
 use libc::STDERR_FILENO;
 use libc::STDOUT_FILENO;
 
@@ -35,10 +38,36 @@ fn print_loaded(path: &[u8], number: u8, detail: usize, out: &mut [u8]) {
     }
 }
 
-// The layout file is loaded and the open event file, of which the first bytes were read, is run on it.
+// Prints the line of a fault in the file of fitted sections, in place of a list.
+fn print_fault(path: &[u8], number: u8, place: usize, out: &mut [u8]) {
+    let end = event_file::fitted_fault(number as u64, place as u64, out);
+    if written(out, end) {
+        tell(path, b": the file of fitted sections ends in a fault\n");
+    }
+}
+
+// The open event file, of which the first bytes were read, is run on a layout.
+fn list(
+    layout: Layout,
+    fd: i32,
+    path: &[u8],
+    panel: bool,
+    held: files::Held,
+    buf: &mut [u8],
+    out: &mut [u8],
+) {
+    let end = event_file::opening_line(panel, layout, out);
+    if written(out, end) {
+        listing::walk_all(fd, path, panel, layout, held, buf, out);
+    }
+}
+
+// The layout file is loaded, equipped with the sections of the open file of fitted sections, if there is one, and the events are run on it.
 fn run(
     file: &[u8],
     layout_path: &[u8],
+    heads: i32,
+    heads_path: &[u8],
     fd: i32,
     path: &[u8],
     panel: bool,
@@ -52,14 +81,83 @@ fn run(
         print_loaded(layout_path, loaded.number, loaded.detail, &mut out);
         return;
     }
-    let end = event_file::opening_line(panel, layout, &mut out);
-    if written(&out, end) {
-        listing::walk_all(fd, path, panel, layout, held, buf, &mut out);
+    if heads < 0 {
+        list(layout, fd, path, panel, held, buf, &mut out);
+        return;
+    }
+    let r = heads::tell_all(heads, heads_path, layout.sections, &mut out);
+    if r.stop == 3 {
+        let told = r.told;
+        list(
+            fitted::equip(layout, told),
+            fd,
+            path,
+            panel,
+            held,
+            buf,
+            &mut out,
+        );
+        return;
+    }
+    if r.stop > 3 {
+        print_fault(heads_path, r.stop, r.at, &mut out);
     }
 }
 
+// The file of fitted sections is opened, where one is named.
+fn with_heads(
+    file: &[u8],
+    layout_path: &[u8],
+    fits: bool,
+    heads_path: &[u8],
+    fd: i32,
+    path: &[u8],
+    panel: bool,
+    held: files::Held,
+    buf: &mut [u8],
+) {
+    if !fits {
+        run(
+            file,
+            layout_path,
+            -1,
+            heads_path,
+            fd,
+            path,
+            panel,
+            held,
+            buf,
+        );
+        return;
+    }
+    let heads = os::open_read(heads_path);
+    if heads < 0 {
+        os::fail(heads_path);
+        return;
+    }
+    run(
+        file,
+        layout_path,
+        heads,
+        heads_path,
+        fd,
+        path,
+        panel,
+        held,
+        buf,
+    );
+    libc::close(heads);
+}
+
 // The event file is opened, and its first bytes are read before anything is printed.
-fn with_events(file: &[u8], layout_path: &[u8], path: &[u8], panel: bool) {
+fn with_events(
+    file: &[u8],
+    layout_path: &[u8],
+    path: &[u8],
+    panel: bool,
+    fits: bool,
+    heads_path: &[u8],
+) {
     let fd = os::open_read(path);
     if fd < 0 {
         os::fail(path);
@@ -68,7 +166,17 @@ fn with_events(file: &[u8], layout_path: &[u8], path: &[u8], panel: bool) {
     let mut buf = io::large_buffer();
     let held = files::read_on(fd, path, &mut buf, 0);
     if held.good {
-        run(file, layout_path, fd, path, panel, held, &mut buf);
+        with_heads(
+            file,
+            layout_path,
+            fits,
+            heads_path,
+            fd,
+            path,
+            panel,
+            held,
+            &mut buf,
+        );
     }
     libc::close(fd);
 }
@@ -81,7 +189,14 @@ fn load_alone(file: &[u8], path: &[u8]) {
 }
 
 // The layout file is read, and loaded alone or with an event file that is run on it. Its first 65,536 bytes answer for a longer one.
-fn with_layout(path: &[u8], alone: bool, events: &[u8], panel: bool) {
+fn with_layout(
+    path: &[u8],
+    alone: bool,
+    events: &[u8],
+    panel: bool,
+    fits: bool,
+    heads_path: &[u8],
+) {
     let mut room = io::large_buffer();
     let held = files::read_file(path, &mut room);
     let n = held.have;
@@ -95,7 +210,7 @@ fn with_layout(path: &[u8], alone: bool, events: &[u8], panel: bool) {
         load_alone(&room[0..n], path);
         return;
     }
-    with_events(&room[0..n], path, events, panel);
+    with_events(&room[0..n], path, events, panel, fits, heads_path);
 }
 
 // Whether a word is `panel`.
@@ -106,30 +221,73 @@ fn is_panel(word: &[u8]) -> bool {
     (word[0] == 112) & (word[1] == 97) & (word[2] == 110) & (word[3] == 101) & (word[4] == 108)
 }
 
+// Whether a word is `fitted`.
+fn is_fitted(word: &[u8]) -> bool {
+    if word.len() != 6 {
+        return false;
+    }
+    (word[0] == 102)
+        & (word[1] == 105)
+        & (word[2] == 116)
+        & (word[3] == 116)
+        & (word[4] == 101)
+        & (word[5] == 100)
+}
+
+// Whether an argument is the word `panel`.
+fn panel_at(i: usize) -> bool {
+    let mut word = io::buffer();
+    let w = os::arg(i, &mut word);
+    is_panel(&word[..w])
+}
+
+// Whether an argument is the word `fitted`.
+fn fitted_at(i: usize) -> bool {
+    let mut word = io::buffer();
+    let w = os::arg(i, &mut word);
+    is_fitted(&word[..w])
+}
+
 // How the program is called.
 fn usage() {
-    io::write_all(STDERR_FILENO, b"usage: events LAYOUT [EVENTS [panel]]\n");
+    io::write_all(
+        STDERR_FILENO,
+        b"usage: events LAYOUT [EVENTS [panel] [fitted FILE]]\n",
+    );
+}
+
+// The word `fitted` and its file, where the arguments go on after the event file and the word `panel`.
+fn with_words(layout: &[u8], events: &[u8], panel: bool, next: usize) {
+    if os::arg_count() == next {
+        with_layout(layout, false, events, panel, false, b"");
+        return;
+    }
+    let mut file = io::buffer();
+    let f = os::arg(files::sum(next, 1), &mut file);
+    if os::errno() != 0 {
+        usage();
+        return;
+    }
+    if fitted_at(next) & (os::arg_count() == files::sum(next, 2)) {
+        with_layout(layout, false, events, panel, true, &file[..f]);
+        return;
+    }
+    usage();
 }
 
 // The event file and the word `panel`, by the arguments after the layout.
 fn with_arguments(layout: &[u8]) {
     let mut events = io::buffer();
-    let mut word = io::buffer();
     let e = os::arg(2, &mut events);
     if os::errno() != 0 {
         usage();
         return;
     }
-    if os::arg_count() == 3 {
-        with_layout(layout, false, &events[..e], false);
+    if panel_at(3) {
+        with_words(layout, &events[..e], true, 4);
         return;
     }
-    let w = os::arg(3, &mut word);
-    if is_panel(&word[..w]) & (os::arg_count() == 4) {
-        with_layout(layout, false, &events[..e], true);
-        return;
-    }
-    usage();
+    with_words(layout, &events[..e], false, 3);
 }
 
 // The layout, and whether there is more than it.
@@ -141,7 +299,7 @@ fn main() {
         return;
     }
     if os::arg_count() == 2 {
-        with_layout(&layout[..l], true, b"", false);
+        with_layout(&layout[..l], true, b"", false, false, b"");
         return;
     }
     with_arguments(&layout[..l]);
