@@ -2,19 +2,19 @@
 use crate::examples::BRANCH_T;
 use crate::fuzz::{gen_layout, Rng};
 use crate::layout::encode;
-use crate::level::LEVEL;
+use crate::level::{LAST_KIND, LEVEL};
 use crate::records::{Change, CODES};
 use crate::run_cases::BRANCH_U;
-use crate::runs::{Event, Runs};
+use crate::runs::{form, Event, Runs};
 
-// How many places each table of a state has.
+// How many places each table of a state has, but for its heads.
 const PLACES: [u16; 9] = [64, 32, 32, 48, 48, 48, 8, 64, 64];
 
 // Changes of the layout, of the state, of line 0, and of a route.
-fn plan(field: u8, place: u16, byte: u8) -> Change {
+pub fn plan(field: u8, place: u16, byte: u8) -> Change {
     Change { record: 0, number: 0, field, place, byte }
 }
-fn state(field: u8, place: u16, byte: u8) -> Change {
+pub fn state(field: u8, place: u16, byte: u8) -> Change {
     Change { record: 1, number: 0, field, place, byte }
 }
 fn line(field: u8, place: u16, byte: u8) -> Change {
@@ -26,7 +26,7 @@ fn route(number: u8, field: u8, place: u16, byte: u8) -> Change {
 
 // An event of every kind, and of the kinds before and after them.
 fn every_kind() -> Vec<Event> {
-    (0..12).map(|kind| [kind, 0, 1]).collect()
+    (0..=LAST_KIND + 1).map(|kind| [kind, 0, 1]).collect()
 }
 
 // Records that are not sound: 18 for every event.
@@ -38,7 +38,7 @@ fn unsound(c: &mut Runs, label: &str, file: &[u8], changes: &[Change]) {
 // Records that are sound: 1 for an event of no kind.
 fn sound(c: &mut Runs, label: &str, file: &[u8], changes: &[Change]) {
     let by_hand = changes.iter().any(|x| x.record == 1);
-    let events = if by_hand { vec![[0, 0, 0], [11, 0, 0]] } else { every_kind() };
+    let events = if by_hand { vec![[0, 0, 0], [LAST_KIND + 1, 0, 0]] } else { every_kind() };
     assert_eq!(c.any(file, changes, &events)[0], (1, 0), "{label} is sound");
 }
 
@@ -135,12 +135,12 @@ fn random(c: &mut Runs, g: &mut Rng) {
     for _ in 0..60 {
         let l = gen_layout(g, true, LEVEL);
         let changes: Vec<Change> = (0..1 + g.below(2)).map(|_| any_change(g, l.routes.len())).collect();
-        c.any(&encode(&l), &changes, &every_kind());
+        c.any_fitted(&encode(&l), &form(&l.fitted), &changes, &every_kind());
     }
     for _ in 0..20 {
         let field = g.below(9);
         let place = g.below(PLACES[field] as usize) as u16;
-        c.any(&BRANCH_T, &[state(field as u8, place, g.below(6) as u8)], &[[0, 0, 0], [11, 0, 0]]);
+        c.any(&BRANCH_T, &[state(field as u8, place, g.below(6) as u8)], &[[0, 0, 0], [LAST_KIND + 1, 0, 0]]);
     }
 }
 
@@ -149,7 +149,7 @@ fn any_change(g: &mut Rng, routes: usize) -> Change {
     let byte = if g.pct(90) { g.below(12) } else { g.below(256) } as u8;
     let place = g.below(4) as u16;
     match g.below(5) {
-        0 => plan(g.below(9) as u8, place, byte),
+        0 => plan(g.below(11) as u8, place, byte),
         1 | 2 => line(g.below(9) as u8, place, byte),
         _ => route(g.below(routes.max(1)) as u8, g.below(12) as u8, place, byte),
     }

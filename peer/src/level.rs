@@ -1,2 +1,8 @@
 /// The level that the box is held to: so many of the requests of document 02 have landed, L1 and on; 0 is document 01.
-pub const LEVEL: u32 = 0;
+pub const LEVEL: u32 = 1;
+
+/// The last kind of event at that level.
+pub const LAST_KIND: u32 = 14;
+
+/// The refusals of events that those requests have added to 1 to 18.
+pub const ADDED: [u32; 3] = [30, 34, 35];

@@ -5,6 +5,7 @@ mod commands;
 mod examples;
 mod fuzz;
 mod hand_cases;
+mod head_cases;
 mod judge;
 mod layout;
 mod lbox;
@@ -19,8 +20,9 @@ mod runs;
 
 use std::io::Write;
 
-fn join(p: &[u8]) -> String {
-    p.iter().map(|x| x.to_string()).collect::<Vec<_>>().join(" ")
+/// A panel's bytes, each after a space.
+fn spaced(p: &[u8]) -> String {
+    p.iter().map(|x| format!(" {x}")).collect()
 }
 
 fn slurp(p: &str) -> Vec<u8> {
@@ -51,7 +53,7 @@ fn walk(lf: &[u8], ef: &[u8], trace: bool, fitted: &[usize], v: &lbox::Var, out:
     l.fitted = fitted.to_vec();
     let mut s = lbox::cold(&l);
     if trace {
-        writeln!(out, "0 0 0 | {}", join(&lbox::panel(&l, &s, v)))?;
+        writeln!(out, "0 0 0 |{}", spaced(&lbox::panel(&l, &s, v)))?;
     } else {
         writeln!(out, "event answer detail")?;
     }
@@ -75,7 +77,7 @@ fn walk(lf: &[u8], ef: &[u8], trace: bool, fitted: &[usize], v: &lbox::Var, out:
         s = t;
         let mark = if v.n >= 11 && old && e[0] == 7 && e[2] == 2 && (a == 0 || !v.l11_old_only_done) && !((a == 2 || a == 18) && v.l11_old_reached) { " old" } else { "" };
         if trace {
-            writeln!(out, "{} {} {}{} | {}", n, a, d, mark, join(&lbox::panel(&l, &s, &v)))?;
+            writeln!(out, "{} {} {}{} |{}", n, a, d, mark, spaced(&lbox::panel(&l, &s, &v)))?;
         } else {
             writeln!(out, "{} {} {}{}", n, a, d, mark)?;
         }

@@ -1,7 +1,7 @@
 // Records as the box holds them, tables of fixed size: one byte can be changed by hand to what no file and no event would bring there.
 use crate::examples::{one_section_each, version_1};
 use crate::layout::{self, Layout, Line, Route};
-use crate::lbox::{self, State};
+use crate::lbox::{self, Axle, Head, State};
 use crate::level::LEVEL;
 
 /// The fields of one record, in the order in which the box declares them; one that is no table has one place.
@@ -78,7 +78,7 @@ impl Plan {
         routes.resize(48, route_fields(&Route::default()));
         let own = vec![
             one(l.nsec), one(l.own.len()), table(l.own.iter().copied(), 32, 0), one(l.nsig), one(l.lines.len()), vec![], one(l.routes.len()), vec![],
-            conflict,
+            conflict, table((0..64).map(|g| l.fitted.contains(&g) as usize), 64, 0), one(!l.sound() as usize),
         ];
         Plan { own, lines, routes }
     }
@@ -96,10 +96,18 @@ impl Plan {
         self.own[6][0] as usize
     }
 
-    /// The layout, where the record is as section 2 has it.
+    /// The sections with heads, of those that the layout has.
+    pub fn fitted(&self) -> Vec<usize> {
+        (0..self.sections().min(64)).filter(|&g| self.own[9][g] == 1).collect()
+    }
+
+    /// The layout, where the record is as section 2 has it, each section has heads or not, and none is lacking (L1).
     pub fn sound(&self) -> Option<Layout> {
         let (n, m) = (self.line_count(), self.route_count());
         if self.points() > 32 || n > 8 || m > 48 {
+            return None;
+        }
+        if self.own[9].iter().take(self.sections()).any(|&has| has > 1) || self.own[10][0] != 0 {
             return None;
         }
         let listed = |a: usize, b: usize| self.own[8][48 * a + b];
@@ -117,7 +125,8 @@ impl Plan {
             conf: (0..m).flat_map(|a| (a + 1..m).map(move |b| (a, b))).filter(|&(a, b)| listed(a, b) == 1).collect(),
             ..version_1()
         };
-        layout::load(&layout::encode(&l), LEVEL).ok()
+        let sound = layout::load(&layout::encode(&l), LEVEL).ok()?;
+        Some(Layout { fitted: self.fitted(), ..sound })
     }
 }
 
@@ -155,7 +164,26 @@ fn route_of(f: &Fields) -> Option<Route> {
     })
 }
 
-/// The tables of a state: section, point, order, phase, step, second, direction, stage, bar. A route at proceed is in phase 1, one locked and
+/// The heads of a section in sixteen bytes: of each head axles in, axles out, and a flag for each; the sum at the last reset; 0 no reset, 1 not
+/// proved since, 2 proved.
+fn head_bytes(x: &Axle) -> [u8; 16] {
+    let count = |n: u16, has: bool| if has { n.to_le_bytes() } else { [0, 0] };
+    let head = |h: &Head| {
+        let ([a, b], [c, d]) = (count(h.cin, h.got_in), count(h.cout, h.got_out));
+        [a, b, c, d, h.got_in as u8, h.got_out as u8]
+    };
+    let proof = x.reset as u8 + (x.reset && x.proved) as u8;
+    [&head(&x.h[0])[..], &head(&x.h[1]), &x.base.to_le_bytes(), &[proof, 0]].concat().try_into().expect("sixteen bytes")
+}
+
+/// The heads that sixteen bytes are. A flag that is not 1 says that the count has not come, and without a reset nothing is proved.
+pub fn heads_of(b: &[u8]) -> Axle {
+    let two = |k: usize| u16::from_le_bytes([b[k], b[k + 1]]);
+    let head = |k: usize| Head { cin: two(k), cout: two(k + 2), got_in: b[k + 4] == 1, got_out: b[k + 5] == 1 };
+    Axle { h: [head(0), head(6)], base: two(12), reset: [1, 2].contains(&two(14)), proved: two(14) == 2 }
+}
+
+/// The tables of a state: section, point, order, phase, step, second, direction, stage, bar, heads. A route at proceed is in phase 1, one locked and
 /// fallen in 2, one cancelling in 3.
 pub fn tables(l: &Layout, s: &State) -> Fields {
     let bytes = |xs: &[u8], n: usize, fill: u8| table(xs.iter().map(|&x| x as usize), n, fill);
@@ -175,11 +203,25 @@ pub fn tables(l: &Layout, s: &State) -> Fields {
     vec![
         bytes(&s.sec, 64, lbox::NONE), bytes(&s.pt, 32, lbox::NONE), bytes(&s.order, 32, 0), table((0..s.rt.len()).map(phase), 48, 0),
         table(s.rt.iter().map(|r| r.step as usize), 48, 0), table(s.rt.iter().map(|r| r.secs as usize), 48, 0),
-        table(s.ln.iter().map(|x| x.dir as usize), 8, 0), stage, bar,
+        table(s.ln.iter().map(|x| x.dir as usize), 8, 0), stage, bar, table(s.ax.iter().flat_map(head_bytes).map(usize::from), 1024, 0),
     ]
 }
 
-/// The lowest and the highest code of each table of a state.
+/// The state that the tables of sections and of heads are, where all else is as at the cold start.
+pub fn with_readings(l: &Layout, t: &Fields) -> State {
+    let mut s = lbox::cold(l);
+    for g in 0..l.nsec {
+        s.sec[g] = t[SECTION][g];
+        s.ax[g] = heads_of(&t[HEADS][16 * g..]);
+    }
+    s
+}
+
+/// Two tables of a state.
+pub const SECTION: usize = 0;
+pub const HEADS: usize = 9;
+
+/// The lowest and the highest code of each table of a state but for its heads, of which no value is out of range.
 pub const CODES: [(u8, u8); 9] = [(1, 3), (1, 3), (0, 2), (0, 3), (0, 3), (0, 89), (0, 2), (0, 3), (0, 1)];
 
 /// No code of a state is outside its range.

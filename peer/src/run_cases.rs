@@ -3,8 +3,8 @@ use crate::examples::*;
 use crate::fuzz::{damage, gen_events, gen_layout, Rng};
 use crate::layout::{self, encode, Layout};
 use crate::lbox::{self, Var};
-use crate::level::LEVEL;
-use crate::runs::{Event, Runs};
+use crate::level::{LAST_KIND, LEVEL};
+use crate::runs::{form, Event, Runs};
 
 /// Numbers at the ends of what one, two and four bytes hold, and such as have a small number in their lowest bytes.
 pub const ODD: [u32; 20] = [
@@ -87,6 +87,7 @@ fn refusals(c: &mut Runs) {
     on_u(format!("{U0}(1 2 2)(4 0 0)"), (10, 2));
     on_u(format!("{U0}(1 2 2)(1 2 1)(7 0 1)(1 3 0)(6 0 2)"), (10, 3));
     on_u(format!("{U0}(8 0 0)(4 0 0)"), (11, 2));
+    on_u(format!("{U0}(4 0 0)(8 0 0)(9 0 0)(4 0 0)"), (4, 0));
     on_u(format!("{U0}(7 0 1)(8 0 1)(6 0 1)"), (11, 3));
     on_u(format!("{U0}(6 0 2)"), (12, 1));
     on_u(format!("{U0}(3 1 2)"), (16, 0));
@@ -97,14 +98,14 @@ fn refusals(c: &mut Runs) {
 
 // Events of every kind, and of kinds that there are not, with odd numbers.
 fn odd(c: &mut Runs, g: &mut Rng) {
-    for file in [&BRANCH_T[..], &BRANCH_U] {
+    for (file, fitted) in [(&BRANCH_T[..], &[][..]), (&BRANCH_U, &[]), (&BRANCH_T, &[0, 1])] {
         let mut e = events(if file.len() == 49 { P1 } else { U0 });
         for _ in 0..250 {
             let small = |g: &mut Rng, n: usize| if g.pct(50) { g.below(n) as u32 } else { ODD[g.below(20)] };
-            let kind = if g.pct(85) { g.below(12) as u32 } else { ODD[g.below(20)] };
+            let kind = if g.pct(85) { g.below(LAST_KIND as usize + 2) as u32 } else { ODD[g.below(20)] };
             e.push([kind, small(g, 3), small(g, 3)]);
         }
-        c.any(file, &[], &e);
+        c.any_fitted(file, fitted, &[], &e);
     }
     let any = |g: &mut Rng| (g.next() >> g.below(64)) as u32;
     for _ in 0..10 {
@@ -131,8 +132,7 @@ impl Weaver<'_> {
     // Something that comes back after some events.
     fn until(&mut self, now: Event, then: Event) {
         self.push(now);
-        let at = self.run.len() + self.g.below(12);
-        self.later.push((at, then));
+        self.soon(then);
     }
 
     // Of a number of objects one; now and then one that is not there.
@@ -148,6 +148,33 @@ impl Weaver<'_> {
                 return code;
             }
         }
+    }
+
+    // Something that comes after some events.
+    fn soon(&mut self, then: Event) {
+        let at = self.run.len() + self.g.below(12);
+        self.later.push((at, then));
+    }
+
+    // A section's wire dies and comes back; of one with heads a head falls silent, and tells its counts again.
+    fn dies(&mut self, section: u32, way: u32) {
+        if !self.l.fitted.contains(&(section as usize)) {
+            let code = self.dead();
+            self.until([1, section, code], [1, section, way]);
+            return;
+        }
+        let which = self.g.below(2);
+        let (head, told) = (2 * section + which as u32, self.state.ax[section as usize].h[which]);
+        self.until([13, head, 0], [11, head, told.cin as u32]);
+        self.soon([12, head, told.cout as u32]);
+    }
+
+    // A section with heads is reset, and two axles come in and go out at the other end.
+    fn reset(&mut self) {
+        let section = self.l.fitted[self.g.below(self.l.fitted.len())];
+        let (told, head) = (self.state.ax[section].h, 2 * section as u32);
+        self.until([14, section as u32, 0], [11, head, told[0].cin.wrapping_add(2) as u32]);
+        self.soon([12, head + 1, told[1].cout.wrapping_add(2) as u32]);
     }
 
     // A route that is locked is cancelled, and some seconds pass.
@@ -171,8 +198,8 @@ impl Weaver<'_> {
         let way = 1 + self.g.below(2) as u32;
         match self.g.below(12) {
             0..=3 => {
-                let (section, code) = (self.one(sections), self.dead());
-                self.until([1, section, code], [1, section, way]);
+                let section = self.one(sections);
+                self.dies(section, way);
             }
             4 => {
                 let (point, code) = (self.one(points), self.dead());
@@ -196,9 +223,10 @@ impl Weaver<'_> {
                 let line = self.one(lines);
                 self.push([6, line, way]);
             }
+            11 if !self.l.fitted.is_empty() => self.reset(),
             _ => {
                 let (first, second) = (ODD[self.g.below(20)], ODD[self.g.below(20)]);
-                let kind = self.g.below(13) as u32;
+                let kind = self.g.below(LAST_KIND as usize + 2) as u32;
                 self.push([kind, first, second]);
             }
         }
@@ -223,24 +251,26 @@ fn woven(g: &mut Rng, l: &Layout, length: usize, each: usize) -> Vec<Event> {
 
 // Random layouts, and the largest ones.
 fn random(c: &mut Runs, g: &mut Rng) {
-    for n in 0..240 {
+    for n in 0..200 {
         let l = gen_layout(g, n % 3 == 0, LEVEL);
         let length = 10 + g.below(40);
-        c.any(&encode(&l), &[], &woven(g, &l, length, 5));
+        c.any_fitted(&encode(&l), &form(&l.fitted), &[], &woven(g, &l, length, 5));
     }
-    for _ in 0..12 {
+    for _ in 0..8 {
         let l = gen_layout(g, false, LEVEL);
         let length = 300 + g.below(200);
-        c.any(&encode(&l), &[], &woven(g, &l, length, 10));
+        c.any_fitted(&encode(&l), &form(&l.fitted), &[], &woven(g, &l, length, 10));
     }
     for l in [all_must_conflict(), few_must_conflict(), none_must_conflict(), none_must_conflict_on_lines(), most_blocks()] {
         c.any(&encode(&l), &[], &woven(g, &l, 120, 8));
     }
+    let l = Layout { fitted: (0..64).collect(), ..most_blocks() };
+    c.any_fitted(&encode(&l), &form(&l.fitted), &[], &woven(g, &l, 120, 8));
 }
 
 // Files that are refused: every event on them gets 18.
 fn refused(c: &mut Runs, g: &mut Rng) {
-    let every_kind: Vec<Event> = (0..12).map(|kind| [kind, 0, 1]).collect();
+    let every_kind: Vec<Event> = (0..=LAST_KIND + 1).map(|kind| [kind, 0, 1]).collect();
     let mut files: Vec<Vec<u8>> = vec![vec![], BRANCH_T[..48].to_vec()];
     while files.len() < 12 {
         let file = damage(g, LEVEL);

@@ -1,13 +1,14 @@
 // Records changed by hand: one byte of a layout or a state made anew, also to what no file and no event would bring there.
+use super::heads;
+use super::tracks::changed_line;
+use super::tracks::changed_route;
 use interlocking::State;
 use layout::Layout;
-use track::Line;
-use track::Route;
 use track::sizes::MOST_LINES;
 use track::sizes::MOST_TRAIN_ROUTES;
 
 // A change: record 0 the layout, 1 the state, 2 a line, 3 a route; which line or route; which field, counted from 0 as the record declares them;
-// which place, where the field is a table; the byte. A number, field or place that there is not changes nothing.
+// which place, where the field is a table; the byte. In the table of heads a place is a byte. A number, field or place that there is not changes nothing.
 pub struct Change {
     pub record: u8,
     pub number: u8,
@@ -23,7 +24,7 @@ pub struct Records {
 }
 
 // Puts a byte at a place of a table; past its end nothing is changed.
-fn put(table: &mut [u8], place: usize, byte: u8) {
+pub fn put(table: &mut [u8], place: usize, byte: u8) {
     if place < table.len() {
         table[place] = byte;
     }
@@ -92,113 +93,6 @@ fn changed_blocks(given: State, c: Change) -> State {
     t
 }
 
-// A line with a number changed.
-fn changed_line(given: Line, c: Change) -> Line {
-    let mut t = given;
-    if c.field == 0 {
-        t.blocks = c.byte;
-    }
-    if c.field == 1 {
-        let mut xs = given.block;
-        put(&mut xs, c.place, c.byte);
-        t.block = xs;
-    }
-    if c.field == 2 {
-        t.innera = c.byte;
-    }
-    if c.field == 3 {
-        t.innerb = c.byte;
-    }
-    if c.field == 4 {
-        t.entrancea = c.byte;
-    }
-    if c.field == 5 {
-        t.entranceb = c.byte;
-    }
-    if c.field == 6 {
-        t.points = c.byte;
-    }
-    t
-}
-
-// A line with a point or a position changed.
-fn changed_line_points(given: Line, c: Change) -> Line {
-    let mut t = given;
-    if c.field == 7 {
-        let mut xs = given.point;
-        put(&mut xs, c.place, c.byte);
-        t.point = xs;
-    }
-    if c.field == 8 {
-        let mut xs = given.position;
-        put(&mut xs, c.place, c.byte);
-        t.position = xs;
-    }
-    t
-}
-
-// A route with a number changed.
-fn changed_route(given: Route, c: Change) -> Route {
-    let mut t = given;
-    if c.field == 0 {
-        t.entry = c.byte;
-    }
-    if c.field == 1 {
-        t.kind = c.byte;
-    }
-    if c.field == 2 {
-        t.line = c.byte;
-    }
-    if c.field == 3 {
-        t.end = c.byte;
-    }
-    if c.field == 4 {
-        t.diverging = c.byte;
-    }
-    if c.field == 5 {
-        t.paths = c.byte;
-    }
-    if c.field == 7 {
-        t.overlaps = c.byte;
-    }
-    if c.field == 9 {
-        t.points = c.byte;
-    }
-    t
-}
-
-// A route with a section of its path or its overlap changed.
-fn changed_route_sections(given: Route, c: Change) -> Route {
-    let mut t = given;
-    if c.field == 6 {
-        let mut xs = given.path;
-        put(&mut xs, c.place, c.byte);
-        t.path = xs;
-    }
-    if c.field == 8 {
-        let mut xs = given.overlap;
-        put(&mut xs, c.place, c.byte);
-        t.overlap = xs;
-    }
-    t
-}
-
-// A route with a point or a position changed.
-fn changed_route_points(given: Route, c: Change) -> Route {
-    let mut t = given;
-    if c.field == 10 {
-        let mut xs = given.point;
-        put(&mut xs, c.place, c.byte);
-        t.point = xs;
-    }
-    if c.field == 11 {
-        let mut xs = given.position;
-        put(&mut xs, c.place, c.byte);
-        t.position = xs;
-    }
-    t
-}
-
 // A layout with a count changed.
 fn changed_counts(given: Layout, c: Change) -> Layout {
     let mut t = given;
@@ -217,10 +111,13 @@ fn changed_counts(given: Layout, c: Change) -> Layout {
     if c.field == 6 {
         t.routes = c.byte;
     }
+    if c.field == 10 {
+        t.lacking = c.byte;
+    }
     t
 }
 
-// A layout with a point's section or a conflict changed.
+// A layout with a point's section, a conflict or the heads of a section changed.
 fn changed_tables(given: Layout, c: Change) -> Layout {
     let mut t = given;
     if c.field == 2 {
@@ -233,6 +130,11 @@ fn changed_tables(given: Layout, c: Change) -> Layout {
         put(&mut xs, c.place, c.byte);
         t.conflict = xs;
     }
+    if c.field == 9 {
+        let mut xs = given.fitted;
+        put(&mut xs, c.place, c.byte);
+        t.fitted = xs;
+    }
     t
 }
 
@@ -243,8 +145,7 @@ fn changed_at_line(plan: Layout, c: Change) -> Layout {
     }
     let mut lines = plan.line;
     let a = lines[c.number as usize];
-    let b = changed_line(a, c);
-    lines[c.number as usize] = changed_line_points(b, c);
+    lines[c.number as usize] = changed_line(a, c);
     let mut t = plan;
     t.line = lines;
     t
@@ -257,9 +158,7 @@ fn changed_at_route(plan: Layout, c: Change) -> Layout {
     }
     let mut routes = plan.route;
     let a = routes[c.number as usize];
-    let b = changed_route(a, c);
-    let d = changed_route_sections(b, c);
-    routes[c.number as usize] = changed_route_points(d, c);
+    routes[c.number as usize] = changed_route(a, c);
     let mut t = plan;
     t.route = routes;
     t
@@ -287,7 +186,8 @@ fn changed_state(s: State, c: Change) -> State {
     }
     let a = changed_readings(s, c);
     let b = changed_routes(a, c);
-    changed_blocks(b, c)
+    let d = changed_blocks(b, c);
+    heads::changed_heads(d, c)
 }
 
 // Both with a change.

@@ -1,10 +1,14 @@
-// Plays each run of the archive `runs`. For each it writes a line with what loading the layout answers, and then a line for every sixteen events:
-// answer and detail of each, and the state after the last of them; the first line of a run has those that are left over.
-// In the archive a run is the length of its layout file and the file; the number of its changes by hand, and six bytes for each; the number of
-// its events, and three words of four bytes for each. Lengths and numbers take two bytes. All stand lowest byte first.
+// Plays each run of the archive `runs`. For each it writes a line with what loading the layout answers and, where sections are told as fitted, the
+// answer to that; then a line for every sixteen events: answer and detail of each, and the state after the last of them but for its heads; the first
+// line has those that are left over; and a line with the heads at the end, where a section has some.
+// In the archive a run is the length of its layout file and the file; the same of the file that tells the fitted sections; the number of its changes by
+// hand, and six bytes for each; the number of its events, and three words of four bytes for each. Lengths and numbers take two bytes. All stand lowest
+// byte first.
 mod by_hand;
+mod heads;
 mod states;
 mod text;
+mod tracks;
 
 use by_hand::Change;
 use by_hand::Records;
@@ -130,6 +134,17 @@ fn play_line(archive: i32, plan: Layout, s: State, n: usize) -> State {
     state
 }
 
+// Writes a line with the heads, where a section has some.
+fn end_run(plan: Layout, s: State) {
+    let mut room = io::buffer();
+    let line: &mut [u8] = &mut room;
+    let a = heads::put_heads(line, plan, s);
+    if a > 0 {
+        let b = put(line, a, b'\n');
+        text::write(line, b);
+    }
+}
+
 // Plays the events of a run.
 fn play(archive: i32, given: Records) {
     let plan = given.plan;
@@ -141,6 +156,7 @@ fn play(archive: i32, given: Records) {
         state = play_line(archive, plan, state, 16);
         left -= 1;
     }
+    end_run(plan, state);
 }
 
 // The records of a run with its changes by hand.
@@ -155,14 +171,41 @@ fn change_all(archive: i32, given: Records) -> Records {
     records
 }
 
+// Writes an answer with its detail.
+fn write_answer(number: u8, detail: usize) {
+    io::print_decimal(STDOUT_FILENO, number as u64);
+    io::write_all(STDOUT_FILENO, b" ");
+    io::print_decimal(STDOUT_FILENO, detail as u64);
+}
+
+// The layout with the sections that the next n bytes of the archive tell as fitted, with the answer written.
+fn equip_by(archive: i32, plan: Layout, n: usize, room: &mut [u8]) -> Layout {
+    if room.len() < n {
+        return plan;
+    }
+    io::read_full(archive, &mut room[0..n]);
+    let fitting = fitted::fit(plan, &room[0..n]);
+    io::write_all(STDOUT_FILENO, b" ");
+    write_answer(fitting.number, fitting.detail);
+    fitting.layout
+}
+
+// The same of the next file of the archive, where it has bytes.
+fn equip(archive: i32, plan: Layout) -> Layout {
+    let n = next_number(archive);
+    if n == 0 {
+        return plan;
+    }
+    let mut room = io::buffer();
+    equip_by(archive, plan, n, &mut room)
+}
+
 // Plays a run on a layout file.
 fn play_on(archive: i32, file: &[u8]) {
     let loaded = layout::load(file);
-    io::print_decimal(STDOUT_FILENO, loaded.number as u64);
-    io::write_all(STDOUT_FILENO, b" ");
-    io::print_decimal(STDOUT_FILENO, loaded.detail as u64);
+    write_answer(loaded.number, loaded.detail);
+    let plan = equip(archive, loaded.layout);
     io::write_all(STDOUT_FILENO, b"\n");
-    let plan = loaded.layout;
     let state = State::cold();
     let given = Records { plan, state };
     play(archive, change_all(archive, given));

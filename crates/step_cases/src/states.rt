@@ -1,4 +1,5 @@
 // States compared table by table, and written.
+use super::heads;
 use super::size;
 use super::text::put_codes;
 use check::same;
@@ -57,7 +58,7 @@ fn same_lines(s: State, t: State) -> bool {
 
 // Whether two states are the same.
 pub fn same_states(s: State, t: State) -> bool {
-    same_readings(s, t) && same_routes(s, t) && same_lines(s, t)
+    same_readings(s, t) && same_routes(s, t) && same_lines(s, t) && heads::same_heads(s, t)
 }
 
 // Puts the first n codes of a table of sections.
@@ -118,7 +119,7 @@ fn put_lines(line: &mut [u8], at: usize, plan: Layout, s: State) -> usize {
     put_blocks(line, b, bar, BLOCKS * n)
 }
 
-// Puts a state, as far as the layout has objects.
+// Puts a state but for its heads, as far as the layout has objects.
 pub fn put_state(line: &mut [u8], at: usize, plan: Layout, s: State) -> usize {
     let a = put_readings(line, at, plan, s);
     let b = put_routes(line, a, plan, s);
