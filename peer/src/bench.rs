@@ -3,9 +3,10 @@ use crate::examples::{eight_points, full, most_blocks, needed_pairs, one_section
 use crate::layout::{self, encode, Layout, Line, Route};
 use crate::lbox::{self, Var};
 use crate::level::LEVEL;
-use crate::records::tables;
+use crate::head_cases::proved;
+use crate::records::{tables, HEADS};
 use crate::run_cases::{events, P1};
-use crate::runs::Event;
+use crate::runs::{form, told, Event};
 
 /// The sum with one more number.
 fn mixed(sum: u64, x: u32) -> u64 {
@@ -18,9 +19,10 @@ fn read_events(path: &str) -> Vec<Event> {
     words.chunks_exact(3).map(|e| [e[0], e[1], e[2]]).collect()
 }
 
-/// Plays the events of PREFIX once and those of EVENTS so many times, and answers the sum over all answers and the last state.
-pub fn play(layout: &str, prefix: &str, run: &str, turns: u64, v: &Var) -> u64 {
-    let l = layout::load(&std::fs::read(layout).expect("a layout file"), v.n).expect("a sound layout");
+/// Plays the events of PREFIX once and those of EVENTS so many times, and answers the sum over all answers and the last state but for its heads.
+pub fn play([layout, fitted, prefix, run]: [&str; 4], turns: u64, v: &Var) -> u64 {
+    let mut l = layout::load(&std::fs::read(layout).expect("a layout file"), v.n).expect("a sound layout");
+    l.fitted = told(&std::fs::read(fitted).expect("a file of fitted sections"), v.n).expect("numbers");
     let (prefix, run) = (read_events(prefix), read_events(run));
     let (mut s, mut sum) = (lbox::cold(&l), 0);
     let mut one = |e: &Event| {
@@ -32,7 +34,7 @@ pub fn play(layout: &str, prefix: &str, run: &str, turns: u64, v: &Var) -> u64 {
     for _ in 0..turns {
         run.iter().for_each(&mut one);
     }
-    tables(&l, &s).iter().flatten().fold(sum, |sum, &code| mixed(sum, code as u32))
+    tables(&l, &s)[..HEADS].iter().flatten().fold(sum, |sum, &code| mixed(sum, code as u32))
 }
 
 // Two tables of a state.
@@ -43,6 +45,7 @@ const STAGE: usize = 7;
 struct Case {
     name: &'static str,
     layout: Vec<u8>,
+    fitted: Vec<usize>,
     prefix: Vec<Event>,
     events: Vec<Event>,
     // How many routes are at proceed and how many blocks are held in stage 1 after them.
@@ -53,7 +56,20 @@ struct Case {
 // Branch T: a train leaves on route 0 and arrives on route 1, and all is set anew.
 fn branch_t() -> Case {
     let train = "(1 0 2)(1 1 2)(1 0 1)(1 2 2)(1 3 2)(1 1 1)(1 2 1)(1 3 1)(6 0 1)(4 1 0)(4 0 0)";
-    Case { name: "branch_t", layout: BRANCH_T.to_vec(), prefix: events(P1), events: events(train), at_proceed: 2, in_stage_1: 0 }
+    Case { name: "branch_t", layout: BRANCH_T.to_vec(), fitted: vec![], prefix: events(P1), events: events(train), at_proceed: 2, in_stage_1: 0 }
+}
+
+// The same readings by the heads of sections that two axles have proved: two more come in, and it is as if they had not.
+fn by_counts(readings: &[Event]) -> Vec<Event> {
+    readings.iter().map(|&[kind, g, code]| if kind == 1 { [11, 2 * g, 2 * code] } else { [kind, g, code] }).collect()
+}
+
+// Branch T with heads everywhere, and the same train.
+fn branch_t_heads() -> Case {
+    let Case { layout, events: train, .. } = branch_t();
+    let mut prefix = proved(0..4);
+    prefix.extend(events("(2 0 1)(7 0 1)(6 0 1)(4 1 0)(4 0 0)"));
+    Case { name: "t_heads", layout, fitted: (0..4).collect(), prefix, events: by_counts(&train), at_proceed: 2, in_stage_1: 0 }
 }
 
 // All sections free, all points in the positions that every list has them in, all lines released by hand.
@@ -89,14 +105,22 @@ fn full_case() -> Case {
     let l = full_layout();
     let blocks: Vec<u32> = l.lines[4..].iter().flat_map(|x| x.blocks.iter().flatten().map(|&g| g as u32)).collect();
     let events = blocks.iter().flat_map(|&g| [[1, g, 2], [1, g, 1]]).collect();
-    Case { name: "full", layout: encode(&l), prefix: five_locked(&l), events, at_proceed: 5, in_stage_1: 0 }
+    Case { name: "full", layout: encode(&l), fitted: vec![], prefix: five_locked(&l), events, at_proceed: 5, in_stage_1: 0 }
+}
+
+// The same with heads everywhere.
+fn full_heads() -> Case {
+    let Case { layout, prefix: ready, events: readings, .. } = full_case();
+    let mut prefix = proved(0..64);
+    prefix.extend(ready.iter().filter(|e| e[0] != 1));
+    Case { name: "full_heads", layout, fitted: (0..64).collect(), prefix, events: by_counts(&readings), at_proceed: 5, in_stage_1: 0 }
 }
 
 // Orders of every kind on the same, granted and refused.
 fn orders_case() -> Case {
     let l = full_layout();
     let order = "(4 1 0)(4 7 0)(4 37 0)(5 9 0)(4 9 0)(5 9 0)(3 0 2)(3 31 1)(6 0 1)(6 5 1)(7 5 1)(7 0 1)(8 6 0)(6 6 1)(9 6 0)(2 0 1)(10 0 0)(1 40 1)";
-    Case { name: "orders", layout: encode(&l), prefix: five_locked(&l), events: events(order), at_proceed: 4, in_stage_1: 0 }
+    Case { name: "orders", layout: encode(&l), fitted: vec![], prefix: five_locked(&l), events: events(order), at_proceed: 4, in_stage_1: 0 }
 }
 
 // A route of the largest size but for its path.
@@ -128,7 +152,7 @@ fn held_case() -> Case {
     prefix.push([1, 1, 2]);
     let blocks: Vec<Event> = l.lines.iter().flat_map(|x| x.blocks.iter().flatten().rev().map(|&g| [1, g as u32, 2])).collect();
     prefix.extend(&blocks);
-    Case { name: "held", layout: encode(&l), prefix, events: blocks, at_proceed: 0, in_stage_1: 62 }
+    Case { name: "held", layout: encode(&l), fitted: vec![], prefix, events: blocks, at_proceed: 0, in_stage_1: 62 }
 }
 
 // Locked: the most routes that can be at proceed on eight secured lines of one block: 2 exit routes, 14 entrance routes, 13 inner ones.
@@ -146,7 +170,7 @@ fn locked_case() -> Case {
     prefix.extend((0..8).map(|k| [6, k, 1]));
     prefix.extend((0..29).map(|r| [4, r, 0]));
     let events = (58..64).flat_map(|g| [[1, g, 2], [1, g, 1]]).collect();
-    Case { name: "locked", layout: encode(&l), prefix, events, at_proceed: 29, in_stage_1: 0 }
+    Case { name: "locked", layout: encode(&l), fitted: vec![], prefix, events, at_proceed: 29, in_stage_1: 0 }
 }
 
 // Mixed: eight secured lines of three blocks, each with an exit route and an entrance route at proceed, and eight inner routes; the second and the
@@ -166,22 +190,23 @@ fn mixed_case() -> Case {
     prefix.extend((0..24).map(|r| [4, r, 0]));
     let held: Vec<Event> = l.lines.iter().flat_map(|x| [2, 1].map(|i| [1, x.blocks[i][0] as u32, 2])).collect();
     prefix.extend(&held);
-    Case { name: "mixed", layout: encode(&l), prefix, events: held, at_proceed: 24, in_stage_1: 16 }
+    Case { name: "mixed", layout: encode(&l), fitted: vec![], prefix, events: held, at_proceed: 24, in_stage_1: 16 }
 }
 
 fn words(events: &[Event]) -> Vec<u8> {
     events.iter().flatten().flat_map(|n| n.to_le_bytes()).collect()
 }
 
-/// Writes NAME.layout, NAME.prefix and NAME.events of each case, and prints its name and how many events it has.
+/// Writes NAME.layout, NAME.fitted, NAME.prefix and NAME.events of each case, and prints its name and how many events it has.
 pub fn files(folder: &str) {
-    for c in [branch_t(), full_case(), orders_case(), locked_case(), mixed_case(), held_case()] {
-        let l = layout::load(&c.layout, LEVEL).expect("a sound layout");
+    for c in [branch_t(), full_case(), orders_case(), locked_case(), mixed_case(), held_case(), branch_t_heads(), full_heads()] {
+        let l = Layout { fitted: c.fitted.clone(), ..layout::load(&c.layout, LEVEL).expect("a sound layout") };
         let after = c.prefix.iter().chain(&c.events).fold(lbox::cold(&l), |s, e| lbox::event(&l, &s, *e, &Var::at(LEVEL)).2);
         let count = |table: usize, code: u8| tables(&l, &after)[table].iter().filter(|&&x| x == code).count();
         assert_eq!((count(PHASE, 1), count(STAGE, 2)), (c.at_proceed, c.in_stage_1), "{}", c.name);
         let write = |part: &str, bytes: &[u8]| std::fs::write(format!("{folder}/{}.{part}", c.name), bytes).expect("write");
         write("layout", &c.layout);
+        write("fitted", &form(&c.fitted));
         write("prefix", &words(&c.prefix));
         write("events", &words(&c.events));
         println!("{} {}", c.name, c.events.len());

@@ -4,7 +4,7 @@ use crate::level::LEVEL;
 use crate::{bench, beside, cases, lengths, runs, slurp};
 
 pub const USAGE: &str = "beside PROGRAM [FIRST-SEED [COUNT [LENGTH]]] [max] | layouts DATA EXPECTED [SEED] | answers DATA | runs DATA EXPECTED [SEED] | \
-    played DATA | all-lengths | bench LAYOUT PREFIX EVENTS TURNS | bench-files FOLDER";
+    played DATA | all-lengths | bench LAYOUT FITTED PREFIX EVENTS TURNS | bench-files FOLDER";
 
 /// The number at a place of the words, or another where there is none.
 pub fn number(words: &[&str], place: usize, other: u64) -> u64 {
@@ -22,7 +22,9 @@ pub fn done(words: &[&str], v: &Var) -> bool {
         ["runs", data, expected, seed @ ..] => runs::store(data, expected, number(seed, 0, 1)),
         ["played", data] => print!("{}", runs::played(&slurp(data), v)),
         ["all-lengths"] => print!("{}", lengths::lines()),
-        ["bench", layout, prefix, events, turns] => println!("{}", bench::play(layout, prefix, events, number(&[turns], 0, 0), v)),
+        ["bench", layout, fitted, prefix, events, turns] => {
+            println!("{}", bench::play([layout, fitted, prefix, events], number(&[turns], 0, 0), v));
+        }
         ["bench-files", folder] => bench::files(folder),
         _ => return false,
     }

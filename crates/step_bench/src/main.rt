@@ -1,10 +1,12 @@
 // Plays events on a layout, so that they can be timed, and prints a sum over all answers and over the state that they lead to:
-//   step_bench LAYOUT PREFIX EVENTS TURNS step|run
-// loads a layout file and plays, from the cold state, the events of PREFIX once and those of EVENTS so many times. By `step` each event asks
-// soundness; by `run` it is asked once before the first. An event is three words of four bytes, lowest byte first. Of a file the first 65,536
-// bytes are read.
-use interlocking::Answer;
+//   step_bench LAYOUT FITTED PREFIX EVENTS TURNS step|run
+// loads a layout file with the sections that FITTED tells and plays, from the cold state, the events of PREFIX once and those of EVENTS so many times.
+// By `step` each event asks soundness; by `run` it is asked once before the first, and the nine tables and the heads go apart, so that an event copies
+// only the heads that it names (request L1). An event is three words of four bytes, lowest byte first. Of a file the first 65,536 bytes are read.
 use interlocking::State;
+use interlocking::parts::core_of;
+use interlocking::parts::head_place;
+use interlocking::parts::whole;
 use layout::Layout;
 use libc::STDERR_FILENO;
 use libc::STDOUT_FILENO;
@@ -14,6 +16,13 @@ ghost use Prim.Native.Nat.{_≤_};
 struct Played {
     state: State,
     sum: u64,
+}
+
+// An event: its kind and its two numbers.
+struct Event {
+    kind: u32,
+    first: u32,
+    second: u32,
 }
 
 // A byte, as a number to count with.
@@ -33,55 +42,87 @@ fn mixed(sum: u64, x: u32) -> u64 {
     31 * (sum % 1000000007) + x as u64
 }
 
-// The answer to an event, by one step or the other.
-fn answer(plan: Layout, asking: bool, s: State, kind: u32, first: u32, second: u32) -> Answer {
-    if asking {
-        return s.step(plan, kind, first, second);
-    }
-    s.step_in_run(plan, kind, first, second)
-}
-
-// Plays an event.
-fn play_event(plan: Layout, asking: bool, e: &[u8], given: Played) -> Played {
+// The event that twelve bytes are; of fewer none.
+fn event_of(e: &[u8]) -> Event {
     if e.len() < 12 {
-        return given;
+        return Event {
+            kind: 0,
+            first: 0,
+            second: 0,
+        };
     }
     let kind = word(e[0], e[1], e[2], e[3]);
     let first = word(e[4], e[5], e[6], e[7]);
     let second = word(e[8], e[9], e[10], e[11]);
-    let s = given.state;
-    let r = answer(plan, asking, s, kind, first, second);
-    let state = r.next;
-    let sum = mixed(mixed(given.sum, r.number as u32), r.detail);
-    Played { state, sum }
+    Event {
+        kind,
+        first,
+        second,
+    }
 }
 
-// Plays the events of a file.
-fn play(plan: Layout, asking: bool, events: &[u8], given: Played) -> Played {
-    let mut played = given;
+// Plays the events of a file, each with soundness asked.
+fn play_steps(plan: Layout, events: &[u8], given: Played) -> Played {
+    let mut state = given.state;
+    let mut sum = given.sum;
     let mut at = 0;
     while at < events.len() {
         if events.len() - at < 12 {
-            return played;
+            return Played { state, sum };
         }
-        played = play_event(plan, asking, &events[at..], played);
+        let e = event_of(&events[at..]);
         at += 12;
+        let r = state.step(plan, e.kind, e.first, e.second);
+        state = r.next;
+        sum = mixed(mixed(sum, r.number as u32), r.detail);
     }
-    played
+    Played { state, sum }
 }
 
-// Plays the events of a file so many times.
-fn play_turns(plan: Layout, asking: bool, events: &[u8], turns: u64, given: Played) -> Played {
+// The same so many times.
+fn play_steps_turns(plan: Layout, events: &[u8], turns: u64, given: Played) -> Played {
     let mut played = given;
     let mut left = turns;
     while left > 0 {
-        played = play(plan, asking, events, played);
+        played = play_steps(plan, events, played);
         left -= 1;
     }
     played
 }
 
-// Plays the first n bytes of a file so many times.
+// Plays the events of a file so many times in a run.
+fn play_run_turns(plan: Layout, events: &[u8], turns: u64, given: Played) -> Played {
+    let s = given.state;
+    let mut core = core_of(s);
+    let mut axles = s.axles;
+    let mut sum = given.sum;
+    let mut left = turns;
+    while left > 0 {
+        let mut at = 0;
+        while at < events.len() {
+            if events.len() - at < 12 {
+                return Played {
+                    state: whole(core, axles),
+                    sum,
+                };
+            }
+            let e = event_of(&events[at..]);
+            at += 12;
+            let place = head_place(e.kind, e.first);
+            let heads = axles[place];
+            let r = core.step_in_run(heads, plan, e.kind, e.first, e.second);
+            core = r.next;
+            let then = r.heads;
+            axles[place] = then;
+            sum = mixed(mixed(sum, r.number as u32), r.detail);
+        }
+        left -= 1;
+    }
+    let state = whole(core, axles);
+    Played { state, sum }
+}
+
+// Plays the whole events in the first n bytes of a file so many times.
 fn play_file(
     plan: Layout,
     asking: bool,
@@ -93,7 +134,10 @@ fn play_file(
     if file.len() < n {
         return given;
     }
-    play_turns(plan, asking, &file[0..n], turns, given)
+    if asking {
+        return play_steps_turns(plan, &file[0..n - n % 12], turns, given);
+    }
+    play_run_turns(plan, &file[0..n - n % 12], turns, given)
 }
 
 // Reads the file that an argument names into the room lent, and answers how many bytes there are.
@@ -127,11 +171,27 @@ fn layout_of(file: &[u8], n: usize) -> Layout {
     loaded.layout
 }
 
+// The layout with the sections that the first n bytes of a file tell as fitted.
+fn equipped(plan: Layout, file: &[u8], n: usize) -> Layout {
+    if file.len() < n {
+        return plan;
+    }
+    let fitting = fitted::fit(plan, &file[0..n]);
+    fitting.layout
+}
+
 // The layout in the file that an argument names.
 fn layout_named(argument: usize) -> Layout {
     let mut room = io::large_buffer();
     let n = read_named(argument, &mut room);
     layout_of(&room, n)
+}
+
+// The layout with the sections that the file that an argument names tells as fitted.
+fn equipped_named(plan: Layout, argument: usize) -> Layout {
+    let mut room = io::large_buffer();
+    let n = read_named(argument, &mut room);
+    equipped(plan, &room, n)
 }
 
 // A number with one more digit; other bytes than digits leave it as it was.
@@ -192,7 +252,7 @@ fn mixed_half(sum: u64, s: State) -> u64 {
     mixed_codes(d, &step)
 }
 
-// The sum with all the codes of a state.
+// The sum with all the codes of a state but for its heads.
 fn mixed_state(sum: u64, s: State) -> u64 {
     let second = s.seconds;
     let direction = s.direction;
@@ -207,10 +267,10 @@ fn mixed_state(sum: u64, s: State) -> u64 {
 
 // Plays what the arguments name, from a state on.
 fn play_arguments(plan: Layout, state: State) {
-    let asking = begins_with(5, b's');
-    let turns = number_named(4);
-    let first = play_named(plan, asking, 2, 1, Played { state, sum: 0 });
-    let played = play_named(plan, asking, 3, turns, first);
+    let asking = begins_with(6, b's');
+    let turns = number_named(5);
+    let first = play_named(plan, asking, 3, 1, Played { state, sum: 0 });
+    let played = play_named(plan, asking, 4, turns, first);
     let last = played.state;
     io::print_decimal(STDOUT_FILENO, mixed_state(played.sum, last));
     io::write_all(STDOUT_FILENO, b"\n");
@@ -218,14 +278,14 @@ fn play_arguments(plan: Layout, state: State) {
 
 // The layout first: events on one that is not sound are not timed.
 fn main() {
-    if os::arg_count() != 6 {
+    if os::arg_count() != 7 {
         io::write_all(
             STDERR_FILENO,
-            b"usage: step_bench LAYOUT PREFIX EVENTS TURNS step|run\n",
+            b"usage: step_bench LAYOUT FITTED PREFIX EVENTS TURNS step|run\n",
         );
         return;
     }
-    let plan = layout_named(1);
+    let plan = equipped_named(layout_named(1), 2);
     let state = State::cold();
     if !(plan.sound() & state.in_range()) {
         io::write_all(STDERR_FILENO, b"the layout is not sound\n");
