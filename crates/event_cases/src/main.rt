@@ -1,6 +1,7 @@
 // Plays every event file of an archive on its layout, and prints what section 8 says of each: event_cases ARCHIVE
-// The archive is entries: a byte, 2 for a layout file, 1 for an event file of which the panels are to be printed and 0 for one without; the
-// file's length in two bytes, lowest first; and the file. An event file is played on the layout before it; a refused layout prints its line.
+// The archive is entries: a byte, 3 for a file of fitted sections, 2 for a layout file, 1 for an event file of which the panels are to be printed and 0
+// for one without; the file's length in two bytes, lowest first; and the file. An event file is played on the layout before it, with the sections that
+// are told as fitted between; a refused layout prints its line.
 use interlocking::State;
 use layout::Layout;
 use libc::STDERR_FILENO;
@@ -64,25 +65,42 @@ fn refuse(number: u8, detail: usize) {
     print_first(&out, end);
 }
 
-// The layout after the entry at a place: its own, where it is a layout file.
-fn layout_after(before: Layout, archive: &[u8], at: usize) -> Layout {
-    let from = sum(at, 3);
-    let to = entry_end(archive, at);
-    if byte_at(archive, at) != 2 || archive.len() < to || to < from {
-        return before;
-    }
-    let loaded = layout::load(&archive[from..to]);
+// The layout of a file.
+fn layout_of(file: &[u8]) -> Layout {
+    let loaded = layout::load(file);
     if loaded.number != 0 {
         refuse(loaded.number, loaded.detail);
     }
     loaded.layout
 }
 
+// The layout with the fitted sections of a file.
+fn equipped(layout: Layout, file: &[u8]) -> Layout {
+    let fitting = fitted::fit(layout, file);
+    fitting.layout
+}
+
+// The layout after the entry at a place: its own, where it is a layout file, and with its sections, where it is a file of fitted ones.
+fn layout_after(before: Layout, archive: &[u8], at: usize) -> Layout {
+    let from = sum(at, 3);
+    let to = entry_end(archive, at);
+    if archive.len() < to || to < from {
+        return before;
+    }
+    if byte_at(archive, at) == 2 {
+        return layout_of(&archive[from..to]);
+    }
+    if byte_at(archive, at) == 3 {
+        return equipped(before, &archive[from..to]);
+    }
+    before
+}
+
 // The entry at a place is played, where it is an event file.
 fn play_at(layout: Layout, archive: &[u8], at: usize) {
     let from = sum(at, 3);
     let to = entry_end(archive, at);
-    if byte_at(archive, at) == 2 || archive.len() < to || to < from {
+    if byte_at(archive, at) > 1 || archive.len() < to || to < from {
         return;
     }
     play(byte_at(archive, at) == 1, layout, &archive[from..to]);
