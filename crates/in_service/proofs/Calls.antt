@@ -1,6 +1,6 @@
 -- After any calls what is demanded holds of what they told: their log is the history of the run that the records are in.
 use Prim.Native.Nat.{ℕ, _≤_}
-use mathlib.Core.Path.{_≡_, refl, sym, ap, _∙_, subst}
+use mathlib.Core.Path.{_≡_, refl, sym, ap, _∙_}
 use mathlib.Core.Bool.{Bool, true, false}
 use mathlib.Core.Logic.{_⊎_, inl, inr}
 use mathlib.Core.List.{List, [], _∷_, _++_}
@@ -12,7 +12,10 @@ use Rattle.layout.specs.declared.Layout.{Layout}
 use Rattle.layout.specs.Layout.{noLayout}
 use Rattle.layout.specs.Load.{load}
 use Rattle.layout.specs.Sound.{sound}
-use Rattle.layout_facts.proofs.Loaded.{loaded-sound}
+use Rattle.fitted.specs.Numbers.{numbersOf}
+use Rattle.fitted.specs.Fitted.{equipped, fit}
+use Rattle.fitted.specs.InUse.{InUse}
+use Rattle.fitted.proofs.InUse.{in-use-sound}
 use Rattle.interlocking.specs.declared.State.{State}
 use Rattle.interlocking.specs.State.{cold, inRange}
 use Rattle.interlocking.specs.Step.{step}
@@ -22,16 +25,17 @@ use Rattle.step_facts.specs.Run.{Event, event, box, fromCold}
 use Rattle.step_facts.proofs.Step.{step-in-range}
 use Rattle.step_facts.proofs.Run.{cold-run-in-range}
 use Rattle.event_file.proofs.Shown.{drawn-whole}
-use Rattle.cabinet.specs.Calls.{Records, records, Call, powerOn, loadFile, giveEvent, drawPanel, afterLoad, afterCall, recordsAfter, Told, ofEvent, ofPanel, tells}
-use Rattle.cabinet.specs.Runs.{eventsSince, OfFile, Waits}
+use Rattle.cabinet.specs.Calls.{Records, records, Call, powerOn, loadFile, fitSections, giveEvent, drawPanel, afterFile, afterLoad, afterFit, afterCall, recordsAfter, Told, ofEvent, ofPanel, tells}
+use Rattle.cabinet.specs.Runs.{eventsSince, loadedAfter, toldAfter, layoutAfter, Lacking, Waits}
+use Rattle.cabinet.proofs.Fit.{fit-number}
 use Rattle.cabinet.proofs.Runs.{in-run, waits}
 use Rattle.safety.specs.History.{Moment, History, Throughout, moment, goesOn, history}
 use Rattle.safety.specs.Grants.{AcceptedJust}
 use Rattle.safety.proofs.Passing.{on-with}
-use Rattle.safety.proofs.Grants.{accepts-exactly}
-use Rattle.in_service.specs.Demands.{lastImage, Demanded}
+use Rattle.safety.proofs.Grants.{accepts-run}
+use Rattle.in_service.specs.Demands.{lastImage, Demanded, Unserved}
 use Rattle.in_service.specs.Calls.{drawnThen, logOf, EveryCall}
-use Rattle.in_service.proofs.Demands.{last-shown, run-demanded, Unserved, none-demanded}
+use Rattle.in_service.proofs.Demands.{last-shown, run-demanded, none-demanded}
 
 -- so many of the first elements as the first list has are that list
 take-first : (xs ys : List ℕ) → take (length xs) (xs ++ ys) ≡ xs
@@ -44,29 +48,36 @@ unfolding history fromCold goesOn
 history-on L es e = on-with L (box L) cold [] es (e ∷ [])
 
 module _ (buffer : List ℕ) where
-  -- ---- no layout: every event got 18, and nothing was drawn
-
-  -- a layout file: accepted, the log begins anew; refused, it goes on
-  file-waits : (bytes : List ℕ) (cs : List Call) → (recordsAfter cs .layout ≡ noLayout → Throughout Unserved (logOf buffer cs))
-      → (t : Bool) → eqb (load bytes .number) 0 ≡ t → afterLoad (recordsAfter cs) (load bytes) .layout ≡ noLayout
-      → Throughout Unserved (if eqb (load bytes .number) 0 then [] else logOf buffer cs)
-  unfolding Throughout afterLoad if_then_else_
-  file-waits bytes cs rest true q e = rw q tt
-  file-waits bytes cs rest false q e = rw q (rest (rw q at e))
+  -- ---- something is lacking: every event got 18, and nothing was drawn
 
   -- records that wait draw nothing
   none-drawn : (r : Records) → Waits r → drawnThen buffer r ≡ []
   unfolding drawnThen
   none-drawn r w = rw (w .panels buffer)
 
-  log-waits : (cs : List Call) → recordsAfter cs .layout ≡ noLayout → Throughout Unserved (logOf buffer cs)
-  unfolding logOf Throughout recordsAfter afterCall
-  log-waits [] e = tt
-  log-waits (powerOn ∷ cs) e = tt
-  log-waits (loadFile bytes ∷ cs) e = file-waits bytes cs (log-waits cs) (eqb (load bytes .number) 0) refl e
-  log-waits (giveEvent k a b ∷ cs) e =
-      ((ap (λ (t : Told). t .number) (waits cs e .events k a b), none-drawn _ (waits (giveEvent k a b ∷ cs) e)), log-waits cs e)
-  log-waits (drawPanel other ∷ cs) e = log-waits cs e
+  -- a layout file: accepted, the log begins anew; refused, it goes on
+  file-waits : (bytes : List ℕ) (cs : List Call) → (Lacking cs → Throughout Unserved (logOf buffer cs))
+      → (t : Bool) → eqb (load bytes .number) 0 ≡ t → Lacking (loadFile bytes ∷ cs) → Throughout Unserved (logOf buffer (loadFile bytes ∷ cs))
+  unfolding Throughout logOf Lacking loadedAfter toldAfter if_then_else_
+  file-waits bytes cs rest true q l = rw q tt
+  file-waits bytes cs rest false q l = rw q (rest (rw q at l))
+
+  -- so does a file of fitted sections
+  fit-waits : (bytes : List ℕ) (cs : List Call) → (Lacking cs → Throughout Unserved (logOf buffer cs))
+      → (t : Bool) → eqb (numbersOf bytes .fault) 0 ≡ t → Lacking (fitSections bytes ∷ cs) → Throughout Unserved (logOf buffer (fitSections bytes ∷ cs))
+  unfolding Throughout logOf Lacking loadedAfter toldAfter if_then_else_
+  fit-waits bytes cs rest true q l = rw q tt
+  fit-waits bytes cs rest false q l = rw q (rest (rw q at l))
+
+  log-waits : (cs : List Call) → Lacking cs → Throughout Unserved (logOf buffer cs)
+  unfolding logOf Throughout Lacking loadedAfter toldAfter
+  log-waits [] l = tt
+  log-waits (powerOn ∷ cs) l = tt
+  log-waits (loadFile bytes ∷ cs) l = file-waits bytes cs (log-waits cs) (eqb (load bytes .number) 0) refl l
+  log-waits (fitSections bytes ∷ cs) l = fit-waits bytes cs (log-waits cs) (eqb (numbersOf bytes .fault) 0) refl l
+  log-waits (giveEvent k a b ∷ cs) l =
+      ((ap (λ (t : Told). t .number) (waits cs .0 l .events k a b), none-drawn _ (waits (giveEvent k a b ∷ cs) .0 l)), log-waits cs l)
+  log-waits (drawPanel other ∷ cs) l = log-waits cs l
 
   -- ---- on a sound layout the log is the history of the run
 
@@ -92,15 +103,27 @@ module _ (buffer : List ℕ) where
         → (sound (recordsAfter cs .layout) ≡ true → logOf buffer cs ≡ history (recordsAfter cs .layout) (eventsSince cs))
         → (t : Bool) → eqb (load bytes .number) 0 ≡ t → sound (recordsAfter (loadFile bytes ∷ cs) .layout) ≡ true
         → logOf buffer (loadFile bytes ∷ cs) ≡ history (recordsAfter (loadFile bytes ∷ cs) .layout) (eventsSince (loadFile bytes ∷ cs))
-    unfolding recordsAfter afterCall afterLoad logOf eventsSince history goesOn if_then_else_
+    unfolding recordsAfter afterCall afterLoad afterFile logOf eventsSince history goesOn if_then_else_
     file-told bytes cs rest true q ok = rw q
     file-told bytes cs rest false q ok = rw q (rest (rw q at ok))
+
+    -- so does a file of fitted sections
+    fit-told : (bytes : List ℕ) (cs : List Call)
+        → (sound (recordsAfter cs .layout) ≡ true → logOf buffer cs ≡ history (recordsAfter cs .layout) (eventsSince cs))
+        → (t : Bool) → eqb (numbersOf bytes .fault) 0 ≡ t → sound (recordsAfter (fitSections bytes ∷ cs) .layout) ≡ true
+        → logOf buffer (fitSections bytes ∷ cs) ≡ history (recordsAfter (fitSections bytes ∷ cs) .layout) (eventsSince (fitSections bytes ∷ cs))
+    unfolding recordsAfter afterCall afterFit afterFile logOf eventsSince history goesOn if_then_else_
+    fit-told bytes cs rest true q ok = rw q
+    fit-told bytes cs rest false q ok =
+        let z : eqb (fit (recordsAfter cs .layout) bytes .number) 0 ≡ false = ap (λ n. eqb n 0) (fit-number (recordsAfter cs .layout) bytes) ∙ q in
+        rw (z, q) (rest (rw z at ok))
 
     log-told : (cs : List Call) → sound (recordsAfter cs .layout) ≡ true → logOf buffer cs ≡ history (recordsAfter cs .layout) (eventsSince cs)
     unfolding recordsAfter afterCall logOf eventsSince history goesOn
     log-told [] ok = refl
     log-told (powerOn ∷ cs) ok = refl
     log-told (loadFile bytes ∷ cs) ok = file-told bytes cs (log-told cs) (eqb (load bytes .number) 0) refl ok
+    log-told (fitSections bytes ∷ cs) ok = fit-told bytes cs (log-told cs) (eqb (numbersOf bytes .fault) 0) refl ok
     log-told (giveEvent k a b ∷ cs) ok =
         let L : Layout = recordsAfter cs .layout in
         let s : State = recordsAfter cs .state in
@@ -114,34 +137,31 @@ module _ (buffer : List ℕ) where
 
     -- ---- so what is demanded holds of the log
 
-    -- an accepted layout is sound
-    is-sound : (cs : List Call) → OfFile (recordsAfter cs .layout) → sound (recordsAfter cs .layout) ≡ true
-    is-sound cs A = subst (λ (L : Layout). sound L ≡ true) (A .its) (loaded-sound (A .file) (A .done))
-
-    -- with no layout, or on an accepted one
-    demanded : (cs : List Call) → (recordsAfter cs .layout ≡ noLayout) ⊎ OfFile (recordsAfter cs .layout)
-        → Demanded (recordsAfter cs .layout) (logOf buffer cs)
-    demanded cs (inl e) = subst (λ (L : Layout). Demanded L (logOf buffer cs)) (sym e) (none-demanded (logOf buffer cs) (log-waits cs e))
-    demanded cs (inr A) =
-        let run = subst (λ (L : Layout). Demanded L (history L (eventsSince cs))) (A .its) (run-demanded (A .file) (A .done) (eventsSince cs)) in
-        subst (λ (h : History). Demanded (recordsAfter cs .layout) h) (sym (log-told cs (is-sound cs A))) run
+    -- with no layout, or on one in use
+    demanded : (cs : List Call) → (loadedAfter cs ≡ noLayout) ⊎ InUse (recordsAfter cs .layout) → Demanded (recordsAfter cs .layout) (logOf buffer cs)
+    unfolding Lacking layoutAfter
+    demanded cs (inl e) =
+        let none : recordsAfter cs .layout ≡ equipped (toldAfter cs) noLayout = in-run cs .layout ∙ ap (equipped (toldAfter cs)) e in
+        rw none (none-demanded (toldAfter cs) (logOf buffer cs) (log-waits cs (inl e)))
+    demanded cs (inr u) = rw (log-told cs (in-use-sound u)) (run-demanded _ (in-use-sound u) (eventsSince cs))
 
     -- each event was accepted just where there was what it asks
-    accepts : (cs : List Call) → OfFile (recordsAfter cs .layout) → Throughout (AcceptedJust (recordsAfter cs .layout)) (logOf buffer cs)
-    accepts cs A =
-        let run = subst (λ (L : Layout). Throughout (AcceptedJust L) (history L (eventsSince cs))) (A .its) (accepts-exactly (A .file) (A .done) (eventsSince cs)) in
-        subst (λ (h : History). Throughout (AcceptedJust (recordsAfter cs .layout)) h) (sym (log-told cs (is-sound cs A))) run
+    accepts : (cs : List Call) → InUse (recordsAfter cs .layout) → Throughout (AcceptedJust (recordsAfter cs .layout)) (logOf buffer cs)
+    accepts cs u = rw (log-told cs (in-use-sound u)) (accepts-run _ (in-use-sound u) (eventsSince cs))
 
     -- what is drawn now is the state's image, and that showed last
-    now : (cs : List Call) → OfFile (recordsAfter cs .layout)
-        → drawnThen buffer (recordsAfter cs) ≡ lastImage (recordsAfter cs .layout) (logOf buffer cs)
-    now cs A =
+    now : (cs : List Call) → InUse (recordsAfter cs .layout) → drawnThen buffer (recordsAfter cs) ≡ lastImage (recordsAfter cs .layout) (logOf buffer cs)
+    now cs u =
         let L : Layout = recordsAfter cs .layout in
         let same : recordsAfter cs .state ≡ fromCold L (eventsSince cs) = in-run cs .state in
         let ranged : inRange (recordsAfter cs .state) ≡ true = rw same (cold-run-in-range L (eventsSince cs)) in
-        drawn-then L (recordsAfter cs .state) (is-sound cs A) ranged ∙ ap (image L) same ∙ sym (last-shown L (eventsSince cs))
-        ∙ ap (lastImage L) (sym (log-told cs (is-sound cs A)))
+        drawn-then L (recordsAfter cs .state) (in-use-sound u) ranged ∙ ap (image L) same ∙ sym (last-shown L (eventsSince cs))
+        ∙ ap (lastImage L) (sym (log-told cs (in-use-sound u)))
 
 pub every-call : EveryCall
-every-call buffer enough cs =
-    record { demanded = demanded buffer enough cs (in-run cs .layout); accepts = accepts buffer enough cs; now = now buffer enough cs }
+every-call buffer enough cs = record {
+  demanded = demanded buffer enough cs;
+  accepts = accepts buffer enough cs;
+  now = now buffer enough cs;
+  unserved = λ l. (log-waits buffer cs l, none-drawn buffer _ (waits cs .0 l));
+}

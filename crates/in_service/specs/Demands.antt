@@ -30,3 +30,7 @@ pub record Demanded (L : Layout) (h : History) : Type 0 where
   pub exactLog : ExactLog L h
   pub stories : Throughout (NoStory L) h
   pub refusals : Throughout (RefusedKeeps L) h
+
+-- while something is lacking: an event was refused by 18, and nothing was drawn
+abbrev pub Unserved : Moment → History → Type 0
+Unserved m older = (m .number ≡ 18) × (m .image ≡ [])

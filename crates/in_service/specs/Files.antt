@@ -5,8 +5,10 @@ use mathlib.Core.Path.{_≡_}
 use mathlib.Core.Bool.{Bool}
 use mathlib.Core.List.{List, [], _∷_, _++_}
 use lib.ListN.{length}
+use Rattle.layout.specs.declared.Layout.{Layout}
 use Rattle.layout.specs.Load.{load}
-use Rattle.event_file.specs.List.{opening, printed}
+use Rattle.fitted.specs.Fitted.{fit}
+use Rattle.event_file.specs.List.{opening, printed, WellFitted}
 use Rattle.event_file.specs.Events.{ToldLine, eventsOf, endingOf, linesOf}
 use Rattle.safety.specs.History.{Moment, History, Throughout, history}
 use Rattle.safety.specs.Grants.{AcceptedJust}
@@ -21,14 +23,21 @@ unfoldable pub linesTold : History → List ToldLine
 linesTold [] = []
 linesTold (m ∷ h) = linesTold h ++ (lineTold (length (m ∷ h)) m ∷ [])
 
--- of a layout file that loads and an event file: the opening, a line for each event of the file in its order, answered in a run from the cold start, and
--- what ends the list; the history of that run is as demanded, and each event was accepted just where there was what it asks
-pub record Tells (panel : Bool) (layoutFile file : List ℕ) : Type 0 where
-  pub lines : printed panel layoutFile file
-      ≡ opening panel (load layoutFile .layout) ++ (linesOf panel (linesTold (history (load layoutFile .layout) (eventsOf file))) ++ endingOf file)
-  pub demanded : Demanded (load layoutFile .layout) (history (load layoutFile .layout) (eventsOf file))
-  pub accepts : Throughout (AcceptedJust (load layoutFile .layout)) (history (load layoutFile .layout) (eventsOf file))
+-- the layout of a layout file, with the sections of a file of fitted sections (L1)
+abbrev pub layoutOf : List ℕ → List ℕ → Layout
+layoutOf layoutFile fittedFile = fit (load layoutFile .layout) fittedFile .layout
 
--- every layout file that loads with 0, and every event file of fewer than 2 to the 64th bytes
+-- of these two and an event file: the opening, a line for each event of the file in its order, answered in a run from the cold start, and what ends the list;
+-- the history of that run is as demanded, and each event was accepted just where there was what it asks
+pub record Tells (panel : Bool) (layoutFile fittedFile file : List ℕ) : Type 0 where
+  pub lines : printed panel layoutFile fittedFile file
+      ≡ opening panel (layoutOf layoutFile fittedFile) ++ (linesOf panel (linesTold (history (layoutOf layoutFile fittedFile) (eventsOf file))) ++ endingOf file)
+  pub demanded : Demanded (layoutOf layoutFile fittedFile) (history (layoutOf layoutFile fittedFile) (eventsOf file))
+  pub accepts : Throughout (AcceptedJust (layoutOf layoutFile fittedFile)) (history (layoutOf layoutFile fittedFile) (eventsOf file))
+
+-- every layout file that loads with 0, every file of fitted sections that is whole and tells sections that are there, and every event file of fewer than 2 to
+-- the 64th bytes
 abbrev pub EveryFile : Type 0
-EveryFile = (panel : Bool) (layoutFile file : List ℕ) → load layoutFile .number ≡ 0 → length file < 18446744073709551616 → Tells panel layoutFile file
+EveryFile =
+    (panel : Bool) (layoutFile fittedFile file : List ℕ) → load layoutFile .number ≡ 0 → WellFitted (load layoutFile .layout) fittedFile
+    → length file < 18446744073709551616 → Tells panel layoutFile fittedFile file
