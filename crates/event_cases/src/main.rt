@@ -1,7 +1,7 @@
 // Plays every event file of an archive on its layout, and prints what section 8 says of each: event_cases ARCHIVE
 // The archive is entries: a byte, 3 for a file of fitted sections, 2 for a layout file, 1 for an event file of which the panels are to be printed and 0
 // for one without; the file's length in two bytes, lowest first; and the file. An event file is played on the layout before it, with the sections that
-// are told as fitted between; a refused layout prints its line.
+// are told as fitted between; a refused layout prints its line, and so does a bad file of fitted sections, which leaves the layout as it was.
 use interlocking::State;
 use layout::Layout;
 use libc::STDERR_FILENO;
@@ -74,9 +74,19 @@ fn layout_of(file: &[u8]) -> Layout {
     loaded.layout
 }
 
+// The line of a file of fitted sections that is no numbers.
+fn refuse_fitted(number: u8, detail: usize) {
+    let mut out = io::buffer();
+    let end = event_file::fitted_fault(number as u64, detail as u64, &mut out);
+    print_first(&out, end);
+}
+
 // The layout with the fitted sections of a file.
 fn equipped(layout: Layout, file: &[u8]) -> Layout {
     let fitting = fitted::fit(layout, file);
+    if fitting.number != 0 {
+        refuse_fitted(fitting.number, fitting.detail);
+    }
     fitting.layout
 }
 
