@@ -70,7 +70,7 @@ module _ (L : Layout) (S : Sound L) (l i w : ℕ) (b : l < L .lines) (c : i < li
 
   -- while the far signal is at proceed it reads free: the next block is open, and open blocks read free; or, rules 2 and 5, a route in from
   -- the line has the inner section first in its path, and routes at proceed have their path free
-  far-free : (s : State) → ((j : ℕ) → j < lineIn L l .blocks → stage s l j ≡ 0 → readings.reading (s .section) (block L l j) ≡ 1)
+  pub far-free : (s : State) → ((j : ℕ) → j < lineIn L l .blocks → stage s l j ≡ 0 → readings.reading (s .section) (block L l j) ≡ 1)
       → ((r : ℕ) → r < L .routes → phase s r ≡ 1 → clear (L .line) (s .section) (s .point) (s .stage) (s .bar) (routeIn L r) ≡ true)
       → (x : Beyond) → BeyondCase L l i w x → proceedsIn L s (signalAt (lineIn L l) l w x) ≡ true → readings.reading (s .section) (sectionAt (lineIn L l) w x) ≡ 1
   unfolding proceedsIn signalAt sectionAt facing innerSection entranceSignal blockProceeds enterable enterableBy isOpen mainProceeds routeProceeds clear path routeIn

@@ -30,6 +30,7 @@ pub mod Alone
 pub mod Demand3
 pub mod Exact
 pub mod HeadsTold
+pub mod Counts
 pub mod Passing
 pub mod Stories
 pub mod Computed

@@ -1,21 +1,21 @@
--- Trains pass: the two readings of a train that leaves a block behind it, by whatever events they are given, open the block.
-use Prim.Native.Nat.{ℕ, _<_, _≤_}
+-- Trains pass: an event that gives the far section occupied lets a passage wait, which waits while the train goes out, until the block is given free.
+use Prim.Native.Nat.{ℕ, _+_, _*_, _%_, _<_, _≤_}
 use mathlib.Core.Path.{_≡_, refl, sym, ap, _∙_}
-use mathlib.Core.Logic.{_≢_, inl, inr}
+use mathlib.Core.Logic.{_≢_, _⊎_, inl, inr, ⊎-elim}
 use mathlib.Core.HLevel.{dec→stable}
-use mathlib.Core.Bool.{true, false}
-use mathlib.Core.List.{List, [], _∷_, _++_}
+use mathlib.Core.Bool.{true}
+use mathlib.Core.List.{List, [], _∷_, _++_, append-assoc, append-nil}
 use native.Mathlib.Decide.{ℕ-discrete}
 use native.Mathlib.Omega.{arith}
-use borrow.Author.Tests.{eqb-true, eq-eqb}
+use lib.Signed.{mag}
 use Rattle.laws.specs.Choice.{if_then_else_}
 use Rattle.laws.specs.Tests.{_and_}
 use Rattle.tables.specs.Readings.{recorded}
-use Rattle.tables.specs.Blocks.{isOpen}
+use Rattle.axles.specs.HeadLog.{said, lastTold, numberTold, readingTold}
 use Rattle.passage.specs.Passage.{beyond}
 use Rattle.passage.specs.Passage as passage
 use Rattle.layout.specs.declared.Layout.{Layout}
-use Rattle.layout.specs.Layout.{lineIn}
+use Rattle.layout.specs.Layout.{isFitted, lineIn}
 use Rattle.layout.specs.Sound.{sound}
 use Rattle.layout_facts.specs.Plain.{Sound}
 use Rattle.layout_facts.proofs.Sound.{sound-says}
@@ -27,23 +27,25 @@ use Rattle.interlocking.specs.Step.{refusal}
 use Rattle.panel.specs.Panel.{image}
 use Rattle.step_facts.specs.Run.{Event, event, box, stateAfter, fromCold}
 use Rattle.panel.specs.Shown.{Panel, panel}
-use Rattle.safety.specs.History.{Moment, History, gaveSection, gaveBlock, shown, moment, goesOn, history}
-use Rattle.safety.specs.Cleared.{farSection, farSignal, Proceeds}
-use Rattle.safety.specs.Passing.{PassesOn, TrainsPass, PassByReadings}
+use Rattle.safety.specs.History.{Moment, History, gaveSection, gaveBlock, sectionReads, blockReads, shown, Since, moment, goesOn, history}
+use Rattle.safety.specs.Cleared.{farSection, farSignal, Proceeds, Passage}
+use Rattle.safety.specs.Passing.{MayGoOn, next, GivesNext, GoingOut, PassesOn, TrainsPass, logOf, Arrives, Leaves, byReading, byCount, PassByCounts, PassByReadings}
 use Rattle.step_facts.proofs.Entries.{direction, stage, block, block-there}
-use Rattle.step_facts.proofs.Within.{On, done, end, direction-same}
+use Rattle.step_facts.proofs.Within.{On, done, end, direction-same, direction-held}
 use Rattle.step_facts.proofs.Granted.{step-granted}
-use Rattle.safety.proofs.Given.{granted, order-gives-nothing, gives-recorded, one-section, refused-gives-nothing}
-use Rattle.safety.proofs.Told.{reads-given}
+use Rattle.safety.proofs.Heads.{counted}
+use Rattle.safety.proofs.Given.{granted, order-gives-nothing, gives-recorded, gives-said, one-section, refused-gives-nothing}
+use Rattle.safety.proofs.Told.{reads-given, entered-reads, opened-by-passage}
 use Rattle.safety.proofs.Invariant.{Inv}
-use Rattle.safety.proofs.Blocks.{OwnCase, byHand, unread, frees, shuts, takes, own-of}
-use Rattle.step_facts.proofs.FarCases.{open-same}
-use Rattle.safety.proofs.Beyond.{far-there}
+use Rattle.safety.proofs.Beyond.{beyond-case, far-there}
 use Rattle.panel.proofs.Image.{shows-line, shows-block}
 use Rattle.safety.proofs.Held.{own-keeps}
-use Rattle.safety.proofs.Far.{there, far-other, far-reads}
+use Rattle.safety.proofs.Far.{there, far-other, far-free, far-reads}
 use Rattle.safety.proofs.Waits.{far-up, far-proves}
 use Rattle.safety.proofs.Kept.{run-has, accepted}
+use Rattle.safety.proofs.Exact.{exact-run}
+use Rattle.safety.proofs.HeadsTold.{reads-by-heads}
+use Rattle.safety.proofs.Counts.{head-of, in-reads, out-reads}
 
 -- an event that gives a section something is accepted, and is no order
 module _ (L : Layout) (ok : sound L ≡ true) (s : State) (h : History) (I : Inv L s h) (m : Moment) (g : ℕ) (some : gaveSection L g m h ≢ 0) where
@@ -83,35 +85,25 @@ module _ (L : Layout) (ok : sound L ≡ true) (S : Sound L) (s : State) (h : His
     unmoved : (k : ℕ) → 3 ≤ k → k ≤ 9 → ¬ On k e l
     unmoved k x y = no-order L ok s h I (granted L s e) _ some k l x y
 
+    -- so its direction stays
+    same : direction (done L s e) l ≡ w
+    same = direction-same L (S .ranges .lineCount) s e l b (unmoved 6 (omega arith) (omega arith)) (unmoved 7 (omega arith) (omega arith)) ∙ way
+
     -- and then its far section, which reads occupied, and its far signal, which was at proceed, take it to stage 2
     pub proved : stage (end L s e) l i ≡ 3
     unfolding passage.farSignal
     proved =
-        far-proves L S s h I e arrival-granted l i b c w d
-        (direction-same L (S .ranges .lineCount) s e l b (unmoved 6 (omega arith) (omega arith)) (unmoved 7 (omega arith) (omega arith)) ∙ way)
-        (omega (arith, own)) (omega (arith, own))
+        far-proves L S s h I e arrival-granted l i b c w d same (omega (arith, own)) (omega (arith, own))
         (far-reads L S s h I e arrival-granted l i b c w ∙ reads-given (gaveSection L (farSection L l i w)) (granted L s e) h 2 of-far (omega arith))
         (far-up L s l i w (beyond (lineIn L l) i w) (there L S s h I e arrival-granted l i b c w) up)
 
-  -- ---- the block is given free: it opens
+    -- in the direction in which the line is secured
+    pub still : direction (end L s e) l ≡ w
+    still = direction-held L (S .ranges .lineCount) s e l b i c (omega (arith, proved)) ∙ same
 
-  module _ (held : stage s l i ≡ 3) (e : Event) (given : gaveBlock L l i (granted L s e) h ≡ 1) where
-    -- the event is accepted
-    pub leaving-granted : refusal (sound L and inRange s) L s (e .kind) (e .first) (e .second) .number ≡ 0
-    leaving-granted = giving-granted L ok s h I (granted L s e) (block L l i) (λ z. omega (arith, given))
-
-    -- free takes 2 to open
-    pub opened : stage (end L s e) l i ≡ 0
-    unfolding isOpen
-    opened = eqb-true _ 0 (open-same L S s e l i b c ∙ eq-eqb _ 0 (go (own-of L S s h I e leaving-granted l i b c)))
-      where
-        go : OwnCase (On 7 e l) (gaveBlock L l i (granted L s e) h) (stage s l i) (stage (done L s e) l i) → stage (done L s e) l i ≡ 0
-        go (byHand u q x) = x
-        go (unread n q x) = absurd (omega (arith, given))
-        go (frees n q was x) = x
-        go (shuts n (inl q) x) = absurd (omega (arith, given))
-        go (shuts n (inr q) x) = absurd (q .2 held)
-        go (takes n q x y) = absurd (omega (arith, given))
+    -- so a passage waits for the block's free reading
+    pub waits : Passage L l i w (granted L s e ∷ h)
+    waits = rw still at (accepted L ok S s h I e arrival-granted .blocks l i b c .passes proved .1)
 
 -- ---- a run that goes on
 
@@ -128,73 +120,116 @@ box-grants : (L : Layout) (s : State) (e : Event) → refusal (sound L and inRan
 unfolding box
 box-grants L s e pass = step-granted L s e pass
 
--- so after the two events the block shows open
-module _ (L : Layout) (ok : sound L ≡ true) (S : Sound L) (s : State) (h : History) (I : Inv L s h) (l i w : ℕ) (b : l < L .lines) (c : i < lineIn L l .blocks)
-    (held : stage s l i ≡ 2) (way : direction s l ≡ w) (d : w ≢ 0) (up : Proceeds (panel L (image L s)) (farSignal L l i w)) (e f : Event)
-    (of-far : gaveSection L (farSection L l i w) (granted L s e) h ≡ 2) where
-  -- the first is accepted
-  pass : refusal (sound L and inRange s) L s (e .kind) (e .first) (e .second) .number ≡ 0
-  pass = arrival-granted L ok S s h I l i w b c held way d up e of-far
+-- the history of one event more
+one-more : (L : Layout) (es : List Event) (e : Event) → history L (es ++ (e ∷ [])) ≡ next L es e ∷ history L es
+unfolding history fromCold goesOn
+one-more L es e = on-with L (box L) cold [] es (e ∷ [])
 
-  -- the state after it
-  abbrev arrived : State
-  arrived = end L s e
+module _ (L : Layout) (ok : sound L ≡ true) (l i w : ℕ) where
+  -- a passage waits while the train goes out
+  waits-on : (es more : List Event) → GoingOut L l i w es more → Passage L l i w (history L es) → Passage L l i w (history L (es ++ more))
+  unfolding GoingOut Since
+  waits-on es [] g p = rw (append-nil es) p
+  waits-on es (e ∷ more) g p =
+      rw (sym (append-assoc es (e ∷ []) more)) (waits-on (es ++ (e ∷ [])) more (g .1) (rw (one-more L es e) (inr (g .0, p))))
 
-  has-arrived : Inv L arrived (granted L s e ∷ h)
-  has-arrived = accepted L ok S s h I e pass
-
-  in-stage-2 : stage arrived l i ≡ 3
-  in-stage-2 = proved L ok S s h I l i w b c held way d up e of-far
-
-  -- its moment
-  pub arriving : moment L e (box L s e) ≡ granted L s e
-  unfolding moment
-  arriving = rw (box-grants L s e pass)
-
-  pub passed : gaveBlock L l i (granted L arrived f) (granted L s e ∷ h) ≡ 1 → shown L (goesOn L (box L) s h (e ∷ f ∷ [])) .block l i ≡ 0
-  unfolding goesOn moment shown
-  passed given =
-      rw (box-grants L s e pass, box-grants L arrived f (leaving-granted L ok S arrived _ has-arrived l i w b c in-stage-2 f given))
-      (shows-block L _ l i b c ∙ opened L ok S arrived _ has-arrived l i w b c in-stage-2 f given)
-
--- on any sound layout, after any events
-pub passes-on : (L : Layout) → sound L ≡ true → PassesOn L
-unfolding history fromCold goesOn gaveSection moment
-passes-on L ok es l i w e f b c held way d up far near =
-    ap (λ (k : History). shown L k .block l i) (on-with L (box L) cold [] es _)
-    ∙ passed L ok S s h I l i w b c stands secured d proceeds e f far (rw (on-with L (box L) cold [] es (e ∷ []), arriving L ok S s h I l i w b c stands secured d proceeds e f far) at near)
-  where
+  module _ (es : List Event) (T : MayGoOn L es l i w) where
+    -- the state then
     S : Sound L
     S = sound-says L ok
 
-    s : State
+    abbrev s : State
     s = fromCold L es
 
-    h : History
-    h = history L es
-
-    I : Inv L s h
+    I : Inv L s (history L es)
     I = run-has L ok es
 
-    stands : stage s l i ≡ 2
-    stands = sym (shows-block L s l i b c) ∙ ap (λ (p : Panel). p .block l i) (sym (I .seen)) ∙ held
-
-    secured : direction s l ≡ w
-    secured = sym (shows-line L s l b) ∙ ap (λ (p : Panel). p .line l) (sym (I .seen)) ∙ way
-
     proceeds : Proceeds (panel L (image L s)) (farSignal L l i w)
-    proceeds = rw (I .seen) at up
+    proceeds = rw (I .seen) at (T .proceeds)
+
+    -- the far section, given occupied, lets a passage wait
+    arrives : (e : Event) → GivesNext L es e (farSection L l i w) 2 → Passage L l i w (history L (es ++ (e ∷ [])))
+    unfolding moment gaveSection
+    arrives e far =
+        rw (one-more L es e, box-grants L s e (arrival-granted L ok S s (history L es) I l i w (T .line) (T .block) stands secured (T .secured) proceeds e far))
+        (waits L ok S s (history L es) I l i w (T .line) (T .block) stands secured (T .secured) proceeds e far)
+      where
+        stands : stage s l i ≡ 2
+        stands = sym (shows-block L s l i (T .line) (T .block)) ∙ ap (λ (p : Panel). p .block l i) (sym (I .seen)) ∙ T .entered
+
+        secured : direction s l ≡ w
+        secured = sym (shows-line L s l (T .line)) ∙ ap (λ (p : Panel). p .line l) (sym (I .seen)) ∙ T .way
+
+    -- the far section reads free, its signal being at proceed
+    pub far-reads-free : sectionReads L (farSection L l i w) (history L es) ≡ 1
+    unfolding passage.farSection passage.farSignal
+    far-reads-free =
+        let beyond-it = beyond-case L l i w (T .block) in
+        sym (I .reads _ (far-there L S l i w (T .line) (T .block)))
+        ∙ far-free L S l i w (T .line) (T .block) s
+        (λ j c z. I .reads _ (block-there L S l j (T .line) c) ∙ I .blocks l j (T .line) c .opens .0 z .isFree)
+        (I .lights) (beyond (lineIn L l) i w) beyond-it (far-up L s l i w (beyond (lineIn L l) i w) beyond-it proceeds)
+
+  -- a block that a passage waits for reads occupied
+  pub waiting-reads : (es : List Event) → l < L .lines → i < lineIn L l .blocks → Passage L l i w (history L es) → blockReads L l i (history L es) ≡ 2
+  waiting-reads es b c p =
+      let told = run-has L ok es .blocks l i b c in
+      let z = told .waits w p .0 in
+      entered-reads L l i (history L es) (told .enters .0 (omega arith))
+
+  -- and opens when it is given free
+  leaves : (es : List Event) (f : Event) → l < L .lines → i < lineIn L l .blocks → Passage L l i w (history L es)
+      → GivesNext L es f (block L l i) 1 → shown L (history L (es ++ (f ∷ []))) .block l i ≡ 0
+  leaves es f b c p given =
+      exact-run L ok (es ++ (f ∷ [])) .blocks l i b c .opens .1
+      (rw (one-more L es f) (opened-by-passage L l i (next L es f) (history L es) w given (λ z. omega (arith, waiting-reads es b c p)) p))
+
+-- on any sound layout, after any events
+pub passes-on : (L : Layout) → sound L ≡ true → PassesOn L
+passes-on L ok es more l i w e f T far out near =
+    leaves L ok l i w _ f (T .line) (T .block) (waits-on L ok l i w _ more out (arrives L ok l i w es T e far)) near
 
 -- ---- on any layout in use
 
 pub trains-pass : TrainsPass
 trains-pass L u = passes-on L (in-use-sound u)
 
--- by the two readings, where neither section has heads
-pub pass-by-readings : PassByReadings
+-- a count of head j gives its section what the log of its heads then tells
+count-gives : (L : Layout) (es : List Event) (g j k c : ℕ) → g < L .sections → isFitted L g ≡ true → j < 2 → (k ≡ 11) ⊎ (k ≡ 12) → c ≤ 65535
+    → GivesNext L es (event k (2 * g + j) c) g (readingTold (said k j c ∷ logOf L es g))
+unfolding moment
+count-gives L es g j k c b f x q few =
+    let head : (2 * g + j) % 2 ≡ j = omega arith in
+    gives-said L g (next L es (event k (2 * g + j) c)) (history L es) b f (counted q (omega arith) few)
+    (λ z. absurd (⊎-elim (λ (u : k ≡ 11). omega arith) (λ (u : k ≡ 12). omega arith) q))
+    ∙ ap (λ n. readingTold (said k n c ∷ logOf L es g)) head
+
+-- the train's arrival gives the far section occupied: it read free
+arrival-gives : (L : Layout) (es : List Event) (g : ℕ) {e : Event} → g < L .sections → sectionReads L g (history L es) ≡ 1 → Arrives L es g e → GivesNext L es e g 2
 unfolding recorded if_then_else_ moment
-pass-by-readings L u es l i w b c far near held way d up =
+arrival-gives L es g b r (byReading f) = gives-recorded L _ _ _ b f refl refl
+arrival-gives L es g b r (byCount f j n x low high) =
+    count-gives L es g j 11 ((lastTold 11 j (logOf L es g) + n) % 65536) b f x (inl refl) (omega arith)
+    ∙ in-reads (logOf L es g) n (head-of j x) (sym (reads-by-heads L g b f (history L es)) ∙ r) low high
+
+-- its leaving gives the block free: it read occupied
+leaving-gives : (L : Layout) (es : List Event) (g : ℕ) {e : Event} → g < L .sections → sectionReads L g (history L es) ≡ 2 → Leaves L es g e → GivesNext L es e g 1
+unfolding recorded if_then_else_ moment
+leaving-gives L es g b r (byReading f) = gives-recorded L _ _ _ b f refl refl
+leaving-gives L es g b r (byCount f j x) =
+    count-gives L es g j 12 ((lastTold 12 j (logOf L es g) + mag (numberTold (logOf L es g))) % 65536) b f x (inr refl) (omega arith)
+    ∙ out-reads (logOf L es g) (head-of j x) (sym (reads-by-heads L g b f (history L es)) ∙ r)
+
+-- by readings and counts
+pub pass-by-counts : PassByCounts
+pass-by-counts L u es more l i w e f T a out d =
     let ok : sound L ≡ true = in-use-sound u in
     let S : Sound L = sound-says L ok in
-    passes-on L ok es l i w (event 1 (farSection L l i w) 2) (event 1 (block L l i) 1) b c held way d up
-    (gives-recorded L _ _ _ (far-there L S l i w b c) far refl refl) (gives-recorded L _ _ _ (block-there L S l i b c) near refl refl)
+    let far : GivesNext L es e (farSection L l i w) 2 = arrival-gives L es _ (far-there L S l i w (T .line) (T .block)) (far-reads-free L ok l i w es T) a in
+    let p = waits-on L ok l i w _ more out (arrives L ok l i w es T e far) in
+    leaves L ok l i w _ f (T .line) (T .block) p
+    (leaving-gives L _ _ (block-there L S l i (T .line) (T .block)) (waiting-reads L ok l i w _ (T .line) (T .block) p) d)
+
+-- by readings alone, where neither section has heads
+pub pass-by-readings : PassByReadings
+pass-by-readings L u es more l i w T far near out = pass-by-counts L u es more l i w _ _ T (byReading far) out (byReading near)

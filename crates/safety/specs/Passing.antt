@@ -1,46 +1,93 @@
 -- It lets trains pass, on every layout in use and from every state that a run reaches: a train that is in a block, in stage 1, with its far signal at
--- proceed clears the block by going on: its far section is given occupied, then the block free. Beside the demands of document 01.
+-- proceed clears the block by going on: its far section is given occupied, and later the block free. Beside the demands of document 01.
 --
 -- Read as `Demand3` says.
-use Prim.Native.Nat.{ℕ, _<_}
+use Prim.Native.Nat.{ℕ, _+_, _*_, _%_, _<_, _≤_}
 use mathlib.Core.Path.{_≡_}
 use mathlib.Core.Logic.{_≢_}
-use mathlib.Core.Bool.{false}
+use mathlib.Core.Bool.{true, false}
 use mathlib.Core.List.{List, [], _∷_, _++_}
-use Rattle.track.specs.Codes.{free, occupied, neutral, openBlock, stage1, readSection}
+use lib.Signed.{mag}
+use Rattle.track.specs.Codes.{free, occupied, readsNone, neutral, openBlock, stage1, readSection, axlesIn, axlesOut}
 use Rattle.track.specs.Blocks.{onlySection}
+use Rattle.axles.specs.HeadLog.{HeadLog, lastTold, numberTold}
 use Rattle.layout.specs.declared.Layout.{Layout}
 use Rattle.layout.specs.Layout.{isFitted, lineIn}
 use Rattle.fitted.specs.InUse.{InUse}
 use Rattle.step_facts.specs.Run.{Event, event, box, fromCold}
-use Rattle.safety.specs.History.{gaveSection, shown, moment, history}
-use Rattle.safety.specs.Cleared.{farSection, farSignal, Proceeds}
+use Rattle.safety.specs.History.{Moment, headLog, gaveSection, gaveBlock, shown, moment, history}
+use Rattle.safety.specs.Cleared.{farSection, farSignal, Proceeds, Stays}
 
--- the next event after the events es, e, gives section g the reading v
+-- ---- a train in a block
+
+-- after the events es one is in block i of line l, which is secured in direction w, and its far signal shows proceed
+pub record MayGoOn (L : Layout) (es : List Event) (l i w : ℕ) : Type 0 where
+  pub line : l < L .lines
+  pub block : i < lineIn L l .blocks
+  pub entered : shown L (history L es) .block l i ≡ stage1
+  pub way : shown L (history L es) .line l ≡ w
+  pub secured : w ≢ neutral
+  pub proceeds : Proceeds (shown L (history L es)) (farSignal L l i w)
+
+-- the moment of event e, the next after the events es
+abbrev pub next : Layout → List Event → Event → Moment
+next L es e = moment L e (box L (fromCold L es) e)
+
+-- it gives section g the reading v
 abbrev pub GivesNext : Layout → List Event → Event → ℕ → ℕ → Type 0
-GivesNext L es e g v = gaveSection L g (moment L e (box L (fromCold L es) e)) (history L es) ≡ v
+GivesNext L es e g v = gaveSection L g (next L es e) (history L es) ≡ v
 
--- on layout L: an event that gives the far section occupied, and one after it that gives the block free, whatever they are, open the block
+-- while the train goes out: none of the events `more`, after the events es, gives the block a none or a free, or its far section a none
+unfoldable pub GoingOut : Layout → ℕ → ℕ → ℕ → List Event → List Event → Type 0
+GoingOut L l i w es [] = Unit {0}
+GoingOut L l i w es (e ∷ more) =
+    (Stays (gaveBlock L l i) (next L es e) (history L es) × (gaveSection L (farSection L l i w) (next L es e) (history L es) ≢ readsNone))
+    × GoingOut L l i w (es ++ (e ∷ [])) more
+
+-- ---- whatever the events are
+
+-- on layout L: an event that gives the far section occupied, any events while the train goes out, and one that gives the block free open the block
 abbrev pub PassesOn : Layout → Type 0
 PassesOn L =
-    (es : List Event) (l i w : ℕ) (e f : Event) → l < L .lines → i < lineIn L l .blocks
-    → shown L (history L es) .block l i ≡ stage1 → shown L (history L es) .line l ≡ w → w ≢ neutral → Proceeds (shown L (history L es)) (farSignal L l i w)
-    → GivesNext L es e (farSection L l i w) occupied → GivesNext L (es ++ (e ∷ [])) f (onlySection (lineIn L l) i) free
-    → shown L (history L (es ++ (e ∷ f ∷ []))) .block l i ≡ openBlock
+    (es more : List Event) (l i w : ℕ) (e f : Event) → MayGoOn L es l i w
+    → GivesNext L es e (farSection L l i w) occupied → GoingOut L l i w (es ++ (e ∷ [])) more
+    → GivesNext L ((es ++ (e ∷ [])) ++ more) f (onlySection (lineIn L l) i) free
+    → shown L (history L (((es ++ (e ∷ [])) ++ more) ++ (f ∷ []))) .block l i ≡ openBlock
 
 -- so on every layout in use
 abbrev pub TrainsPass : Type 0
 TrainsPass = (L : Layout) → InUse L → PassesOn L
 
--- the two readings of a train that leaves block i of line l in direction w, where neither section has heads: the far section is occupied, then the
--- block's one section is free
-abbrev pub leavesBlock : Layout → ℕ → ℕ → ℕ → List Event
-leavesBlock L l i w = event readSection (farSection L l i w) occupied ∷ event readSection (onlySection (lineIn L l) i) free ∷ []
+-- ---- by readings and counts
 
--- the block opens by them
+-- what was said of the heads of section g
+abbrev pub logOf : Layout → List Event → ℕ → HeadLog
+logOf L es g = headLog g (history L es)
+
+-- after the events es a train arrives in section g: it is read occupied; or, where it has heads, 1 to 255 axles more are counted in past one of them (L1)
+pub data Arrives (L : Layout) (es : List Event) (g : ℕ) : Event → Type 0 where
+  byReading : isFitted L g ≡ false → Arrives L es g (event readSection g occupied)
+  byCount : isFitted L g ≡ true → (j n : ℕ) → j < 2 → 1 ≤ n → n ≤ 255
+      → Arrives L es g (event axlesIn (2 * g + j) ((lastTold axlesIn j (logOf L es g) + n) % 65536))
+
+-- it leaves section g: it is read free; or, where it has heads, as many axles more as are in it are counted out past one of them (L1)
+pub data Leaves (L : Layout) (es : List Event) (g : ℕ) : Event → Type 0 where
+  byReading : isFitted L g ≡ false → Leaves L es g (event readSection g free)
+  byCount : isFitted L g ≡ true → (j : ℕ) → j < 2
+      → Leaves L es g (event axlesOut (2 * g + j) ((lastTold axlesOut j (logOf L es g) + mag (numberTold (logOf L es g))) % 65536))
+
+-- the block opens by them, with any events between while the train goes out: nothing else is asked of the heads
+abbrev pub PassByCounts : Type 0
+PassByCounts =
+    (L : Layout) → InUse L → (es more : List Event) (l i w : ℕ) (e f : Event) → MayGoOn L es l i w
+    → Arrives L es (farSection L l i w) e → GoingOut L l i w (es ++ (e ∷ [])) more → Leaves L ((es ++ (e ∷ [])) ++ more) (onlySection (lineIn L l) i) f
+    → shown L (history L (((es ++ (e ∷ [])) ++ more) ++ (f ∷ []))) .block l i ≡ openBlock
+
+-- so by two readings where neither section has heads
 abbrev pub PassByReadings : Type 0
 PassByReadings =
-    (L : Layout) → InUse L → (es : List Event) → (l i w : ℕ) → l < L .lines → i < lineIn L l .blocks
+    (L : Layout) → InUse L → (es more : List Event) (l i w : ℕ) → MayGoOn L es l i w
     → isFitted L (farSection L l i w) ≡ false → isFitted L (onlySection (lineIn L l) i) ≡ false
-    → shown L (history L es) .block l i ≡ stage1 → shown L (history L es) .line l ≡ w → w ≢ neutral → Proceeds (shown L (history L es)) (farSignal L l i w)
-    → shown L (history L (es ++ leavesBlock L l i w)) .block l i ≡ openBlock
+    → GoingOut L l i w (es ++ (event readSection (farSection L l i w) occupied ∷ [])) more
+    → shown L (history L (((es ++ (event readSection (farSection L l i w) occupied ∷ [])) ++ more) ++ (event readSection (onlySection (lineIn L l) i) free ∷ []))) .block l i
+    ≡ openBlock
