@@ -29,7 +29,7 @@ use Rattle.step_facts.proofs.Tells.{head-named, reset-named, Tells, by-code, by
 use Rattle.step_facts.proofs.Within.{end, tells-done, tells-readings}
 use Rattle.step_facts.proofs.Heads.{heads-here}
 use Rattle.step_facts.proofs.Granted.{reading-granted, count-granted, reset-granted}
-use Rattle.way_out.specs.Freeing.{counted, freeing}
+use Rattle.way_out.specs.Freeing.{CountsOf, rolled, counted, freeing}
 use Rattle.way_out.proofs.Proving.{spoken-speak, passed-free}
 use Rattle.way_out.proofs.Goes.{Whole, Goes, stop, goes}
 
@@ -84,7 +84,7 @@ At g Q s x v t = Q t × Elsewhere g s t × (headsAt (t .axles) g ≡ x) × (read
 abbrev pub Frees : ℕ → (State → Type 0) → State → State → Type 0
 Frees g Q s t = Q t × Freed g s t
 
-module _ (L : Layout) (ok : sound L ≡ true) (S : Sound L) (g : ℕ) (there : g < L .sections) (Q : State → Type 0) (lasts : Outlasts L g Q) (s : State) where
+module _ (L : Layout) (ok : sound L ≡ true) (S : Sound L) (cs : CountsOf) (g : ℕ) (there : g < L .sections) (Q : State → Type 0) (lasts : Outlasts L g Q) (s : State) where
   -- it is one of the sections that there may be
   below : g < mostSections
   below = omega (arith, S .ranges .sectionCount)
@@ -117,18 +117,18 @@ module _ (L : Layout) (ok : sound L ≡ true) (S : Sound L) (g : ℕ) (there : g
       told = by-heads k (sym named) (ap (λ y. headsBy y (e .kind) (e .first) (e .second)) (sym heads))
 
   -- the seven events, where it has heads
-  by-counts : isFitted L g ≡ true → Whole s → Q s → Goes L s (counted g) (Frees g Q s)
-  unfolding counted
+  by-counts : isFitted L g ≡ true → Whole s → Q s → Goes L s (counted g (cs g)) (Frees g Q s)
+  unfolding counted rolled
   by-counts f w q =
-      count 11 (2 * g) 0 _ _ _ (inl refl) (omega arith) (omega arith)
-      (count 12 (2 * g) 0 _ _ _ (inr refl) (omega arith) (omega arith)
-      (count 11 (2 * g + 1) 0 _ _ _ (inl refl) (omega arith) (omega arith)
-      (count 12 (2 * g + 1) 0 _ _ _ (inr refl) (omega arith) (omega arith)
+      count 11 (2 * g) _ _ _ _ (inl refl) (omega arith) (omega arith)
+      (count 12 (2 * g) _ _ _ _ (inr refl) (omega arith) (omega arith)
+      (count 11 (2 * g + 1) _ _ _ _ (inl refl) (omega arith) (omega arith)
+      (count 12 (2 * g + 1) _ _ _ _ (inr refl) (omega arith) (omega arith)
       (counts (event 14 g 0) _ _ _ (omega arith) (reset-named 14 g refl)
-      (λ t w heads. reset-granted L t ok (w .ranged) g there f (rw heads (spoken-speak g (headsAt (s .axles) g))))
-      (count 11 (2 * g) 1 _ _ _ (inl refl) (omega arith) (omega arith)
-      (count 12 (2 * g + 1) 1 _ _ _ (inr refl) (omega arith) (omega arith)
-      (λ t w a. stop L (Frees g Q s) t w (a .0, freed g s t (a .1) (a .3 ∙ passed-free g (headsAt (s .axles) g))))))))))
+      (λ t w heads. reset-granted L t ok (w .ranged) g there f (rw heads (spoken-speak g (cs g) (headsAt (s .axles) g))))
+      (count 11 (2 * g) _ _ _ _ (inl refl) (omega arith) (omega arith)
+      (count 12 (2 * g + 1) _ _ _ _ (inr refl) (omega arith) (omega arith)
+      (λ t w a. stop L (Frees g Q s) t w (a .0, freed g s t (a .1) (a .3 ∙ passed-free g (cs g) (headsAt (s .axles) g))))))))))
       s w (q, λ h b d. refl, refl, refl)
     where
       count : (k a n : ℕ) (es : List Event) (x : Axles) (v : ℕ) → (k ≡ 11) ⊎ (k ≡ 12) → a / 2 ≡ g → n ≤ 65535
@@ -139,6 +139,6 @@ module _ (L : Layout) (ok : sound L ≡ true) (S : Sound L) (g : ℕ) (there : g
           (λ t w h. count-granted L t ok (w .ranged) k a n kind (omega arith) (rw named f) small)
 
   -- it comes to read free
-  pub free-goes : Whole s → Q s → Goes L s (freeing L g) (Frees g Q s)
+  pub free-goes : Whole s → Q s → Goes L s (freeing L cs g) (Frees g Q s)
   unfolding freeing
   free-goes w q = if-both (λ es. Goes L s es (Frees g Q s)) (isFitted L g) (λ f. by-counts f w q) (λ f. by-reading f w q)

@@ -1,4 +1,4 @@
--- No dead end: from every state that a run can reach on an accepted layout the way out leads to rest.
+-- No dead end: from every state that a run can reach on a layout in use the way out leads to rest.
 use Prim.Native.Nat.{ℕ, zero, suc, _+_, _*_, _≤_}
 use mathlib.Core.Path.{_≡_, refl, _∙_}
 use mathlib.Core.Bool.{Bool, true, false}
@@ -27,7 +27,7 @@ use Rattle.fitted.proofs.InUse.{in-use-sound}
 use Rattle.interlocking.specs.declared.State.{State}
 use Rattle.interlocking.specs.Step.{step}
 use Rattle.step_facts.specs.Run.{Event, event, fromCold}
-use Rattle.way_out.specs.Freeing.{counted, freeing, heads, fittedAmong, fittedBlocks}
+use Rattle.way_out.specs.Freeing.{CountsOf, counted, freeing, oneIfFitted, fittedAmong, fittedBlocks}
 use Rattle.way_out.specs.WayOut.{standing, cancels, ninetySeconds, readFree, allReadFree, releases, wayOut, AtRest, WayOut, NoDeadEnd}
 use Rattle.way_out.proofs.Goes.{Whole, run-whole, Goes, after-that, ending-so}
 use Rattle.way_out.proofs.WayOut.{cancel-all, wait-all, read-all, release-all}
@@ -43,28 +43,28 @@ cancels-short L (suc n) s =
     (λ f. let h = cancels-short L n s in omega arith)
 
 -- one reading for a section that has no heads, six events more for one that has
-pub freeing-length : (L : Layout) (g : ℕ) → length (freeing L g) ≡ 1 + 6 * heads L g
-unfolding freeing counted heads if_then_else_
-freeing-length L g = go (isFitted L g)
+pub freeing-length : (L : Layout) (cs : CountsOf) (g : ℕ) → length (freeing L cs g) ≡ 1 + 6 * oneIfFitted L g
+unfolding freeing counted oneIfFitted if_then_else_
+freeing-length L cs g = go (isFitted L g)
   where
-    go : (t : Bool) → length (if t then counted g else (event 1 g 1 ∷ [])) ≡ 1 + 6 * (if t then 1 else 0)
+    go : (t : Bool) → length (if t then counted g (cs g) else (event 1 g 1 ∷ [])) ≡ 1 + 6 * (if t then 1 else 0)
     go true = refl
     go false = refl
 
 -- so for the blocks of a line
-read-length : (L : Layout) (l n : ℕ) → length (readFree L l n) ≡ n + 6 * fittedAmong L n (onlySection (lineIn L l))
+read-length : (L : Layout) (cs : CountsOf) (l n : ℕ) → length (readFree L cs l n) ≡ n + 6 * fittedAmong L n (onlySection (lineIn L l))
 unfolding readFree fittedAmong
-read-length L l zero = refl
-read-length L l (suc n) =
-    length-append (freeing L (onlySection (lineIn L l) n)) _ ∙ (let h = read-length L l n in let one = freeing-length L (onlySection (lineIn L l) n) in omega arith)
+read-length L cs l zero = refl
+read-length L cs l (suc n) =
+    length-append (freeing L cs (onlySection (lineIn L l) n)) _ ∙ (let h = read-length L cs l n in let one = freeing-length L cs (onlySection (lineIn L l) n) in omega arith)
 
 -- at most eight blocks for each line
-read-short : (L : Layout) → Sound L → (n : ℕ) → n ≤ L .lines → length (allReadFree L n) ≤ mostBlocks * n + 6 * fittedBlocks L n
+read-short : (L : Layout) → Sound L → (cs : CountsOf) (n : ℕ) → n ≤ L .lines → length (allReadFree L cs n) ≤ mostBlocks * n + 6 * fittedBlocks L n
 unfolding allReadFree fittedBlocks
-read-short L S zero b = omega arith
-read-short L S (suc l) b =
+read-short L S cs zero b = omega arith
+read-short L S cs (suc l) b =
     let few = S .ranges .lines l b .blockCount in
-    let rest = read-short L S l (omega arith) in
+    let rest = read-short L S cs l (omega arith) in
     simp (length-append, read-length) (omega arith)
 
 -- one release for each line
@@ -74,23 +74,23 @@ releases-length zero = refl
 releases-length (suc n) = let h = releases-length n in omega arith
 
 -- together
-pub way-short : (L : Layout) → Sound L → (s : State) → length (wayOut L s) ≤ L .routes + 90 + 9 * L .lines + 6 * fittedBlocks L (L .lines)
+pub way-short : (L : Layout) → Sound L → (cs : CountsOf) (s : State) → length (wayOut L cs s) ≤ L .routes + 90 + 9 * L .lines + 6 * fittedBlocks L (L .lines)
 unfolding wayOut ninetySeconds
-way-short L S s =
+way-short L S cs s =
     let a = cancels-short L (L .routes) s in
-    let b = read-short L S (L .lines) (omega arith) in
+    let b = read-short L S cs (L .lines) (omega arith) in
     simp (length-append, releases-length) (omega arith)
 
 -- ---- where it leads
 
 -- from any state of a run to rest
-pub goes-to-rest : (L : Layout) → sound L ≡ true → (s : State) → Whole s → Goes L s (wayOut L s) (AtRest L)
+pub goes-to-rest : (L : Layout) → sound L ≡ true → (cs : CountsOf) (s : State) → Whole s → Goes L s (wayOut L cs s) (AtRest L)
 unfolding wayOut isOpen blockReading
-goes-to-rest L ok s whole =
+goes-to-rest L ok cs s whole =
     let S = sound-says L ok in
     ending-so (after-that (cancel-all L ok S (L .routes) s (le-refl _) whole (λ r b c. absurd (omega arith)))
     (λ t w calm. after-that (wait-all L ok S t w calm)
-    (λ t w idle. after-that (read-all L ok S (L .lines) t (le-refl _) w (idle, λ l i b c. absurd (omega arith)))
+    (λ t w idle. after-that (read-all L ok S cs (L .lines) t (le-refl _) w (idle, λ l i b c. absurd (omega arith)))
     (λ t w free. release-all L ok S (L .lines) t (le-refl _) w (free .0, free .1, λ l b c. absurd (omega arith))))))
     (λ t w (idle, free, rest). record {
       routes = idle;
@@ -100,20 +100,20 @@ goes-to-rest L ok s whole =
     })
 
 -- that is the way out, from every state that a run reaches on a sound layout, sections with heads or without
-pub sound-way-out : (L : Layout) → sound L ≡ true → (es : List Event) → WayOut L (fromCold L es)
-sound-way-out L ok es =
-    let G = goes-to-rest L ok (fromCold L es) (run-whole L es) in
-    record { granted = G .granted; short = way-short L (sound-says L ok) (fromCold L es); rest = G .ends }
+pub sound-way-out : (L : Layout) → sound L ≡ true → (cs : CountsOf) (es : List Event) → WayOut L cs (fromCold L es)
+sound-way-out L ok cs es =
+    let G = goes-to-rest L ok cs (fromCold L es) (run-whole L es) in
+    record { granted = G .granted; short = way-short L (sound-says L ok) cs (fromCold L es); rest = G .ends }
 
 -- so on a layout in use
 pub no-dead-end : NoDeadEnd
-no-dead-end L u es = sound-way-out L (in-use-sound u) es
+no-dead-end L u cs es = sound-way-out L (in-use-sound u) cs es
 
 -- ---- how long it is at most, and where no section has heads
 
 -- a section counts once
-one-section : (L : Layout) (g : ℕ) → heads L g ≤ 1
-unfolding heads
+one-section : (L : Layout) (g : ℕ) → oneIfFitted L g ≤ 1
+unfolding oneIfFitted
 one-section L g = if-both (λ k. k ≤ 1) _ (λ t. omega arith) (λ f. omega arith)
 
 -- of n sections at most n have heads
@@ -132,13 +132,13 @@ blocks-few L S (suc l) b =
     omega (arith, among-few L (lineIn L l .blocks) (onlySection (lineIn L l)))
 
 -- and the way out has at most 57 events for each line: seven for each block, and the release
-pub way-longest : (L : Layout) → sound L ≡ true → (s : State) → length (wayOut L s) ≤ L .routes + 90 + 57 * L .lines
-way-longest L ok s = let S = sound-says L ok in omega (arith, way-short L S s, blocks-few L S (L .lines) (omega arith))
+pub way-longest : (L : Layout) → sound L ≡ true → (cs : CountsOf) (s : State) → length (wayOut L cs s) ≤ L .routes + 90 + 57 * L .lines
+way-longest L ok cs s = let S = sound-says L ok in omega (arith, way-short L S cs s, blocks-few L S (L .lines) (omega arith))
 
 module _ (L : Layout) (none : (g : ℕ) → isFitted L g ≡ false) where
   -- where no section has heads none of any does
   pub none-among : (n : ℕ) (g : ℕ → ℕ) → fittedAmong L n g ≡ 0
-  unfolding fittedAmong heads
+  unfolding fittedAmong oneIfFitted
   none-among zero g = refl
   none-among (suc n) g = rw (none-among n g, passed-over {A = ℕ} _ 1 0 (none (g n)))
 
@@ -149,8 +149,8 @@ module _ (L : Layout) (none : (g : ℕ) → isFitted L g ≡ false) where
   none-in-blocks (suc l) = rw (none-in-blocks l, none-among (lineIn L l .blocks) (onlySection (lineIn L l)))
 
   -- so the way out has at most nine events for each line
-  pub unfitted-short : sound L ≡ true → (s : State) → length (wayOut L s) ≤ L .routes + 90 + 9 * L .lines
-  unfitted-short ok s = omega (arith, way-short L (sound-says L ok) s, none-in-blocks (L .lines))
+  pub unfitted-short : sound L ≡ true → (cs : CountsOf) (s : State) → length (wayOut L cs s) ≤ L .routes + 90 + 9 * L .lines
+  unfitted-short ok cs s = omega (arith, way-short L (sound-says L ok) cs s, none-in-blocks (L .lines))
 
 -- an accepted layout is one, since a file tells of no heads
 pub accepted-unfitted : (bytes : List ℕ) → load bytes .number ≡ 0 → (g : ℕ) → isFitted (load bytes .layout) g ≡ false
@@ -158,6 +158,6 @@ unfolding isFitted noneFitted
 accepted-unfitted bytes ok g = rw (loaded-none-told bytes ok .fitted, nothing-at {A = ℕ} mostSections 0 g)
 
 -- so there it has
-pub accepted-short : (bytes : List ℕ) → load bytes .number ≡ 0 → (s : State)
-    → length (wayOut (load bytes .layout) s) ≤ load bytes .layout .routes + 90 + 9 * load bytes .layout .lines
-accepted-short bytes ok s = unfitted-short _ (accepted-unfitted bytes ok) (loaded-sound bytes ok) s
+pub accepted-short : (bytes : List ℕ) → load bytes .number ≡ 0 → (cs : CountsOf) (s : State)
+    → length (wayOut (load bytes .layout) cs s) ≤ load bytes .layout .routes + 90 + 9 * load bytes .layout .lines
+accepted-short bytes ok cs s = unfitted-short _ (accepted-unfitted bytes ok) (loaded-sound bytes ok) cs s

@@ -19,8 +19,9 @@ use Rattle.interlocking.specs.declared.State.{State}
 use Rattle.interlocking.specs.State.{inRange}
 use Rattle.interlocking.specs.Step.{refusal}
 use Rattle.step_facts.specs.Run.{Event, event}
+use Rattle.way_out.specs.Freeing.{CountsOf}
 use Rattle.way_out.specs.WayOut.{AtRest}
-use Rattle.way_out.specs.WayToProceed.{unbars, readsFree, allReadsFree, throws, readsPlaced, placing}
+use Rattle.way_out.specs.WayToProceed.{unbars, readsFree, countsAfter, allReadsFree, throws, readsPlaced, placing}
 use Rattle.step_facts.proofs.Within.{end}
 use Rattle.step_facts.proofs.Granted.{point-granted, unbar-granted}
 use Rattle.way_out.proofs.Goes.{Whole, Goes, stop, goes, after-that, ending-so}
@@ -50,12 +51,12 @@ module _ (L : Layout) (ok : sound L ≡ true) (S : Sound L) where
   module _ (r : ℕ) (b : r < L .routes) where
     -- at rest a section comes to read free, and the way leads onward: a block reads free and is left alone; the readings of any other take nothing from
     -- what is at rest, and leave points and bars
-    free-one : (g : ℕ) → g < L .sections → (s : State) → Whole s → AtRest L s → Goes L s (readsFree L g) (λ t. Onward L r s t × (reading (t .section) g ≡ 1))
+    free-one : (cs : CountsOf) (g : ℕ) → g < L .sections → (s : State) → Whole s → AtRest L s → Goes L s (readsFree L cs g) (λ t. Onward L r s t × (reading (t .section) g ≡ 1))
     unfolding readsFree
-    free-one g there s whole rest =
+    free-one cs g there s whole rest =
         if-both (λ es. Goes L s es (λ t. Onward L r s t × (reading (t .section) g ≡ 1))) _
         (λ t. stop L _ s whole (as-it-is, block-free L g s rest t))
-        (λ f. ending-so (free-goes L ok S g there Still (still-outlasts (off-blocks L g f)) s whole (rest, refl, refl)) (λ t w q. (further t q, q .1 .here)))
+        (λ f. ending-so (free-goes L ok S cs g there Still (still-outlasts (off-blocks L g f)) s whole (rest, refl, refl)) (λ t w q. (further t q, q .1 .here)))
       where
         Still : State → Type 0
         Still t = AtRest L t × (t .point ≡ s .point) × (t .bar ≡ s .bar)
@@ -107,13 +108,13 @@ module _ (L : Layout) (ok : sound L ≡ true) (S : Sound L) where
           (λ i j s c d was. unbar-clears L s l j l i (omega (arith, S .ranges .lines l there .blockCount, S .ranges .lineCount)) (⊎-elim (λ z. inl (ap (place l) z)) inr was))
 
       -- sections come to read free
-      pub free-turn : (n : ℕ) (g : ℕ → ℕ) → ((j : ℕ) → j < n → g j < L .sections) → (s : State) → Whole s → Q s
-          → Goes L s (allReadsFree L n g) (λ t. Q t × AllFree n g t)
+      pub free-turn : (cs : CountsOf) (n : ℕ) (g : ℕ → ℕ) → ((j : ℕ) → j < n → g j < L .sections) → (s : State) → Whole s → Q s
+          → Goes L s (allReadsFree L cs n g) (λ t. Q t × AllFree n g t)
       unfolding allReadsFree join
-      free-turn zero g there s whole q = stop L _ s whole (q, λ j c. absurd (omega arith))
-      free-turn (suc n) g there s whole q =
-          after-that (free-turn n g (λ j c. there j (omega arith)) s whole q)
-          (λ t w p. ending-so (free-one (g n) (there n (omega arith)) t w (rests t (p .0)))
+      free-turn cs zero g there s whole q = stop L _ s whole (q, λ j c. absurd (omega arith))
+      free-turn cs (suc n) g there s whole q =
+          after-that (free-turn cs n g (λ j c. there j (omega arith)) s whole q)
+          (λ t w p. ending-so (free-one (countsAfter cs n g) (g n) (there n (omega arith)) t w (rests t (p .0)))
           (λ u still o. (lasts t u (o .0) (p .0), λ j c. one-more t u p o j c (ℕ-discrete j n))))
         where
           one-more : (t u : State) → Q t × AllFree n g t → Onward L r t u × (reading (u .section) (g n) ≡ 1) → (j : ℕ) → j < suc n → Dec (j ≡ n) → reading (u .section) (g j) ≡ 1
@@ -121,12 +122,12 @@ module _ (L : Layout) (ok : sound L ≡ true) (S : Sound L) where
           one-more t u p o j c (no d) = o .0 .free (g j) (there j c) (p .1 j (omega arith))
 
     -- at rest, points of which no two are one, and which agree with what the route asks, are put in position
-    pub place-turn : (Q : State → Type 0) → Lasting L r Q → ((t : State) → Q t → AtRest L t) → (n : ℕ) (p w : ℕ → ℕ) → ((j : ℕ) → j < n → p j < L .points)
+    pub place-turn : (Q : State → Type 0) → Lasting L r Q → ((t : State) → Q t → AtRest L t) → (cs : CountsOf) (n : ℕ) (p w : ℕ → ℕ) → ((j : ℕ) → j < n → p j < L .points)
         → ((j : ℕ) → j < n → (w j ≡ 1) ⊎ (w j ≡ 2)) → ((i j : ℕ) → i < n → j < n → p i ≡ p j → i ≡ j) → ((j : ℕ) → j < n → Agrees L r (p j) (w j))
-        → (s : State) → Whole s → Q s → Goes L s (placing L n p w) (λ t. Q t × AllPlaced n p w t)
+        → (s : State) → Whole s → Q s → Goes L s (placing L cs n p w) (λ t. Q t × AllPlaced n p w t)
     unfolding placing throws readsPlaced
-    place-turn Q lasts rests n p w there position differ agree s whole q =
-        after-that (free-turn Q lasts rests n own owns s whole q)
+    place-turn Q lasts rests cs n p w there position differ agree s whole q =
+        after-that (free-turn Q lasts rests cs n own owns s whole q)
         (λ t still q. after-that (turns n _ (λ j. Free) throw t still q)
         (λ t still q. in-turn Q lasts rests n _ _ (λ j c. by-point (p j) (w j) (agree j c)) (λ j s c ranged. point-granted L s ok ranged (p j) (w j) (there j c))
         (λ i j s c d was. point-reads L s (p j) (w j) (p i) (w i) (omega (arith, there i c, S .ranges .pointCount)) (position i c) (λ z. ap w (differ i j c d z))

@@ -23,6 +23,7 @@ use Rattle.interlocking.specs.declared.Answer.{Answer}
 use Rattle.interlocking.specs.Step.{step}
 use Rattle.step_facts.specs.Run.{Event, event}
 use Rattle.step_facts.proofs.Range.{inRange-means, read-within}
+use Rattle.way_out.specs.Freeing.{CountsOf}
 use Rattle.way_out.specs.WayOut.{standing, cancels, ninetySeconds, readFree, allReadFree, releases}
 use Rattle.step_facts.proofs.Entries.{phase, direction, stage, block, block-there, block-below}
 use Rattle.step_facts.proofs.Within.{end}
@@ -159,13 +160,13 @@ module _ (L : Layout) (ok : sound L ≡ true) (S : Sound L) where
       other k j (inr h) q = omega arith
 
   -- the blocks of one line come to read free
-  read-blocks : (l i : ℕ) (s : State) → l < L .lines → i ≤ lineIn L l .blocks → Whole s → Idle L s × BlocksFree L l i s
-      → Goes L s (readFree L l i) (λ t. Idle L t × BlocksFree L l 0 t)
+  read-blocks : (cs : CountsOf) (l i : ℕ) (s : State) → l < L .lines → i ≤ lineIn L l .blocks → Whole s → Idle L s × BlocksFree L l i s
+      → Goes L s (readFree L cs l i) (λ t. Idle L t × BlocksFree L l 0 t)
   unfolding readFree
-  read-blocks l zero s there few whole p = stop L _ s whole p
-  read-blocks l (suc i) s there few whole p =
-      after-that (free-goes L ok S (block L l i) (block-there L S l i there few) _ (block-outlasted l i there few) s whole p)
-      (λ t still q. read-blocks l i t there (omega arith) still (q .0 .0, λ k j after b c. one-more t q k j after (ℕ-discrete i j) b c))
+  read-blocks cs l zero s there few whole p = stop L _ s whole p
+  read-blocks cs l (suc i) s there few whole p =
+      after-that (free-goes L ok S cs (block L l i) (block-there L S l i there few) _ (block-outlasted l i there few) s whole p)
+      (λ t still q. read-blocks cs l i t there (omega arith) still (q .0 .0, λ k j after b c. one-more t q k j after (ℕ-discrete i j) b c))
     where
       one-more : (t : State) → Frees (block L l i) (λ t. Idle L t × BlocksFree L l (suc i) t) s t → (k j : ℕ) → (l < k) ⊎ ((l ≡ k) × (i ≤ j)) → Dec (i ≡ j) → k < L .lines
           → j < lineIn L k .blocks → readings.reading (t .section) (block L k j) ≡ 1
@@ -174,13 +175,13 @@ module _ (L : Layout) (ok : sound L ≡ true) (S : Sound L) where
       one-more t q k j (inr h) (no z) b c = let e = h .1 in q .0 .1 k j (inr (h .0, omega arith)) b c
 
   -- those of every line
-  pub read-all : (n : ℕ) (s : State) → n ≤ L .lines → Whole s → Idle L s × LinesFree L n s
-      → Goes L s (allReadFree L n) (λ t. Idle L t × LinesFree L 0 t)
+  pub read-all : (cs : CountsOf) (n : ℕ) (s : State) → n ≤ L .lines → Whole s → Idle L s × LinesFree L n s
+      → Goes L s (allReadFree L cs n) (λ t. Idle L t × LinesFree L 0 t)
   unfolding allReadFree
-  read-all zero s few whole p = stop L _ s whole p
-  read-all (suc l) s few whole p =
-      after-that (read-blocks l (lineIn L l .blocks) s few (le-refl _) whole (p .0, before))
-      (λ t still q. read-all l t (omega arith) still (q .0, λ k i b. q .1 k i (since k i b (ℕ-discrete l k))))
+  read-all cs zero s few whole p = stop L _ s whole p
+  read-all cs (suc l) s few whole p =
+      after-that (read-blocks cs l (lineIn L l .blocks) s few (le-refl _) whole (p .0, before))
+      (λ t still q. read-all cs l t (omega arith) still (q .0, λ k i b. q .1 k i (since k i b (ℕ-discrete l k))))
     where
       before : BlocksFree L l (lineIn L l .blocks) s
       before k i (inl h) b c = p .1 k i h b c

@@ -16,8 +16,9 @@ use Rattle.layout_facts.proofs.Order.{one-of}
 use Rattle.layout_facts.proofs.Uses.{entered-block}
 use Rattle.interlocking.specs.declared.State.{State}
 use Rattle.step_facts.specs.Run.{Event, event}
+use Rattle.way_out.specs.Freeing.{CountsOf}
 use Rattle.way_out.specs.WayOut.{AtRest}
-use Rattle.way_out.specs.WayToProceed.{clearing, securing, lineFor, PointsAgree}
+use Rattle.way_out.specs.WayToProceed.{countsAfterPath, countsAfterOverlap, countsAfterPoints, clearing, securing, lineFor, PointsAgree}
 use Rattle.step_facts.proofs.Entries.{phase}
 use Rattle.step_facts.proofs.Tells.{tells-no-order}
 use Rattle.step_facts.proofs.Within.{end}
@@ -40,7 +41,7 @@ Ready L r s = Vacant L r s × RoutePlaced L r s
 abbrev pub AtProceed : Layout → ℕ → State → Type 0
 AtProceed L r s = (phase s r ≡ 1) × (mainShows (L .routes) (L .route) (s .phase) (routeIn L r .entry) ≡ proceedShown (routeIn L r))
 
-module _ (L : Layout) (ok : sound L ≡ true) (S : Sound L) (r : ℕ) (b : r < L .routes) where
+module _ (L : Layout) (ok : sound L ≡ true) (S : Sound L) (cs : CountsOf) (r : ℕ) (b : r < L .routes) where
   -- ---- what every route asks
 
   -- its sections and points are there
@@ -52,12 +53,12 @@ module _ (L : Layout) (ok : sound L ≡ true) (S : Sound L) (r : ℕ) (b : r < L
   vacant-lasts = both-last (both-last (rest-lasts L r) (free-lasts L r _ _ (own .paths))) (free-lasts L r _ _ (own .overlaps))
 
   -- from rest the sections read free and the points come in position: no two of them are one
-  clear-all : (s : State) → Whole s → AtRest L s → Goes L s (clearing L r) (Ready L r)
+  clear-all : (s : State) → Whole s → AtRest L s → Goes L s (clearing L cs r) (Ready L r)
   unfolding clearing
   clear-all s whole rest =
-      after-that (free-turn L ok S r b (AtRest L) (rest-lasts L r) (λ t q. q) _ _ (own .paths) s whole rest)
-      (λ t w q. after-that (free-turn L ok S r b _ (both-last (rest-lasts L r) (free-lasts L r _ _ (own .paths))) (λ t q. q .0) _ _ (own .overlaps) t w q)
-      (λ t w q. place-turn L ok S r b (Vacant L r) vacant-lasts (λ t q. q .0 .0) _ _ _ (own .points) (own .positions) (λ i j. S .rule3 .routePoints r i j b)
+      after-that (free-turn L ok S r b (AtRest L) (rest-lasts L r) (λ t q. q) cs _ _ (own .paths) s whole rest)
+      (λ t w q. after-that (free-turn L ok S r b _ (both-last (rest-lasts L r) (free-lasts L r _ _ (own .paths))) (λ t q. q .0) (countsAfterPath L cs r) _ _ (own .overlaps) t w q)
+      (λ t w q. place-turn L ok S r b (Vacant L r) vacant-lasts (λ t q. q .0 .0) (countsAfterOverlap L cs r) _ _ _ (own .points) (own .positions) (λ i j. S .rule3 .routePoints r i j b)
       (λ j c i d z. ap (routePosition L r) (S .rule3 .routePoints r i j b d c z)) t w q))
 
   -- ---- what an exit route asks besides
@@ -93,11 +94,11 @@ module _ (L : Layout) (ok : sound L ≡ true) (S : Sound L) (r : ℕ) (b : r < L
 
     -- line and route do not ask one point in two positions: the bars are cleared, the line's points come in position, those of the route stay, and the
     -- line is secured
-    secure-all : PointsAgree L r → (s : State) → Whole s → Ready L r s → Goes L s (securing L l (routeIn L r .end + 1)) (Prepared L r)
+    secure-all : PointsAgree L r → (s : State) → Whole s → Ready L r s → Goes L s (securing L (countsAfterPoints L cs r) l (routeIn L r .end + 1)) (Prepared L r)
     unfolding securing
     secure-all agree s whole q =
         after-that (unbar-turn L ok S r b (Ready L r) ready-lasts (λ t q. q .0 .0 .0) l (line-there .0) s whole q)
-        (λ t w q. after-that (place-turn L ok S r b _ (both-last ready-lasts (bars-last L r l (line-there .0))) (λ t q. q .0 .0 .0 .0) _ _ _ (lines .points) (lines .positions)
+        (λ t w q. after-that (place-turn L ok S r b _ (both-last ready-lasts (bars-last L r l (line-there .0))) (λ t q. q .0 .0 .0 .0) (countsAfterPoints L cs r) _ _ _ (lines .points) (lines .positions)
         (λ i j. S .rule3 .linePoints l i j (line-there .0)) (λ k d j c z. agree j k c d z) t w q)
         (λ t w q. goes L _ t (event 6 l (routeIn L r .end + 1)) []
         (secure-granted L t ok (w .ranged) l _ (line-there .0) (one-of _ 1 2 (omega (arith, line-there .1))) (q .0 .0 .0 .0 .0) (q .0 .1) (q .1)) w
@@ -112,7 +113,7 @@ module _ (L : Layout) (ok : sound L ≡ true) (S : Sound L) (r : ℕ) (b : r < L
   -- ---- all of it
 
   -- the line, where the route is an exit route; any other has what it is set by
-  line-all : (routeIn L r .kind ≡ 2 → PointsAgree L r) → (s : State) → Whole s → Ready L r s → Goes L s (lineFor L r) (Prepared L r)
+  line-all : (routeIn L r .kind ≡ 2 → PointsAgree L r) → (s : State) → Whole s → Ready L r s → Goes L s (lineFor L (countsAfterPoints L cs r) r) (Prepared L r)
   unfolding lineFor
   line-all agree s whole q =
       if-both (λ es. Goes L s es (Prepared L r)) _ (λ t. let exit = eqb-true _ 2 t in secure-all exit (agree exit) s whole q)
@@ -126,7 +127,7 @@ module _ (L : Layout) (ok : sound L ≡ true) (S : Sound L) (r : ℕ) (b : r < L
 
   -- from rest the signal comes to proceed
   pub comes-to-proceed : (routeIn L r .kind ≡ 2 → PointsAgree L r) → (s : State) → Whole s → AtRest L s
-      → Goes L s (clearing L r ++ (lineFor L r ++ (event 4 r 0 ∷ []))) (AtProceed L r)
+      → Goes L s (clearing L cs r ++ (lineFor L (countsAfterPoints L cs r) r ++ (event 4 r 0 ∷ []))) (AtProceed L r)
   comes-to-proceed agree s whole rest =
       after-that (clear-all s whole rest)
       (λ t w q. after-that (line-all agree t w q)

@@ -18,7 +18,7 @@ use Rattle.fitted.specs.InUse.{InUse}
 use Rattle.interlocking.specs.declared.State.{State}
 use Rattle.interlocking.specs.Step.{step}
 use Rattle.step_facts.specs.Run.{Event, event, box, stateAfter, fromCold}
-use Rattle.way_out.specs.Freeing.{freeing, fittedBlocks}
+use Rattle.way_out.specs.Freeing.{CountsOf, freeing, fittedBlocks}
 
 -- ---- the way out
 
@@ -36,14 +36,14 @@ unfoldable pub ninetySeconds : List Event
 ninetySeconds = replicate 90 (event oneSecond 0 0)
 
 -- the first i blocks of line l come to read free: the one section of each does
-unfoldable pub readFree : Layout → ℕ → ℕ → List Event
-readFree L l zero = []
-readFree L l (suc i) = freeing L (onlySection (lineIn L l) i) ++ readFree L l i
+unfoldable pub readFree : Layout → CountsOf → ℕ → ℕ → List Event
+readFree L cs l zero = []
+readFree L cs l (suc i) = freeing L cs (onlySection (lineIn L l) i) ++ readFree L cs l i
 
--- all blocks of the first n lines do
-unfoldable pub allReadFree : Layout → ℕ → List Event
-allReadFree L zero = []
-allReadFree L (suc l) = readFree L l (lineIn L l .blocks) ++ allReadFree L l
+-- all blocks of the first n lines do; no two are one section (rule 1), so the counts of each stand where they stood
+unfoldable pub allReadFree : Layout → CountsOf → ℕ → List Event
+allReadFree L cs zero = []
+allReadFree L cs (suc l) = readFree L cs l (lineIn L l .blocks) ++ allReadFree L cs l
 
 -- release each of the first n lines by hand; the ground given is 1, and the box takes any (section 3)
 unfoldable pub releases : ℕ → List Event
@@ -51,8 +51,8 @@ releases zero = []
 releases (suc l) = event releaseLine l 1 ∷ releases l
 
 -- one after the other
-unfoldable pub wayOut : Layout → State → List Event
-wayOut L s = cancels L (L .routes) s ++ (ninetySeconds ++ (allReadFree L (L .lines) ++ releases (L .lines)))
+unfoldable pub wayOut : Layout → CountsOf → State → List Event
+wayOut L cs s = cancels L (L .routes) s ++ (ninetySeconds ++ (allReadFree L cs (L .lines) ++ releases (L .lines)))
 
 -- ---- what is said of it
 
@@ -69,11 +69,11 @@ pub record AtRest (L : Layout) (s : State) : Type 0 where
   pub free : (l i : ℕ) → l < L .lines → i < lineIn L l .blocks → blockReading (s .section) (lineIn L l) i ≡ free
 
 -- the way out is granted, no longer than the layout allows, and ends at rest
-pub record WayOut (L : Layout) (s : State) : Type 0 where
-  pub granted : Granted L s (wayOut L s)
-  pub short : length (wayOut L s) ≤ L .routes + 90 + 9 * L .lines + 6 * fittedBlocks L (L .lines)
-  pub rest : AtRest L (stateAfter (box L) s (wayOut L s))
+pub record WayOut (L : Layout) (cs : CountsOf) (s : State) : Type 0 where
+  pub granted : Granted L s (wayOut L cs s)
+  pub short : length (wayOut L cs s) ≤ L .routes + 90 + 9 * L .lines + 6 * fittedBlocks L (L .lines)
+  pub rest : AtRest L (stateAfter (box L) s (wayOut L cs s))
 
--- from every state that a run can reach on a layout in use, with or without heads
+-- from every state that a run can reach on a layout in use, with or without heads, whatever their counts stand at
 abbrev pub NoDeadEnd : Type 0
-NoDeadEnd = (L : Layout) → InUse L → (es : List Event) → WayOut L (fromCold L es)
+NoDeadEnd = (L : Layout) → InUse L → (cs : CountsOf) (es : List Event) → WayOut L cs (fromCold L es)

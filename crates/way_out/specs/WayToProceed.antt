@@ -1,5 +1,5 @@
 -- Every route that can be set at all comes to be, with its signal at proceed: a way to it from every state that a run can reach. Beside the demands of document 01.
-use Prim.Native.Nat.{ℕ, _+_, _*_, _<_, _≤_}
+use Prim.Native.Nat.{ℕ, zero, suc, _+_, _*_, _<_, _≤_}
 use mathlib.Core.Path.{_≡_}
 use mathlib.Core.List.{List, [], _∷_, _++_}
 use lib.Dec.{eqb}
@@ -19,7 +19,7 @@ use Rattle.interlocking.specs.Step.{step}
 use Rattle.step_facts.specs.Run.{Event, event, box, stateAfter, fromCold}
 use Rattle.panel.specs.Panel.{image}
 use Rattle.panel.specs.Shown.{showsLocked, Panel, panel}
-use Rattle.way_out.specs.Freeing.{freeing, fittedAmong, fittedBlocks}
+use Rattle.way_out.specs.Freeing.{CountsOf, freeing, countsSince, fittedAmong, fittedBlocks}
 use Rattle.way_out.specs.WayOut.{wayOut, Granted}
 
 -- ---- the events of the way, by their kind
@@ -29,12 +29,18 @@ unfoldable pub unbars : ℕ → ℕ → List Event
 unbars l n = table n (λ i. event unbarBlock l i)
 
 -- section g comes to read free. A block reads free since the way out, and is left alone: an axle counted in it would take it again
-unfoldable pub readsFree : Layout → ℕ → List Event
-readsFree L g = if isBlock (L .lines) (L .line) g then [] else freeing L g
+unfoldable pub readsFree : Layout → CountsOf → ℕ → List Event
+readsFree L cs g = if isBlock (L .lines) (L .line) g then [] else freeing L cs g
 
--- the sections g 0, .., g (n - 1) do
-unfoldable pub allReadsFree : Layout → ℕ → (ℕ → ℕ) → List Event
-allReadsFree L n g = join n (λ j. readsFree L (g j))
+-- what the counts stand at once the sections g 0, .., g (n - 1) have: those of a section that is asked for again stand one axle further; of a block they are
+-- not asked
+unfoldable pub countsAfter : CountsOf → ℕ → (ℕ → ℕ) → CountsOf
+countsAfter cs zero g = cs
+countsAfter cs (suc n) g = countsSince (countsAfter cs n g) (g n)
+
+-- those sections come to read free, one after the other
+unfoldable pub allReadsFree : Layout → CountsOf → ℕ → (ℕ → ℕ) → List Event
+allReadsFree L cs n g = join n (λ j. readsFree L (countsAfter cs j g) (g j))
 
 -- throw the points p 0, .., p (n - 1), each to its position
 unfoldable pub throws : ℕ → (ℕ → ℕ) → (ℕ → ℕ) → List Event
@@ -47,30 +53,42 @@ readsPlaced n p w = table n (λ j. event readPoint (p j) (w j))
 -- ---- the way
 
 -- n points in position: the section in which each stands reads free, each is thrown, each reads its position
-unfoldable pub placing : Layout → ℕ → (ℕ → ℕ) → (ℕ → ℕ) → List Event
-placing L n p w = allReadsFree L n (λ j. ownSection L (p j)) ++ (throws n p w ++ readsPlaced n p w)
+unfoldable pub placing : Layout → CountsOf → ℕ → (ℕ → ℕ) → (ℕ → ℕ) → List Event
+placing L cs n p w = allReadsFree L cs n (λ j. ownSection L (p j)) ++ (throws n p w ++ readsPlaced n p w)
+
+-- what the counts stand at once the path of route r reads free
+unfoldable pub countsAfterPath : Layout → CountsOf → ℕ → CountsOf
+countsAfterPath L cs r = countsAfter cs (routeIn L r .paths) (path L r)
+
+-- then its overlap
+unfoldable pub countsAfterOverlap : Layout → CountsOf → ℕ → CountsOf
+countsAfterOverlap L cs r = countsAfter (countsAfterPath L cs r) (routeIn L r .overlaps) (overlap L r)
+
+-- then the sections in which its points stand
+unfoldable pub countsAfterPoints : Layout → CountsOf → ℕ → CountsOf
+countsAfterPoints L cs r = countsAfter (countsAfterOverlap L cs r) (routeIn L r .points) (λ j. ownSection L (routePoint L r j))
 
 -- what every route asks (section 3, set route: 6, 7/8): path and overlap read free, its points in position
-unfoldable pub clearing : Layout → ℕ → List Event
-clearing L r =
-    allReadsFree L (routeIn L r .paths) (path L r)
-    ++ (allReadsFree L (routeIn L r .overlaps) (overlap L r)
-    ++ placing L (routeIn L r .points) (routePoint L r) (routePosition L r))
+unfoldable pub clearing : Layout → CountsOf → ℕ → List Event
+clearing L cs r =
+    allReadsFree L cs (routeIn L r .paths) (path L r)
+    ++ (allReadsFree L (countsAfterPath L cs r) (routeIn L r .overlaps) (overlap L r)
+    ++ placing L (countsAfterOverlap L cs r) (routeIn L r .points) (routePoint L r) (routePosition L r))
 
 -- line l is secured in direction w (section 3, secure: 11, 6): no bar on it, its points in position
-unfoldable pub securing : Layout → ℕ → ℕ → List Event
-securing L l w =
+unfoldable pub securing : Layout → CountsOf → ℕ → ℕ → List Event
+securing L cs l w =
     unbars l (lineIn L l .blocks)
-    ++ (placing L (lineIn L l .points) (linePoint L l) (linePosition L l)
+    ++ (placing L cs (lineIn L l .points) (linePoint L l) (linePosition L l)
     ++ (event secureLine l w ∷ []))
 
 -- what an exit route asks besides (section 3, set route: 9, 6, 11, 10): its line secured its way; the other kinds ask nothing of a line
-unfoldable pub lineFor : Layout → ℕ → List Event
-lineFor L r = if eqb (routeIn L r .kind) exitRoute then securing L (routeIn L r .line) (leaving (routeIn L r .end)) else []
+unfoldable pub lineFor : Layout → CountsOf → ℕ → List Event
+lineFor L cs r = if eqb (routeIn L r .kind) exitRoute then securing L cs (routeIn L r .line) (leaving (routeIn L r .end)) else []
 
--- the way out of the state, then what the route asks, then it is set
-unfoldable pub wayToProceed : Layout → State → ℕ → List Event
-wayToProceed L s r = wayOut L s ++ (clearing L r ++ (lineFor L r ++ (event setRoute r 0 ∷ [])))
+-- the way out of the state, then what the route asks, then it is set; the way out frees blocks, whose counts are not asked again
+unfoldable pub wayToProceed : Layout → CountsOf → State → ℕ → List Event
+wayToProceed L cs s r = wayOut L cs s ++ (clearing L cs r ++ (lineFor L (countsAfterPoints L cs r) r ++ (event setRoute r 0 ∷ [])))
 
 -- ---- what is said of it
 
@@ -96,18 +114,19 @@ fittedAsked L r =
     + fittedAmong L (routeIn L r .points) (λ j. ownSection L (routePoint L r j)) + fittedForLine L r
 
 -- the way is granted, no longer than the layout allows, and ends with the route shown locked and its signal at proceed: 21 (diverging) or 22
-pub record WayToProceed (L : Layout) (s : State) (r : ℕ) : Type 0 where
-  pub granted : Granted L s (wayToProceed L s r)
-  pub short : length (wayToProceed L s r) ≤ L .routes + 9 * L .lines + 160 + 6 * (fittedBlocks L (L .lines) + fittedAsked L r)
-  pub locks : shownAfter L s (wayToProceed L s r) .route r ≡ showsLocked
-  pub shows : shownAfter L s (wayToProceed L s r) .signal (main (routeIn L r .entry)) ≡ proceedShown (routeIn L r)
+pub record WayToProceed (L : Layout) (cs : CountsOf) (s : State) (r : ℕ) : Type 0 where
+  pub granted : Granted L s (wayToProceed L cs s r)
+  pub short : length (wayToProceed L cs s r) ≤ L .routes + 9 * L .lines + 160 + 6 * (fittedBlocks L (L .lines) + fittedAsked L r)
+  pub locks : shownAfter L s (wayToProceed L cs s r) .route r ≡ showsLocked
+  pub shows : shownAfter L s (wayToProceed L cs s r) .signal (main (routeIn L r .entry)) ≡ proceedShown (routeIn L r)
 
--- from every state that a run can reach on a layout in use, with or without heads, for every route; of an exit route the points and those of its line agree
+-- from every state that a run can reach on a layout in use, with or without heads, whatever their counts stand at, for every route; of an exit route the points
+-- and those of its line agree
 abbrev pub EveryRouteProceeds : Type 0
 EveryRouteProceeds =
-    (L : Layout) → InUse L → (es : List Event) (r : ℕ) → r < L .routes
+    (L : Layout) → InUse L → (cs : CountsOf) (es : List Event) (r : ℕ) → r < L .routes
     → (routeIn L r .kind ≡ exitRoute → PointsAgree L r)
-    → WayToProceed L (fromCold L es) r
+    → WayToProceed L cs (fromCold L es) r
 
 -- and the points must agree: where they do not, no state of any layout grants the exit route
 abbrev pub SetNeedsAgreement : Type 0
