@@ -10,13 +10,15 @@ use Rattle.laws.specs.Choice.{if_then_else_}
 use Rattle.laws.specs.Tests.{_and_, every}
 use Rattle.laws.proofs.Choice.{Is, holds, fails, which}
 use Rattle.laws.proofs.Tests.{not-both}
-use Rattle.axles.specs.Heads.{axlesReading}
-use Rattle.axles.specs.HeadLog.{HeadLog, hasTold, bothSpeak, readingTold}
-use Rattle.axles.proofs.HeadLog.{log-reads}
+use Rattle.axles.specs.Heads.{speaking, number, axlesReading}
+use Rattle.axles.specs.HeadLog.{HeadLog, hasTold, bothSpeak, readingTold, headsAfter}
+use Rattle.axles.proofs.HeadLog.{log-reads, log-speaks, log-number}
 use Rattle.layout.specs.declared.Layout.{Layout}
 use Rattle.layout.specs.Layout.{isFitted}
+use Rattle.interlocking.specs.State.{headsAt}
+use Rattle.step_facts.specs.Run.{fromCold}
 use Rattle.safety.specs.HeadsTold.{saidOf, saying}
-use Rattle.safety.specs.History.{Moment, History, gaveSection, headLog, reads, sectionReads}
+use Rattle.safety.specs.History.{Moment, History, gaveSection, headLog, reads, sectionReads, history}
 use Rattle.safety.specs.Fitted.{ReadsByHeads, HeadsTold}
 use Rattle.safety.proofs.Heads.{SaidOf, said-is, is-said, log-said, log-unsaid, told-in, reset-lost}
 use Rattle.safety.proofs.Given.{Gave, by-reading, by-saying, gives-none, gives-said}
@@ -70,5 +72,14 @@ reads-by-heads L g b f (m ∷ h) = reads-on L g b f m h (reads-by-heads L g b f 
 
 -- ---- the box's own heads, and what shows
 
+-- they are as after the log, event by event, and that is what it tells
 pub heads-told : HeadsTold
-heads-told L ok es g b f = record { heads = run-has L ok es .heads .told g b f; shows = exact-run L ok es .sections g b ∙ reads-by-heads L g b f _ }
+heads-told L ok es g b f =
+    let log : HeadLog = headLog g (history L es) in
+    let held : headsAt (fromCold L es .axles) g ≡ headsAfter log = run-has L ok es .heads .told g b f in
+    record {
+      speaks = ap speaking held ∙ log-speaks log;
+      counts = ap number held ∙ log-number log;
+      says = ap axlesReading held ∙ log-reads log;
+      shows = exact-run L ok es .sections g b ∙ reads-by-heads L g b f (history L es);
+    }

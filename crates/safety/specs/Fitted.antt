@@ -5,7 +5,8 @@ use Prim.Native.Nat.{ℕ, _<_}
 use mathlib.Core.Path.{_≡_}
 use mathlib.Core.Bool.{true}
 use mathlib.Core.List.{List}
-use Rattle.axles.specs.HeadLog.{readingTold, headsAfter}
+use Rattle.axles.specs.Heads.{speaking, number, axlesReading}
+use Rattle.axles.specs.HeadLog.{bothSpeak, numberTold, readingTold}
 use Rattle.layout.specs.declared.Layout.{Layout}
 use Rattle.layout.specs.Layout.{isFitted}
 use Rattle.layout.specs.Sound.{sound}
@@ -19,9 +20,13 @@ ReadsByHeads = (L : Layout) (g : ℕ) → g < L .sections → isFitted L g ≡ t
 
 -- after the events es
 pub record FittedAsTold (L : Layout) (es : List Event) (g : ℕ) : Type 0 where
-  -- the box holds of its heads what the log tells
-  pub heads : headsAt (fromCold L es .axles) g ≡ headsAfter (headLog g (history L es))
-  -- and the section shows it
+  -- what the box holds of its heads speaks where the log says that both do
+  pub speaks : speaking (headsAt (fromCold L es .axles) g) ≡ bothSpeak (headLog g (history L es))
+  -- its number is that of the log
+  pub counts : number (headsAt (fromCold L es .axles) g) ≡ numberTold (headLog g (history L es))
+  -- and it says what the log tells
+  pub says : axlesReading (headsAt (fromCold L es .axles) g) ≡ readingTold (headLog g (history L es))
+  -- which the section shows
   pub shows : shown L (history L es) .section g ≡ readingTold (headLog g (history L es))
 
 -- on every sound layout, after every list of events from the cold start, of every section that there is and has heads
