@@ -20,6 +20,7 @@ use Rattle.layout.specs.Layout.{isFitted}
 use Rattle.layout_facts.specs.Plain.{innerSection, entranceSignal, nearestBlock, path, overlap, routePoint, routePosition, linePoint, linePosition}
 use Rattle.layout_facts.specs.Plain as plain
 use Rattle.layout_facts.proofs.BranchT.{computed}
+use Rattle.fitted.specs.Fitted.{anyOf, isTold, lacks, bit, toldBy, withTold, equipped}
 use Rattle.reasons.specs.Refusal.{refused, noRefusal, refusedIf, found, firstOf}
 use Rattle.reasons.specs.Searches.{lacking, misplaced, routeLocks, lineLocks, failing}
 use Rattle.tables.specs.Locks.{locked, lockedExitBy, lockedExit}
@@ -67,9 +68,9 @@ unfolding computed
     gaveFirst gaveSecond secondsSince position plain.ownSection path overlap routePoint routePosition linePoint linePosition
 runComputed = 0
 
--- whoever unfolds this besides unfolds all that heads and the logs of them are made of (L1)
+-- whoever unfolds this besides unfolds all that fitted sections, heads and the logs of them are made of (L1)
 unfoldable pub headsComputed : ℕ
-unfolding around signed
+unfolding equipped withTold toldBy isTold lacks anyOf bit around signed
     noHead noAxles speaks speaking headAfter net number readingOf occupies resets sumAfter proofAfter heads.told withProof proves judged axlesAfter known axlesReading
     says hasTold lastTold bothSpeak netTold isReset netAtReset numberTold occupiesTold wasReset provedTold readingTold
     headsAt withAxles headSection headsOf headsBy ownHeads noHeads headRow countRow silentRow resetRow

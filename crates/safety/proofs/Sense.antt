@@ -21,11 +21,11 @@ use Rattle.safety.specs.OtherLayouts.{twoBlocks, twoLines, twoExits}
 use Rattle.safety.specs.WrongRuns.{readings, opened}
 use Rattle.safety.specs.WrongHeads.{fittedT, letOutAt}
 use Rattle.safety.proofs.Computed.{runComputed, headsComputed}
-use Rattle.safety.proofs.Demand3.{safe-run, demand3}
+use Rattle.safety.proofs.Demand3.{demand3}
 use Rattle.safety.proofs.OtherLayouts.{others-load}
 use Rattle.safety.proofs.Tested.{passedTest, byHandTest, by-hand-means, passed-means, cleared-means}
 use Rattle.safety.proofs.TestedLights.{enters-means}
-use Rattle.safety.proofs.WrongHeads.{fitted-sound}
+use Rattle.safety.proofs.WrongHeads.{fitted-in-use}
 
 -- ---- branch T
 
@@ -118,7 +118,7 @@ by-heads = enters-means fittedT (history fittedT countedOut) (main 0) 0 0 1 .0 r
 
 -- and has all that demand 3 asks
 pub heads-guarded : Guarded fittedT (history fittedT countedOut) (main 0) 0 0 1
-heads-guarded = safe-run fittedT fitted-sound countedOut .guarded (main 0) 0 0 1 by-heads
+heads-guarded = demand3 fittedT fitted-in-use countedOut .guarded (main 0) 0 0 1 by-heads
 
 -- the free reading that ended the block's last spell, given by a count, closed a passage
 pub heads-passage : (w : ℕ) × Since (Closes fittedT 0 0 w) (LeavesFree (gaveBlock fittedT 0 0)) (history fittedT countedOut)

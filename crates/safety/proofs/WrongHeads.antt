@@ -1,20 +1,22 @@
 -- The boxes that are wrong in axle counters are refused, by computation over the bytes of branch T (L1). With the box's own parts they are the step of a run.
-use Prim.Native.Nat.{ℕ, _≤_}
+use Prim.Native.Nat.{ℕ, zero, suc, _<_, _≤_}
 use mathlib.Core.Path.{_≡_, refl, sym, ap, _∙_}
 use mathlib.Core.Logic.{inl, inr}
 use mathlib.Core.Bool.{true}
+use mathlib.Core.List.{[], _∷_}
 use native.Mathlib.Omega.{arith}
 use borrow.Author.Tests.{eqb-true, eqb-false, ne-eqb}
 use lib.Dec.{eqb}
-use Rattle.laws.specs.Choice.{if_then_else_}
+use lib.ListN.{getD}
 use Rattle.laws.proofs.Choice.{if-both, passed-over}
 use Rattle.laws.proofs.Tests.{not-both}
 use Rattle.track.specs.Lists.{between}
 use Rattle.tables.specs.declared.Gives.{Gives}
 use Rattle.layout.specs.declared.Layout.{Layout}
-use Rattle.layout.specs.Sound.{sound}
-use Rattle.layout_facts.proofs.BranchT.{computed}
+use Rattle.layout_facts.specs.BranchT.{branchT}
+use Rattle.layout_facts.proofs.BranchT.{computed, branchT-number}
 use Rattle.layout_facts.proofs.Lists.{between-means}
+use Rattle.fitted.specs.InUse.{InUse}
 use Rattle.reasons.specs.declared.Refusal.{Refusal}
 use Rattle.interlocking.specs.declared.State.{State}
 use Rattle.interlocking.specs.declared.Answer.{Answer}
@@ -38,10 +40,14 @@ use Rattle.safety.proofs.Computed.{runComputed, headsComputed}
 use Rattle.safety.proofs.WrongRuns.{sameSignal, brokenTest, is-broken, passes, each-passes}
 use Rattle.safety.proofs.LateBoxes.{differ, inexactTest, is-inexact}
 
--- the layout is sound
-pub fitted-sound : sound fittedT ≡ true
+-- the layout is in use: branch T loads, and has a section 1
+pub fitted-in-use : InUse fittedT
 unfolding computed
-fitted-sound = refl
+fitted-in-use = record { file = branchT; told = 1 ∷ []; done = branchT-number; there = λ g a. there (a .0) (a .1) (a .2); its = refl }
+  where
+    there : {g : ℕ} → (i : ℕ) → i < 1 → getD (1 ∷ []) i 0 ≡ g → g < 4
+    there zero b q = omega arith
+    there (suc i) b q = absurd (omega arith)
 
 -- ---- the box's own parts
 

@@ -6,16 +6,18 @@ use lib.Dec.{eqb}
 use lib.IntN.{ℤ, pos, negsuc, _-ℤ_}
 use lib.ListN.{set}
 use Rattle.laws.specs.Choice.{if_then_else_}
-use Rattle.track.specs.Codes.{readsNone, readSection, axlesIn, headSilent, resetAxles}
+use Rattle.laws.specs.Tests.{_and_, _or_}
+use Rattle.track.specs.Codes.{occupied, readsNone, readSection, axlesIn, headSilent, resetAxles}
 use Rattle.track.specs.Lists.{between}
 use Rattle.tables.specs.declared.Gives.{Gives}
+use Rattle.axles.specs.declared.Head.{Head}
 use Rattle.axles.specs.declared.Axles.{Axles}
 use Rattle.axles.specs.declared.Said.{Said}
-use Rattle.axles.specs.Heads.{proved, net, number, readingOf, resets, withProof, axlesAfter, known, axlesReading}
+use Rattle.axles.specs.Heads.{noReset, unproved, proved, speaking, net, number, readingOf, resets, told, withProof, judged, axlesAfter, known, axlesReading}
 use Rattle.axles.specs.HeadLog.{said}
 use Rattle.layout.specs.declared.Layout.{Layout}
-use Rattle.layout.specs.Layout.{noneFitted}
 use Rattle.layout_facts.specs.BranchT.{layoutT}
+use Rattle.fitted.specs.Fitted.{equipped}
 use Rattle.reasons.specs.declared.Refusal.{Refusal}
 use Rattle.reasons.specs.Refusal.{noRefusal, firstOf}
 use Rattle.refusals.specs.Events.{numbersRefusal}
@@ -90,6 +92,28 @@ abbrev pub freeAtOnce : Box
 freeAtOnce =
     headsGo (record { after = λ x e. if resets x e then withProof (axlesAfter x e) proved else axlesAfter x e; says = λ y e. axlesReading y })
 
+-- no reset is needed before the first reading: until there is one the number counts from 0
+abbrev pub needsNoReset : Box
+needsNoReset =
+    headsGo (record { after = axlesAfter; says = λ y e. if speaking y and eqb (y .proof) noReset then readingOf (number y) else axlesReading y })
+
+-- one count of a head is enough for it to speak: it is taken to have told both
+abbrev toldBoth : Head → Head
+toldBoth h = if eqb (h .hasin) 1 or eqb (h .hasout) 1 then record { inward = h .inward; outward = h .outward; hasin = 1; hasout = 1 } else h
+
+abbrev pub speaksByOne : Box
+speaksByOne = headsGo (record {
+  after = λ x e. let y = told x e in judged (record { head0 = toldBoth (y .head0); head1 = toldBoth (y .head1); sum = y .sum; proof = y .proof });
+  says = λ y e. axlesReading y;
+})
+
+-- a number in 1 to 255 proves the reset though a head is silent
+abbrev pub provesInSilence : Box
+provesInSilence = headsGo (record {
+  after = λ x e. let y = told x e in if eqb (y .proof) unproved and eqb (readingOf (number y)) occupied then withProof y proved else y;
+  says = λ y e. axlesReading y;
+})
+
 -- silence gives none and forgets nothing: the old counts are used again with the next count of either head
 abbrev pub forgetsNothing : Box
 forgetsNothing = headsGo (record {
@@ -147,19 +171,7 @@ resetsSilent = stepWith (asksBy resetAxles (λ row. row .misfit) (λ row. noRefu
 
 -- branch T, with heads on section 1, the block: heads 2 and 3
 abbrev pub fittedT : Layout
-fittedT = record {
-  sections = layoutT .sections;
-  points = layoutT .points;
-  pointsection = layoutT .pointsection;
-  signals = layoutT .signals;
-  lines = layoutT .lines;
-  line = layoutT .line;
-  routes = layoutT .routes;
-  route = layoutT .route;
-  conflict = layoutT .conflict;
-  fitted = set noneFitted 1 1;
-  lacking = 0;
-}
+fittedT = equipped (1 ∷ []) layoutT
 
 -- on it from the cold start
 abbrev onFitted : Box → List Event → Run
@@ -169,9 +181,13 @@ onFitted wrong events = coldRun wrong fittedT events
 abbrev others : List Event
 others = event 1 0 1 ∷ event 1 2 1 ∷ event 1 3 1 ∷ event 2 0 1 ∷ []
 
--- both heads have told their counts, head 2 n axles in and nothing else, and the section is reset
+-- both heads have told their counts, head 2 n axles in and nothing else
+abbrev bothTold : ℕ → List Event
+bothTold n = event 11 2 n ∷ event 12 2 0 ∷ event 11 3 0 ∷ event 12 3 0 ∷ []
+
+-- and the section is reset
 abbrev resetAt : ℕ → List Event
-resetAt n = event 11 2 n ∷ event 12 2 0 ∷ event 11 3 0 ∷ event 12 3 0 ∷ event 14 1 0 ∷ []
+resetAt n = bothTold n ++ (event 14 1 0 ∷ [])
 
 -- then one axle goes in past head 2 and out past head 3: the block reads free
 abbrev provedAt : ℕ → List Event
@@ -190,6 +206,12 @@ abbrev pub letInUnfree : List Run
 letInUnfree =
     -- a reset reads free at once. A train is let into the block in which wagons may stand
     onFitted freeAtOnce (others ++ (resetAt 0 ++ ordered))
+    -- no reset is needed. The counts of both heads come, and a train is let in
+    ∷ onFitted needsNoReset (others ++ (bothTold 0 ++ ordered))
+    -- one count is enough. Head 2 falls silent, its count in comes again and none of those out, and a train is let in
+    ∷ onFitted speaksByOne (others ++ (provedAt 0 ++ (event 13 2 0 ∷ event 11 2 1 ∷ ordered)))
+    -- silence proves. After a reset an axle comes in and goes out past head 3 while head 2 is silent, which then tells its counts
+    ∷ onFitted provesInSilence (others ++ (resetAt 0 ++ (event 13 2 0 ∷ event 11 3 1 ∷ event 12 3 1 ∷ event 11 2 0 ∷ event 12 2 0 ∷ ordered)))
     -- silence forgets nothing. Head 2 falls silent, a count of head 3 comes again, and a train is let in
     ∷ onFitted forgetsNothing (others ++ (provedAt 0 ++ (event 13 2 0 ∷ event 11 3 0 ∷ ordered)))
     -- silence gives nothing. Head 2 falls silent under a signal at proceed
