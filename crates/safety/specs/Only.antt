@@ -2,7 +2,6 @@
 -- shows exactly shows what this one shows, byte for byte.
 --
 -- Read as `Demand3` says; k is a second history, n a moment of it.
-use Prim.Native.Nat.{ℕ}
 use mathlib.Core.Path.{_≡_}
 use mathlib.Core.List.{List, [], _∷_}
 use lib.ListN.{length}

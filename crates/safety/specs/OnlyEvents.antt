@@ -2,7 +2,6 @@
 -- accept exactly, only how they refuse what they refuse must be known to be the same.
 --
 -- Read as `Only` says.
-use Prim.Native.Nat.{ℕ}
 use mathlib.Core.Path.{_≡_}
 use mathlib.Core.Logic.{_≢_}
 use mathlib.Core.List.{List, [], _∷_}
