@@ -40,7 +40,7 @@ use Rattle.panel.specs.Panel.{blocks, routeByte, blockBytes, lineBytes, image, 
 use Rattle.panel.specs.Panel as panels
 use Rattle.step_facts.specs.Run.{box, boxInRun, stateAfter, answers, fromCold}
 use Rattle.panel.specs.Shown.{sectionShown, pointShown, signalShown, routeShown, lineShown, blockShown}
-use Rattle.safety.specs.HeadsTold.{named, ofHeads, saidOf, counts}
+use Rattle.safety.specs.Said.{named, ofHeads, saidOf, takesEffect}
 use Rattle.safety.specs.History.{gaveByReading, gaveByHeads, headLog, gaveSection, reads, shown, moment, goesOn, history}
 use Rattle.safety.specs.Locked.{gaveFirst, gaveSecond, secondsSince}
 use Rattle.safety.specs.Lights.{position}
@@ -74,5 +74,5 @@ unfolding equipped withTold toldBy isTold lacks anyOf bit around signed
     noHead noAxles speaks speaking headAfter net number readingOf occupies resets sumAfter proofAfter heads.told withProof proves judged axlesAfter known axlesReading
     says hasTold lastTold bothSpeak netTold isReset netAtReset numberTold occupiesTold wasReset provedTold readingTold
     headsAt withAxles headSection headsOf headsBy ownHeads noHeads headRow countRow silentRow resetRow
-    named ofHeads saidOf counts gaveByHeads headLog
+    named ofHeads saidOf takesEffect gaveByHeads headLog
 headsComputed = 0

@@ -34,7 +34,7 @@ use Rattle.panel.specs.Panel.{image}
 use Rattle.step_facts.specs.Run.{Event}
 use Rattle.step_facts.proofs.Own.{recorded-in, heads-say-in}
 use Rattle.step_facts.proofs.Tells.{head-named, reset-named, Tells, by-code, by-heads, Untold}
-use Rattle.safety.specs.HeadsTold.{saying, counts}
+use Rattle.safety.specs.Said.{saying, takesEffect}
 use Rattle.safety.specs.History.{Moment, History, gaveByReading, headLog, gaveByHeads, gaveSection}
 use Rattle.step_facts.proofs.Entries.{put-here, put-elsewhere}
 use Rattle.step_facts.proofs.Within.{done, end, Done, reads, sets, cancels, secures, opens, leaves, is-done}
@@ -69,7 +69,7 @@ module _ (L : Layout) (g : ℕ) (m : Moment) (h : History) where
 
   -- by the tests, one after the other
   is-given : gaveSection L g m h ≢ 0 → Gave L g (m .event) h
-  unfolding gaveSection gaveByReading gaveByHeads counts
+  unfolding gaveSection gaveByReading gaveByHeads takesEffect
   is-given =
       if-both Is _
       (λ t. if-both Is _

@@ -29,7 +29,7 @@ use Rattle.step_facts.specs.Run.{Event}
 use Rattle.step_facts.proofs.Own.{heads-say-in}
 use Rattle.step_facts.proofs.Tells.{head-named, reset-named}
 use Rattle.step_facts.proofs.Passed.{count-few, no-count}
-use Rattle.safety.specs.HeadsTold.{named, ofHeads, saidOf, saying, counts}
+use Rattle.safety.specs.Said.{named, ofHeads, saidOf, saying, takesEffect}
 use Rattle.safety.specs.History.{Moment, History, headLog, gaveByHeads}
 
 -- ---- what an event says
@@ -107,7 +107,7 @@ said-passed L s e pass h = go (ℕ-discrete (e .kind) 11) (ℕ-discrete (e .kind
 
 -- an event that says something gives what the log then reads, a reset where both heads speak
 pub heads-gave : {g : ℕ} {e : Event} (es : HeadLog) → SaidOf g e → (e .kind ≡ 14 → bothSpeak es ≡ true) → gaveByHeads g e es ≡ readingTold (saying e ∷ es)
-unfolding gaveByHeads counts
+unfolding gaveByHeads takesEffect
 heads-gave {e = e} es x f = chosen _ _ _ (and-both _ _ (is-said x) (implies-from _ _ (λ t. f (eqb-true (e .kind) 14 t))))
 
 -- ---- the log

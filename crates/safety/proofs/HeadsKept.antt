@@ -21,7 +21,7 @@ use Rattle.interlocking.specs.Step.{refusal}
 use Rattle.step_facts.specs.Run.{Event}
 use Rattle.step_facts.proofs.Within.{end}
 use Rattle.step_facts.proofs.Heads.{heads-here, heads-elsewhere, heads-many}
-use Rattle.safety.specs.HeadsTold.{saidOf}
+use Rattle.safety.specs.Said.{saidOf}
 use Rattle.safety.specs.History.{Moment, History, headLog}
 use Rattle.safety.proofs.Heads.{SaidOf, said-is, is-said, said-kinds, said-one, said-passed, log-said, log-unsaid, reset-lost, HeadsHeld, speaks-told, heads-then}
 use Rattle.safety.proofs.Given.{granted, refused-said}

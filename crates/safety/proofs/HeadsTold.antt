@@ -17,9 +17,9 @@ use Rattle.layout.specs.declared.Layout.{Layout}
 use Rattle.layout.specs.Layout.{isFitted}
 use Rattle.interlocking.specs.State.{headsAt}
 use Rattle.step_facts.specs.Run.{fromCold}
-use Rattle.safety.specs.HeadsTold.{saidOf, saying}
+use Rattle.safety.specs.Said.{saidOf, saying}
 use Rattle.safety.specs.History.{Moment, History, gaveSection, headLog, reads, sectionReads, history}
-use Rattle.safety.specs.Fitted.{ReadsByHeads, HeadsTold}
+use Rattle.safety.specs.HeadsTold.{ReadsByHeads, HeadsTold}
 use Rattle.safety.proofs.Heads.{SaidOf, said-is, is-said, log-said, log-unsaid, told-in, reset-lost}
 use Rattle.safety.proofs.Given.{Gave, by-reading, by-saying, gives-none, gives-said}
 use Rattle.safety.proofs.Told.{reads-kept, reads-given}

@@ -1,32 +1,34 @@
--- L1: what an event says of a section's heads, from its three raw numbers alone, whatever the box answered.
-use Prim.Native.Nat.{ℕ, _/_, _%_}
-use mathlib.Core.Bool.{Bool}
-use lib.Dec.{eqb, leb}
-use Rattle.laws.specs.Choice.{if_then_else_}
-use Rattle.laws.specs.Tests.{_and_, _or_, implies}
-use Rattle.track.specs.Codes.{axlesIn, axlesOut, headSilent, resetAxles}
-use Rattle.axles.specs.declared.Said.{Said}
-use Rattle.axles.specs.HeadLog.{HeadLog, said, bothSpeak}
-use Rattle.step_facts.specs.Run.{Event}
+-- L1: a section that has heads, told from the log of what was said of them: what the box holds of its heads, and what the section reads and shows.
+--
+-- Read as `Demand3` says; g is the section.
+use Prim.Native.Nat.{ℕ, _<_}
+use mathlib.Core.Path.{_≡_}
+use mathlib.Core.Bool.{true}
+use mathlib.Core.List.{List}
+use Rattle.axles.specs.Heads.{speaking, number, axlesReading}
+use Rattle.axles.specs.HeadLog.{bothSpeak, numberTold, readingTold}
+use Rattle.layout.specs.declared.Layout.{Layout}
+use Rattle.layout.specs.Layout.{isFitted}
+use Rattle.layout.specs.Sound.{sound}
+use Rattle.interlocking.specs.State.{headsAt}
+use Rattle.step_facts.specs.Run.{Event, fromCold}
+use Rattle.safety.specs.History.{History, headLog, sectionReads, shown, history}
 
--- the section that an event of kinds 11 to 14 names: kinds 11 to 13 by twice the section plus 0 or 1 for the head, kind 14 by the section itself
-unfoldable pub named : Event → ℕ
-named e = if eqb (e .kind) resetAxles then e .first else e .first / 2
+-- what it reads is what the log of its heads tells, whatever box the history is of: none before anything was said, and a refused event changes nothing
+abbrev pub ReadsByHeads : Type 0
+ReadsByHeads = (L : Layout) (g : ℕ) → g < L .sections → isFitted L g ≡ true → (h : History) → sectionReads L g h ≡ readingTold (headLog g h)
 
--- it is of one of these kinds, and its second number is right: a count up to 65,535 with kinds 11 and 12, 0 with kinds 13 and 14
-unfoldable pub ofHeads : Event → Bool
-ofHeads e =
-    if eqb (e .kind) axlesIn or eqb (e .kind) axlesOut then leb (e .second) 65535
-    else (eqb (e .kind) headSilent or eqb (e .kind) resetAxles) and eqb (e .second) 0
+-- after the events es
+pub record FittedAsTold (L : Layout) (es : List Event) (g : ℕ) : Type 0 where
+  -- what the box holds of its heads speaks where the log says that both do
+  pub speaks : speaking (headsAt (fromCold L es .axles) g) ≡ bothSpeak (headLog g (history L es))
+  -- its number is that of the log
+  pub counts : number (headsAt (fromCold L es .axles) g) ≡ numberTold (headLog g (history L es))
+  -- and it says what the log tells
+  pub says : axlesReading (headsAt (fromCold L es .axles) g) ≡ readingTold (headLog g (history L es))
+  -- which the section shows
+  pub shows : shown L (history L es) .section g ≡ readingTold (headLog g (history L es))
 
--- it is such an event of the heads of section g
-unfoldable pub saidOf : ℕ → Event → Bool
-saidOf g e = ofHeads e and eqb (named e) g
-
--- what it says of them: its kind, the head, the count
-abbrev pub saying : Event → Said
-saying e = said (e .kind) (e .first % 2) (e .second)
-
--- L1: whether it counts after what was said before: a reset while a head is silent is refused (35), and a refused event gives no reading
-unfoldable pub counts : Event → HeadLog → Bool
-counts e es = implies (eqb (e .kind) resetAxles) (bothSpeak es)
+-- on every sound layout, after every list of events from the cold start, of every section that there is and has heads
+abbrev pub HeadsTold : Type 0
+HeadsTold = (L : Layout) → sound L ≡ true → (es : List Event) (g : ℕ) → g < L .sections → isFitted L g ≡ true → FittedAsTold L es g

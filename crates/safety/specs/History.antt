@@ -19,7 +19,7 @@ use Rattle.interlocking.specs.State.{cold}
 use Rattle.panel.specs.Panel.{image}
 use Rattle.step_facts.specs.Run.{Event, box}
 use Rattle.panel.specs.Shown.{Panel, panel}
-use Rattle.safety.specs.HeadsTold.{saidOf, saying, counts}
+use Rattle.safety.specs.Said.{saidOf, saying, takesEffect}
 
 -- ---- moments
 
@@ -50,7 +50,7 @@ gaveByReading g e =
 
 -- L1: what it gives section g by what it says of its heads, of which was said es before: what they then read
 unfoldable pub gaveByHeads : ℕ → Event → HeadLog → ℕ
-gaveByHeads g e es = if saidOf g e and counts e es then readingTold (saying e ∷ es) else nothing
+gaveByHeads g e es = if saidOf g e and takesEffect e es then readingTold (saying e ∷ es) else nothing
 
 -- L1: what was said of the heads of section g, newest first
 unfoldable pub headLog : ℕ → History → HeadLog

@@ -1,5 +1,5 @@
 pub mod Cases
-pub mod HeadsTold
+pub mod Said
 pub mod History
 pub mod Locked
 pub mod Cleared
@@ -7,7 +7,7 @@ pub mod Secured
 pub mod Lights
 pub mod Demand3
 pub mod Exact
-pub mod Fitted
+pub mod HeadsTold
 pub mod Stories
 pub mod Passing
 pub mod WrongBoxes
