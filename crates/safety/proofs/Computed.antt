@@ -30,7 +30,7 @@ use Rattle.refusals.specs.Events.{numbersRefusal}
 use Rattle.interlocking.specs.State.{cold, codes, routesAndLinesInRange, inRange, headsAt, withSections, withPoints, withRoutes, withLines, withBars, withAxles}
 use Rattle.interlocking.specs.Own.{ownGiven, ownStageAt, ownSection, ownPoint, throwReading, ownThrow, ownSet, ownCancel, ownSecure, openAt, ownManual, ownBar, headSection, headsOf, headsBy, ownHeads}
 use Rattle.interlocking.specs.Settle.{fallenAt, signals, proceedsIn, farSections, lockingOf, routeAfter, unlessIdle, routesBy, routes, lineRelease, settle}
-use Rattle.interlocking.specs.Rows.{nothing, givesReading, aSecond, sectionRow, pointRow, throwRow, setRow, cancelRow, secureRow, manualRow, barRow, secondRow, headRow, countRow, silentRow, resetRow, noRow, rowWith, rowOf}
+use Rattle.interlocking.specs.Rows.{nothing, givesReading, aSecond, sectionRow, pointRow, throwRow, setRow, cancelRow, secureRow, manualRow, barRow, secondRow, headRow, countRow, silentRow, resetRow, stillSilent, noRow, rowWith, rowOf}
 use Rattle.interlocking.specs.Step.{rowRefusal, answeredBy, stepWhere, step, askedInRun, stepInRun, refusal, own, gives, after}
 use Rattle.axles.specs.Rounds.{around, signed}
 use Rattle.axles.specs.Heads.{noHead, noAxles, speaks, speaking, headAfter, net, number, readingOf, occupies, resets, sumAfter, proofAfter, withProof, proves, judged, axlesAfter, known, axlesReading}
@@ -73,6 +73,6 @@ unfoldable pub headsComputed : ℕ
 unfolding equipped withTold toldBy isTold lacks anyOf bit around signed
     noHead noAxles speaks speaking headAfter net number readingOf occupies resets sumAfter proofAfter heads.told withProof proves judged axlesAfter known axlesReading
     says hasTold lastTold bothSpeak netTold isReset netAtReset numberTold occupiesTold wasReset provedTold readingTold
-    headsAt withAxles headSection headsOf headsBy ownHeads noHeads headRow countRow silentRow resetRow
+    headsAt withAxles headSection headsOf headsBy ownHeads noHeads headRow countRow silentRow resetRow stillSilent
     named ofHeads saidOf takesEffect gaveByHeads headLog
 headsComputed = 0

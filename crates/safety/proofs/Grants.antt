@@ -22,7 +22,7 @@ use Rattle.reasons.specs.Reasons.{noHeads, hasHeads}
 use Rattle.interlocking.specs.declared.State.{State}
 use Rattle.interlocking.specs.State.{inRange, headsAt}
 use Rattle.interlocking.specs.Own.{headSection, headsOf}
-use Rattle.interlocking.specs.Rows.{Row, sectionRow, pointRow, barRow, secondRow, headRow, countRow, silentRow, resetRow, noRow, rowWith, rowOf}
+use Rattle.interlocking.specs.Rows.{Row, sectionRow, pointRow, barRow, secondRow, headRow, countRow, silentRow, resetRow, stillSilent, noRow, rowWith, rowOf}
 use Rattle.interlocking.specs.Step.{rowRefusal, refusal}
 use Rattle.interlocking.proofs.Rows.{OfKind, section-row, point-row, throw-row, set-row, cancel-row, secure-row, manual-row, bar-row, unbar-row, second-row, count-row, silent-row, reset-row, no-row, row-of}
 use Rattle.step_facts.specs.Run.{Event, box}
@@ -90,7 +90,7 @@ module _ (L : Layout) (ok : sound L ≡ true) (S : Sound L) (s : State) (h : His
 
     -- a reset: 35 is not given where the log says that both heads speak
     reset-means : (x : Axles) → x ≡ headsAt (s .axles) a → Lifts (rowRefusal (sound L and inRange s) a (resetRow L s x y a b)) (MayReset L a b h)
-    unfolding resetRow headRow
+    unfolding resetRow stillSilent headRow
     reset-means x q =
         Iff·trans (fit-means L ok S s h I a _ (there-means _ a) (fitted-means a) (right-means (eqb-means b 0))
         (λ p f. let r = ap speaking q ∙ speaks-told (I .heads) p f in unless-means {n = 35} a (omega arith) (λ t. sym r ∙ t, λ t. r ∙ t)))

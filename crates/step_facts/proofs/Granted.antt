@@ -29,7 +29,7 @@ use Rattle.refusals.specs.Events.{numbersRefusal}
 use Rattle.interlocking.specs.declared.State.{State}
 use Rattle.interlocking.specs.State.{inRange, headsAt}
 use Rattle.interlocking.specs.Own.{headSection, headsOf}
-use Rattle.interlocking.specs.Rows.{sectionRow, pointRow, cancelRow, manualRow, barRow, secondRow, countRow, silentRow, resetRow, headRow, rowWith, rowOf}
+use Rattle.interlocking.specs.Rows.{sectionRow, pointRow, cancelRow, manualRow, barRow, secondRow, countRow, silentRow, resetRow, stillSilent, headRow, rowWith, rowOf}
 use Rattle.interlocking.specs.Step.{rowRefusal, step, refusal}
 use Rattle.step_facts.proofs.Step.{step-done}
 use Rattle.step_facts.specs.Run.{Event}
@@ -116,7 +116,7 @@ module _ (L : Layout) (s : State) (ok : sound L ≡ true) (ranged : inRange s �
 
   -- such a section is reset while both its heads speak
   pub reset-granted : (g : ℕ) → g < L .sections → isFitted L g ≡ true → speaking (headsAt (s .axles) g) ≡ true → refusal (sound L and inRange s) L s 14 g 0 .number ≡ 0
-  unfolding rowOf rowWith headRow resetRow headsOf headSection if_then_else_ noRefusal refused
+  unfolding rowOf rowWith headRow resetRow stillSilent headsOf headSection if_then_else_ noRefusal refused
   reset-granted g b f t = granted 14 g 0 (lt-leb _ g b) (has-heads _ f) refl (when-none _ 35 g (ap not t))
 
   -- a point reads, whatever the code

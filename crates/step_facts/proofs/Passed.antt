@@ -37,7 +37,7 @@ use Rattle.refusals.proofs.Granted.{granted-at, when-granted, granted-sound, gr
 use Rattle.interlocking.specs.declared.State.{State}
 use Rattle.interlocking.specs.State.{inRange, headsAt}
 use Rattle.interlocking.specs.Own.{headSection, headsOf}
-use Rattle.interlocking.specs.Rows.{sectionRow, throwRow, setRow, cancelRow, secureRow, manualRow, barRow, secondRow, headRow, countRow, silentRow, resetRow, rowWith, rowOf}
+use Rattle.interlocking.specs.Rows.{sectionRow, throwRow, setRow, cancelRow, secureRow, manualRow, barRow, secondRow, headRow, countRow, silentRow, resetRow, stillSilent, rowWith, rowOf}
 use Rattle.interlocking.specs.Step.{rowRefusal, refusal}
 use Rattle.step_facts.specs.Run.{Event}
 use Rattle.step_facts.proofs.Range.{inRange-means, read-within}
@@ -148,7 +148,7 @@ module _ (L : Layout) (s : State) (e : Event) (pass : refusal (sound L and inRan
   -- 2, 30: the section of an event of heads is there, and has heads
   pub heads-there : (11 ≤ e .kind) × (e .kind ≤ 14)
       → (headSection (e .kind) (e .first) < L .sections) × (isFitted L (headSection (e .kind) (e .first)) ≡ true)
-  unfolding refusal rowRefusal rowOf rowWith headRow countRow silentRow resetRow if_then_else_
+  unfolding refusal rowRefusal rowOf rowWith headRow countRow silentRow resetRow stillSilent if_then_else_
   heads-there h = go (ℕ-discrete (e .kind) 11) (ℕ-discrete (e .kind) 12) (ℕ-discrete (e .kind) 13)
     where
       Fits : Type 0
@@ -174,13 +174,13 @@ module _ (L : Layout) (s : State) (e : Event) (pass : refusal (sound L and inRan
 
   -- 3: the second number of a silence and of a reset is 0
   pub no-count : (e .kind ≡ 13) ⊎ (e .kind ≡ 14) → e .second ≡ 0
-  unfolding refusal rowRefusal rowOf rowWith headRow silentRow resetRow if_then_else_
+  unfolding refusal rowRefusal rowOf rowWith headRow silentRow resetRow stillSilent if_then_else_
   no-count (inl k) = eqb-true _ 0 (not-false _ (granted-second _ _ _ _ _ (rw k at (granted-at _ pass 0))))
   no-count (inr k) = eqb-true _ 0 (not-false _ (granted-second _ _ _ _ _ (rw k at (granted-at _ pass 0))))
 
   -- 35: both heads of a section speak as it is reset
   pub reset-speaking : e .kind ≡ 14 → speaking (headsAt (s .axles) (e .first)) ≡ true
-  unfolding rowOf rowWith headRow resetRow headsOf headSection if_then_else_
+  unfolding rowOf rowWith headRow resetRow stillSilent headsOf headSection if_then_else_
   reset-speaking k = not-false _ (when-granted _ 35 _ (omega arith) (order-granted 14 k))
 
   -- so a section that is given a reading is there

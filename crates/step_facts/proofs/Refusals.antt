@@ -18,7 +18,7 @@ use Rattle.refusals.specs.Orders.{throwRefusal, exitRefusal, routeRefusal, setR
 use Rattle.refusals.specs.Events.{numbersRefusal}
 use Rattle.refusals.proofs.Granted.{granted-at, granted-second}
 use Rattle.interlocking.specs.declared.State.{State}
-use Rattle.interlocking.specs.Rows.{Row, sectionRow, pointRow, throwRow, setRow, cancelRow, secureRow, manualRow, barRow, secondRow, headRow, countRow, silentRow, resetRow, noRow, rowOf}
+use Rattle.interlocking.specs.Rows.{Row, sectionRow, pointRow, throwRow, setRow, cancelRow, secureRow, manualRow, barRow, secondRow, headRow, countRow, silentRow, resetRow, stillSilent, noRow, rowOf}
 use Rattle.interlocking.specs.Step.{rowRefusal, refusal}
 use Rattle.interlocking.proofs.Rows.{OfKind, section-row, point-row, throw-row, set-row, cancel-row, secure-row, manual-row, bar-row, unbar-row, second-row, count-row, silent-row, reset-row, no-row, row-of}
 use Rattle.step_facts.specs.Numbers.{OfEvents}
@@ -129,7 +129,7 @@ manual-order L t l = first-order (found-order 17 _ _ (omega arith) then not-free
 
 -- what is refused besides, row by row: of an order one of these, of a reset 35, of a kind that has no row 1
 besides-order : (L : Layout) (s : State) (k a b : ℕ) {row : Row} → OfKind L s a b k row → Known (row .besides)
-unfolding sectionRow pointRow throwRow setRow cancelRow secureRow manualRow barRow secondRow headRow countRow silentRow resetRow noRow refused OfEvents
+unfolding sectionRow pointRow throwRow setRow cancelRow secureRow manualRow barRow secondRow headRow countRow silentRow resetRow stillSilent noRow refused OfEvents
 besides-order L s k a b (section-row q) = none-order
 besides-order L s k a b (point-row q) = none-order
 besides-order L s k a b (throw-row q) = throw-order L _ a
@@ -147,7 +147,7 @@ besides-order L s k a b (no-row u) = low (omega arith)
 
 -- whether its section has heads, row by row: of an event of heads 30, of a reading of kind 1 34, of any other nothing
 misfit-order : (L : Layout) (s : State) (k a b : ℕ) {row : Row} → OfKind L s a b k row → Known (row .misfit)
-unfolding sectionRow pointRow throwRow setRow cancelRow secureRow manualRow barRow secondRow headRow countRow silentRow resetRow noRow
+unfolding sectionRow pointRow throwRow setRow cancelRow secureRow manualRow barRow secondRow headRow countRow silentRow resetRow stillSilent noRow
 misfit-order L s k a b (section-row q) = fit-order L a .1
 misfit-order L s k a b (point-row q) = none-order
 misfit-order L s k a b (throw-row q) = none-order
