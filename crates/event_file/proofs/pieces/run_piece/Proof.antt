@@ -1,11 +1,11 @@
 -- The run came as far as its first i turns, and did not stop; its state is held in two parts.
 use Prim.Native.Nat.{_-_, _≤_}
-use mathlib.Core.Path.{_≡_, refl, _∙_}
+use mathlib.Core.Path.{_≡_, refl}
 use mathlib.Core.Bool.{true}
 use mathlib.Core.Logic.{⊎-elim}
 use native.Mathlib.Omega.{arith}
 use borrow.Author.Needs.{needs}
-use lib.ListN.{length, length-set}
+use lib.ListN.{length}
 use Rattle.laws.specs.Tables.{iter}
 use Rattle.laws.proofs.Arrays.{length-mapped}
 use Rattle.track.specs.Sizes.{mostSections}
@@ -86,7 +86,7 @@ loop-again c =
     let turn = found .before .before .before .before in
     let less = found .before .before .before .loop-test .taken in (
       omega (arith, less),
-      length-set (turn .loop .axles) (named .head-place .result) (answered .step-in-run .result .heads) ∙ turn .loop .inv .1,
+      search (needs, turn .loop .inv .1),
       run-taken _ _ _ _ _ _ _ _ _ _ _ _ _ _ _ (turn .loop .inv .2) less _ (found .before .before .most-line .ensures) _ (found .before .if1 .left)
           (next-same _ _ (found .next-event .ensures)) _ _ _ _ _ _ _ _ (search needs)
           (run-together _ _ _ _ _ _ _ _ _ _ (turn .loop .inv .1) (named .head-place .ensures) refl (answered .step-in-run .ensures)) (c .before .next-count .ensures)
