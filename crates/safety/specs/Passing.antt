@@ -76,7 +76,8 @@ pub data Leaves (L : Layout) (es : List Event) (g : ℕ) : Event → Type 0 wher
   byCount : isFitted L g ≡ true → (j : ℕ) → j < 2
       → Leaves L es g (event axlesOut (2 * g + j) ((lastTold axlesOut j (logOf L es g) + mag (numberTold (logOf L es g))) % 65536))
 
--- the block opens by them, with any events between while the train goes out: nothing else is asked of the heads
+-- the block opens by them, with any events between while the train goes out. Nothing else is asked of the heads: the far section reads free while its
+-- signal shows proceed, and the block occupied until it opens, so both heads of either speak, and its last reset is proved
 abbrev pub PassByCounts : Type 0
 PassByCounts =
     (L : Layout) → InUse L → (es more : List Event) (l i w : ℕ) (e f : Event) → MayGoOn L es l i w
