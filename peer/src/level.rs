@@ -2,7 +2,9 @@
 pub const LEVEL: u32 = 1;
 
 /// The last kind of event at that level.
+#[allow(dead_code)] // bench/ has this file too, and not the makers of cases
 pub const LAST_KIND: u32 = 14;
 
 /// The refusals of events that those requests have added to 1 to 18.
+#[allow(dead_code)]
 pub const ADDED: [u32; 3] = [30, 34, 35];
