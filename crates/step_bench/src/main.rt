@@ -1,8 +1,12 @@
 // Plays events on a layout, so that they can be timed, and prints a sum over all answers and over the state that they lead to:
 //   step_bench LAYOUT FITTED PREFIX EVENTS TURNS step|run
 // loads a layout file with the sections that FITTED tells and plays, from the cold state, the events of PREFIX once and those of EVENTS so many times.
-// By `step` each event asks soundness; by `run` it is asked once before the first, and the nine tables and the heads go apart, so that an event copies
-// only the heads that it names (request L1). An event is three words of four bytes, lowest byte first. Of a file the first 65,536 bytes are read.
+// By `step` each event asks soundness; by `run` it is asked once before the first. Both go through the one step that the event program has: the nine
+// tables and the heads apart, so that an event copies only the heads that it names (request L1). With a second call the compiler would not fold the step into
+// the loop, and a run would take longer here than there. An event is three words of four bytes, lowest byte first. Of a file the first 65,536 bytes are
+// read.
+use axles::Axles;
+use interlocking::Core;
 use interlocking::State;
 use interlocking::parts::core_of;
 use interlocking::parts::head_place;
@@ -10,6 +14,7 @@ use interlocking::parts::whole;
 use layout::Layout;
 use libc::STDERR_FILENO;
 use libc::STDOUT_FILENO;
+use track::sizes::SECTIONS;
 ghost use Prim.Native.Nat.{_≤_};
 
 // A state and the sum over the answers that led to it.
@@ -61,37 +66,14 @@ fn event_of(e: &[u8]) -> Event {
     }
 }
 
-// Plays the events of a file, each with soundness asked.
-fn play_steps(plan: Layout, events: &[u8], given: Played) -> Played {
-    let mut state = given.state;
-    let mut sum = given.sum;
-    let mut at = 0;
-    while at < events.len() {
-        if events.len() - at < 12 {
-            return Played { state, sum };
-        }
-        let e = event_of(&events[at..]);
-        at += 12;
-        let r = state.step(plan, e.kind, e.first, e.second);
-        state = r.next;
-        sum = mixed(mixed(sum, r.number as u32), r.detail);
-    }
-    Played { state, sum }
+// Layout and state are sound, as `State::step` asks it.
+fn is_sound(plan: Layout, core: Core, axles: [Axles; SECTIONS]) -> bool {
+    let s = whole(core, axles);
+    plan.sound() & s.in_range()
 }
 
-// The same so many times.
-fn play_steps_turns(plan: Layout, events: &[u8], turns: u64, given: Played) -> Played {
-    let mut played = given;
-    let mut left = turns;
-    while left > 0 {
-        played = play_steps(plan, events, played);
-        left -= 1;
-    }
-    played
-}
-
-// Plays the events of a file so many times in a run.
-fn play_run_turns(plan: Layout, events: &[u8], turns: u64, given: Played) -> Played {
+// Plays the events of a file so many times, each with soundness asked or not. It ends where that fails.
+fn play(plan: Layout, asking: bool, events: &[u8], turns: u64, given: Played) -> Played {
     let s = given.state;
     let mut core = core_of(s);
     let mut axles = s.axles;
@@ -108,6 +90,12 @@ fn play_run_turns(plan: Layout, events: &[u8], turns: u64, given: Played) -> Pla
             }
             let e = event_of(&events[at..]);
             at += 12;
+            if asking && !is_sound(plan, core, axles) {
+                return Played {
+                    state: whole(core, axles),
+                    sum,
+                };
+            }
             let place = head_place(e.kind, e.first);
             let heads = axles[place];
             let r = core.step_in_run(heads, plan, e.kind, e.first, e.second);
@@ -134,10 +122,7 @@ fn play_file(
     if file.len() < n {
         return given;
     }
-    if asking {
-        return play_steps_turns(plan, &file[0..n - n % 12], turns, given);
-    }
-    play_run_turns(plan, &file[0..n - n % 12], turns, given)
+    play(plan, asking, &file[0..n - n % 12], turns, given)
 }
 
 // Reads the file that an argument names into the room lent, and answers how many bytes there are.

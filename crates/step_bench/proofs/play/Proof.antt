@@ -3,31 +3,31 @@ use Prim.Native.Nat.{_-_}
 use lib.ListN.{length}
 use borrow.Author.Needs.{needs}
 use Rattle.interlocking.proofs.Lifted.{place-small}
-use Rattle.step_bench.proofs.play_run_turns.Statement.{statement}
-use Rattle.step_bench.proofs.play_run_turns.Tie as tie
+use Rattle.step_bench.proofs.play.Statement.{statement}
+use Rattle.step_bench.proofs.play.Tie as tie
 
 -- nothing has to be kept
 abbrev Inv-loop2 : tie.InvT-loop2
-Inv-loop2 plan events turns core₀ axles₀ sum₀ left at₀ core axles sum at = Unit {0}
+Inv-loop2 plan asking events turns core₀ axles₀ sum₀ left at₀ core axles sum at = Unit {0}
 
 -- the bytes left
 abbrev μ-loop2 : tie.MeasureT-loop2
-μ-loop2 plan events turns core₀ axles₀ sum₀ left at₀ core axles sum at = length events - at
+μ-loop2 plan asking events turns core₀ axles₀ sum₀ left at₀ core axles sum at = length events - at
 
 -- nothing has to be kept
 abbrev Inv-loop : tie.InvT-loop
-Inv-loop plan events turns core₀ axles₀ sum₀ left₀ core axles sum left = Unit {0}
+Inv-loop plan asking events turns core₀ axles₀ sum₀ left₀ core axles sum left = Unit {0}
 
 -- the turns left
 abbrev μ-loop : tie.MeasureT-loop
-μ-loop plan events turns core₀ axles₀ sum₀ left₀ core axles sum left = left
+μ-loop plan asking events turns core₀ axles₀ sum₀ left₀ core axles sum left = left
 
-pub play-run-turns-spec : {M : Type 1} → statement M
-play-run-turns-spec =
+pub play-spec : {M : Type 1} → statement M
+play-spec =
     tie.close
     (tie.spec Inv-loop2 μ-loop2 Inv-loop μ-loop (λ c κs. search needs) (λ c. search needs) (λ c. search needs) (λ c. search needs)
     (λ c κs. search needs) (λ c. search needs) (λ c. search needs) (λ c. search needs) (λ c. search needs) (λ c κs. search needs)
-    (λ c. search needs) (λ c κs. search needs)
+    (λ c. search needs) (λ c κs. search needs) (λ c κs. search needs) (λ c. search needs) (λ c κs. search needs)
     (λ c. search (needs, place-small _ _ _ (c .head-place .ensures)))
     (λ c. search (needs, place-small _ _ _ (c .head-place .ensures)))
     (λ c κs. search needs)
