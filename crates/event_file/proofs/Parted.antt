@@ -1,11 +1,15 @@
 -- A run holds its state in two parts, the nine tables and the heads (request L1): its steps, its lines and its ends are those of the state.
-use Prim.Native.Nat.{ℕ, _≤_}
-use mathlib.Core.Path.{_≡_, refl, ap, _∙_}
-use mathlib.Core.Bool.{Bool, true}
+use Prim.Native.Nat.{ℕ, _<_, _≤_}
+use mathlib.Core.Path.{_≡_, refl, sym, ap, _∙_}
+use mathlib.Core.Bool.{Bool, true, false}
 use mathlib.Core.List.{List}
-use lib.ListN.{length, getD}
+use native.Mathlib.Omega.{arith}
+use lib.ListN.{length, getD, set}
 use borrow.Author.Tests.{leb-true}
-use Rattle.laws.proofs.Tests.{and-left, and-right}
+use Rattle.laws.proofs.Choice.{if-false, if-both}
+use Rattle.laws.proofs.Tests.{and-left, and-right, fails-from}
+use lib.Seq.{set-getD}
+use Rattle.track.specs.Codes.{axlesIn, resetAxles}
 use Rattle.track.specs.Sizes.{mostSections}
 use Rattle.track.specs.Lists.{between}
 use Rattle.axles.specs.declared.Axles.{Axles}
@@ -15,13 +19,14 @@ use Rattle.interlocking.specs.declared.Core.{Core}
 use Rattle.interlocking.specs.declared.Answer.{Answer}
 use Rattle.interlocking.specs.declared.CoreAnswer.{CoreAnswer}
 use Rattle.interlocking.specs.Step.{askedInRun, stepInRun}
-use Rattle.interlocking.specs.Parts.{coreOf, bare, whole, headPlace, coreStepInRun, together}
+use Rattle.interlocking.specs.Parts.{coreOf, bare, whole, isOfHeads, headsThen, headPlace, followed, coreStep, coreStepInRun, together}
+use Rattle.interlocking.proofs.Lifted.{place-small}
 use Rattle.interlocking.proofs.Together.{together-is}
 use Rattle.panel.specs.Panel.{image, answerWhere, answerInRun}
 use Rattle.step_facts.specs.Run.{Event, event, boxInRun}
 use Rattle.event_file.specs.declared.pieces.Piece.{Piece}
 use Rattle.event_file.specs.Lines.{shownInRun, lineOf, mostLine}
-use Rattle.event_file.specs.Run.{pieceOf, soFar, Went}
+use Rattle.event_file.specs.Run.{Run, pieceOf, soFar, Went}
 use Rattle.numerals.specs.Writes.{Put}
 
 -- a state is its two parts, so a run from these is a run from it
@@ -34,6 +39,11 @@ from-parts f panel show last bytes room a b r s c n at e w = rw e at w
 -- a run that did not stop, in the state that was put together
 pub so-far-whole : (t u : State) (m place written : ℕ) (p : Piece) → t ≡ u → p ≡ soFar t m place written → p ≡ soFar u m place written
 so-far-whole t u m place written p e f = f ∙ ap (λ (s : State). soFar s m place written) e
+
+-- a run came as far with another name of its table of heads
+pub so-far-heads : (a b : List ℕ) (c : Core) (xs ys : List Axles) (m place written : ℕ) (g : Run) → ys ≡ xs → Went a 0 (length a) b (soFar (whole c xs) m place written) g
+    → Went a 0 (length a) b (soFar (whole c ys) m place written) g
+so-far-heads a b c xs ys m place written g e w = rw e w
 
 -- a panel shows no heads, so the line of the nine tables is that of the state
 pub line-of-whole : (L : Layout) (c : Core) (xs : List Axles) (number answer detail : ℕ) (a b : List ℕ) (at k : ℕ)
@@ -52,3 +62,18 @@ pub run-together : (L : Layout) (c : Core) (xs : List Axles) (k a b : ℕ) (d x 
     → r ≡ coreStepInRun L c x k a b → together xs p r ≡ boxInRun L (whole c xs) (event k a b)
 unfolding coreStepInRun boxInRun stepInRun coreOf
 run-together L c xs k a b d x p r len q at e = together-is (askedInRun L) L (whole c xs) k a b d x c p r (few-sections L) len q at refl e
+
+-- an event that is of no heads leaves those that were handed in
+heads-left : (L : Layout) (c : Core) (x : Axles) (k a b : ℕ) → k < axlesIn → coreStepInRun L c x k a b .heads ≡ x
+unfolding coreStepInRun coreStep followed headsThen isOfHeads between
+heads-left L c x k a b h =
+    let none : between axlesIn resetAxles k ≡ false = fails-from _ (λ e. let n = leb-true axlesIn k (and-left _ _ e) in omega arith) in
+    let stay : headsThen x k a b ≡ x = sym (if-false _ _ _ x none refl) in
+    if-both (λ (r : CoreAnswer). r .heads ≡ x) _ (λ t. stay) (λ t. refl)
+
+-- so where they are not stored, the table is as if they were
+pub heads-kept : (L : Layout) (c : Core) (xs ys : List Axles) (k a b : ℕ) (d x : Axles) (p : ℕ) (r : CoreAnswer) → length xs ≡ mostSections → p ≡ headPlace k a → x ≡ getD xs p d
+    → r ≡ coreStepInRun L c x k a b → k < axlesIn → ys ≡ xs → ys ≡ set xs p (r .heads)
+heads-kept L c xs ys k a b d x p r len q at e h f =
+    let same : r .heads ≡ getD xs p d = ap (λ (z : CoreAnswer). z .heads) e ∙ heads-left L c x k a b h ∙ at in
+    f ∙ sym (set-getD xs p d) ∙ ap (set xs p) (sym same)

@@ -167,6 +167,26 @@ pub nothing-fitted-prints : (panel : Bool) (layoutFile file : List ℕ)
 unfolding printed printedBy fit fitBy numbersOf fromPlace numbersFrom none if_then_else_
 nothing-fitted-prints panel layoutFile file = rw (equipped-none layoutFile)
 
+module _ (layoutFile fittedFile : List ℕ) (h : load layoutFile .number ≡ 0) where
+  -- a file of fitted sections that has no fault makes of the loaded layout the one with the sections that it tells
+  told-layout : fit (load layoutFile .layout) fittedFile .number ≡ 0
+      → equipped (numbersOf fittedFile .list) (load layoutFile .layout) ≡ fit (load layoutFile .layout) fittedFile .layout
+  unfolding fit fitBy
+  told-layout k =
+      if-both (λ (r : Fitting). r .number ≡ 0 → equipped (numbersOf fittedFile .list) (load layoutFile .layout) ≡ r .layout) (eqb (numbersOf fittedFile .fault) 0)
+      (λ t z. refl) (λ t z. absurd (eqb-false _ 0 t z)) k
+
+  -- where each section told is there, that is a layout in use
+  pub fitted-in-use : WellFitted (load layoutFile .layout) fittedFile → InUse (fit (load layoutFile .layout) fittedFile .layout)
+  fitted-in-use w = record { file = layoutFile; told = numbersOf fittedFile .list; done = h; there = w .there; its = told-layout (w .whole) }
+
+  -- where one is told that is not there, it is not sound
+  lacks-unsound : fit (load layoutFile .layout) fittedFile .number ≡ 0 → (g : ℕ) → Among (numbersOf fittedFile .list) g → load layoutFile .layout .sections ≤ g
+      → sound (fit (load layoutFile .layout) fittedFile .layout) ≡ false
+  lacks-unsound k g a past =
+      rw (← told-layout k) (fails-from _ (λ e.
+      let b = equipped-sound (load layoutFile .layout) (numbersOf fittedFile .list) (loaded-sound layoutFile h) .0 e g a in omega arith))
+
 module _ (panel : Bool) (layoutFile fittedFile file : List ℕ) (h : load layoutFile .number ≡ 0) where
   -- the answer to the file of fitted sections, the layout with them, and what is answered to the file's events from the cold start
   abbrev fitting : Fitting
@@ -188,29 +208,23 @@ module _ (panel : Bool) (layoutFile fittedFile file : List ℕ) (h : load layout
   unfolding printed printedBy listOn
   list-prints k = sym (if-eq _ 0 _ _ _ h (if-eq _ 0 _ _ _ k refl)) ∙ ap (λ xs. opening panel L ++ xs) (file-lines file (box L) panel (shown L) cold 0)
 
-  -- the layout is the loaded one with the sections that the file tells
-  told-layout : fitting .number ≡ 0 → equipped (numbersOf fittedFile .list) (load layoutFile .layout) ≡ L
-  unfolding fit fitBy
-  told-layout k = if-both (λ (r : Fitting). r .number ≡ 0 → equipped (numbersOf fittedFile .list) (load layoutFile .layout) ≡ r .layout) (eqb (numbersOf fittedFile .fault) 0)
-      (λ t z. refl) (λ t z. absurd (eqb-false _ 0 t z)) k
-
   -- ---- each section told is there
 
   module _ (w : WellFitted (load layoutFile .layout) fittedFile) where
-    -- so the layout is one in use
-    pub fitted-in-use : InUse L
-    fitted-in-use = record { file = layoutFile; told = numbersOf fittedFile .list; done = h; there = w .there; its = told-layout (w .whole) }
+    -- so the layout is sound
+    used-sound : sound L ≡ true
+    used-sound = in-use-sound (fitted-in-use layoutFile fittedFile h w)
 
     -- the opening with a panel shows the cold start's image, whole
     pub opening-whole : opening panel L ≡ if panel then lineOf panel (image L cold) 0 0 0 else header
     unfolding opening
-    opening-whole = rw (shown-whole L cold (in-use-sound fitted-in-use) cold-in-range)
+    opening-whole = rw (shown-whole L cold used-sound cold-in-range)
 
     -- the opening, the line of each event with the whole panel, and what ends the list
     pub accepted-prints : printed panel layoutFile fittedFile file ≡ opening panel L ++ (linesOf panel (toldOf nextCount (image L) 0 answered) ++ endingOf file)
     accepted-prints =
         list-prints (w .whole) ∙ ap (λ (ts : List ToldLine). opening panel L ++ (linesOf panel ts ++ endingOf file))
-        (told-whole L (in-use-sound fitted-in-use) nextCount 0 cold (eventsOf file) cold-in-range)
+        (told-whole L used-sound nextCount 0 cold (eventsOf file) cold-in-range)
 
     -- of a file shorter than 2 to the 64th bytes, the line of the n-th event has the number n
     pub short-prints : length file < 18446744073709551616
@@ -227,6 +241,7 @@ module _ (panel : Bool) (layoutFile fittedFile file : List ℕ) (h : load layout
       ≡ (if panel then lineOf panel [] 0 0 0 else header) ++ (linesOf panel (toldOf nextCount (λ s. []) 0 (answers unserved cold (eventsOf file))) ++ endingOf file)
   unfolding opening
   lacking-prints k g a past =
-      let none : sound L ≡ false = rw (← told-layout k) (fails-from _ (λ e. let b = equipped-sound (load layoutFile .layout) (numbersOf fittedFile .list) (loaded-sound layoutFile h) .0 e g a in omega arith)) in
-      list-prints k ∙ ap₂ (λ (xs : List ℕ) (ts : List ToldLine). (if panel then lineOf panel xs 0 0 0 else header) ++ (linesOf panel ts ++ endingOf file)) (shown-none L none cold)
-      (told-none L none nextCount 0 cold (eventsOf file))
+      let unsound : sound L ≡ false = lacks-unsound layoutFile fittedFile h k g a past in
+      list-prints k
+      ∙ ap₂ (λ (xs : List ℕ) (ts : List ToldLine). (if panel then lineOf panel xs 0 0 0 else header) ++ (linesOf panel ts ++ endingOf file))
+      (shown-none L unsound cold) (told-none L unsound nextCount 0 cold (eventsOf file))

@@ -7,6 +7,7 @@ use interlocking::parts::core_of;
 use interlocking::parts::head_place;
 use interlocking::parts::whole;
 use layout::Layout;
+use track::codes::AXLES_IN;
 ghost use mathlib.Core.Path.{_≡_};
 ghost use lib.ListN.{length};
 ghost use Rattle.step_facts.specs.Run.{boxInRun};
@@ -102,7 +103,7 @@ fn so_far(state: State, count: u64, at: usize, written: usize) -> Piece
 }
 
 // A run over a piece of the file from a place on, from a state that was asked for soundness with its layout before the file's first event.
-// The nine tables and the heads go apart, so that an event copies only the heads that it names (request L1).
+// The nine tables and the heads go apart, so that an event copies only the heads that it names, and stores them only where it is of heads (request L1).
 pub fn run_piece(
     panel: bool,
     layout: Layout,
@@ -136,8 +137,10 @@ pub fn run_piece(
         let heads = axles[place];
         let a = core.step_in_run(heads, layout, kind, first, second);
         core = a.next;
-        let then = a.heads;
-        axles[place] = then;
+        if AXLES_IN <= kind {
+            let then = a.heads;
+            axles[place] = then;
+        }
         count = next_count(count);
         at = next;
         written = if panel {

@@ -7,6 +7,7 @@
 mod files;
 mod heads;
 mod listing;
+mod words;
 
 use layout::Layout;
 use libc::STDERR_FILENO;
@@ -213,41 +214,6 @@ fn with_layout(
     with_events(&room[0..n], path, events, panel, fits, heads_path);
 }
 
-// Whether a word is `panel`.
-fn is_panel(word: &[u8]) -> bool {
-    if word.len() != 5 {
-        return false;
-    }
-    (word[0] == 112) & (word[1] == 97) & (word[2] == 110) & (word[3] == 101) & (word[4] == 108)
-}
-
-// Whether a word is `fitted`.
-fn is_fitted(word: &[u8]) -> bool {
-    if word.len() != 6 {
-        return false;
-    }
-    (word[0] == 102)
-        & (word[1] == 105)
-        & (word[2] == 116)
-        & (word[3] == 116)
-        & (word[4] == 101)
-        & (word[5] == 100)
-}
-
-// Whether an argument is the word `panel`.
-fn panel_at(i: usize) -> bool {
-    let mut word = io::buffer();
-    let w = os::arg(i, &mut word);
-    is_panel(&word[..w])
-}
-
-// Whether an argument is the word `fitted`.
-fn fitted_at(i: usize) -> bool {
-    let mut word = io::buffer();
-    let w = os::arg(i, &mut word);
-    is_fitted(&word[..w])
-}
-
 // How the program is called.
 fn usage() {
     io::write_all(
@@ -268,7 +234,7 @@ fn with_words(layout: &[u8], events: &[u8], panel: bool, next: usize) {
         usage();
         return;
     }
-    if fitted_at(next) & (os::arg_count() == files::sum(next, 2)) {
+    if words::fitted_at(next) & (os::arg_count() == files::sum(next, 2)) {
         with_layout(layout, false, events, panel, true, &file[..f]);
         return;
     }
@@ -283,7 +249,7 @@ fn with_arguments(layout: &[u8]) {
         usage();
         return;
     }
-    if panel_at(3) {
+    if words::panel_at(3) {
         with_words(layout, &events[..e], true, 4);
         return;
     }

@@ -43,7 +43,7 @@ lines-run L es = lines-on L cold [] es
 pub every-file : EveryFile
 every-file panel layoutFile fittedFile file ok well few =
     let L : Layout = layoutOf layoutFile fittedFile in
-    let sounds : sound L ≡ true = in-use-sound (fitted-in-use panel layoutFile fittedFile file ok well) in
+    let sounds : sound L ≡ true = in-use-sound (fitted-in-use layoutFile fittedFile ok well) in
     record {
       lines = short-prints panel layoutFile fittedFile file ok well few
           ∙ ap (λ (ts : List ToldLine). opening panel L ++ (linesOf panel ts ++ endingOf file)) (sym (lines-run L (eventsOf file)));

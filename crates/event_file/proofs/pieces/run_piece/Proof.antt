@@ -1,6 +1,6 @@
 -- The run came as far as its first i turns, and did not stop; its state is held in two parts.
 use Prim.Native.Nat.{_-_, _≤_}
-use mathlib.Core.Path.{_≡_, refl}
+use mathlib.Core.Path.{_≡_, refl, sym, subst}
 use mathlib.Core.Bool.{true}
 use mathlib.Core.Logic.{⊎-elim}
 use native.Mathlib.Omega.{arith}
@@ -17,7 +17,7 @@ use Rattle.event_file.specs.Run.{turnRun, start, turns, soFar, Went}
 use Rattle.event_file.proofs.PanelText.{most-panel, most-plain, line-plain, line-panel}
 use Rattle.event_file.proofs.Reading.{next-same}
 use Rattle.event_file.proofs.Turns.{runs, run-full, run-halted, run-taken, run-done}
-use Rattle.event_file.proofs.Parted.{from-parts, so-far-whole, run-together, line-of-whole}
+use Rattle.event_file.proofs.Parted.{from-parts, so-far-whole, so-far-heads, line-of-whole, run-together, heads-kept}
 use Rattle.event_file.proofs.pieces.run_piece.Statement.{statement}
 use Rattle.event_file.proofs.pieces.run_piece.Tie as tie
 
@@ -68,13 +68,13 @@ done c =
 put-panel-line-requires : tie.Need-put-panel-line-requires Inv-loop μ-loop
 put-panel-line-requires c κs =
     let asked = c .before .before .before .before .before .before .before .before .before .before .before .before in
-    omega (arith, asked .if1 .left, asked .before .most-line .ensures, most-panel _ (c .before .if2 .taken), most-panel true refl)
+    omega (arith, asked .if1 .left, asked .before .most-line .ensures, most-panel _ (c .before .if3 .taken), most-panel true refl)
 
 -- without it
 put-line-requires : tie.Need-put-line-requires Inv-loop μ-loop
 put-line-requires c κs =
     let asked = c .before .before .before .before .before .before .before .before .before .before .before .before in
-    omega (arith, asked .if1 .left, asked .before .most-line .ensures, most-plain _ (c .before .if2 .left))
+    omega (arith, asked .if1 .left, asked .before .most-line .ensures, most-plain _ (c .before .if3 .left))
 
 -- the event that stands there is answered, the heads that it leaves are stored, and its line is written, with the panel or without
 loop-again : tie.Need-loop-again Inv-loop μ-loop
@@ -84,14 +84,16 @@ loop-again c =
     let named = answered .before .before in
     let found = named .before .before .before .before in
     let turn = found .before .before .before .before in
-    let less = found .before .before .before .loop-test .taken in (
+    let less = found .before .before .before .loop-test .taken in
+    let kept = heads-kept _ _ _ _ _ _ _ _ _ _ _ (turn .loop .inv .1) (named .head-place .ensures) refl (answered .step-in-run .ensures) in
+    let stored = ⊎-elim (λ w. w .2) (λ w. kept (w .0 .left) (w .1)) (c .before .before .if2 .came) in (
       omega (arith, less),
-      search (needs, turn .loop .inv .1),
-      run-taken _ _ _ _ _ _ _ _ _ _ _ _ _ _ _ (turn .loop .inv .2) less _ (found .before .before .most-line .ensures) _ (found .before .if1 .left)
+      subst (λ zs. length zs ≡ mostSections) (sym stored) (search (needs, turn .loop .inv .1)),
+      so-far-heads _ _ _ _ _ _ _ _ _ stored (run-taken _ _ _ _ _ _ _ _ _ _ _ _ _ _ _ (turn .loop .inv .2) less _ (found .before .before .most-line .ensures) _ (found .before .if1 .left)
           (next-same _ _ (found .next-event .ensures)) _ _ _ _ _ _ _ _ (search needs)
           (run-together _ _ _ _ _ _ _ _ _ _ (turn .loop .inv .1) (named .head-place .ensures) refl (answered .step-in-run .ensures)) (c .before .next-count .ensures)
           (⊎-elim (λ w. line-panel _ _ _ _ _ _ _ _ _ _ _ (w .0 .taken) (w .5) (w .6) (line-of-whole _ _ _ _ _ _ _ _ _ _ (w .2 .ensures)))
-          (λ w. line-plain _ _ _ _ _ _ _ _ _ _ _ (w .0 .left) (w .5) (w .6) (w .2 .ensures)) (c .if2 .came)),
+          (λ w. line-plain _ _ _ _ _ _ _ _ _ _ _ (w .0 .left) (w .5) (w .6) (w .2 .ensures)) (c .if3 .came))),
     )
 
 pub run-piece-spec : {M : Type 1} → statement M
@@ -120,8 +122,8 @@ run-piece-spec =
     (λ c. search (needs, place-small _ _ _ (c .head-place .ensures)))
     (λ c. search (needs, place-small _ _ _ (c .head-place .ensures)))
     (λ c κs. search needs)
-    (λ c. search (needs, place-small _ _ _ (c .before .before .before .before .head-place .ensures)))
-    (λ c. search (needs, place-small _ _ _ (c .before .before .before .before .head-place .ensures)))
+    (λ c. search (needs, place-small _ _ _ (c .before .before .before .before .before .head-place .ensures)))
+    (λ c. search (needs, place-small _ _ _ (c .before .before .before .before .before .head-place .ensures)))
     (λ c κs. search needs)
     put-panel-line-requires
     put-line-requires
