@@ -54,7 +54,7 @@ static void print_panel(void) {
     uint8_t image[ROOM], exact[ROOM];
     memset(image, UNTOUCHED, ROOM);
     struct hiruketawha_drawn drawn = hiruketawha_panel(&state, &layout, image, ROOM);
-    printf(" | ");
+    printf(" |");
     if (layout.lacking) {
         EXPECT(drawn.number == HIRUKETAWHA_NOT_SOUND && drawn.length == 0 && all_untouched(image, 0, ROOM));
         return;
@@ -67,7 +67,7 @@ static void print_panel(void) {
     memset(exact, UNTOUCHED, ROOM);
     struct hiruketawha_drawn shorter = hiruketawha_panel(&state, &layout, exact, drawn.length - 1);
     EXPECT(shorter.number == HIRUKETAWHA_BUFFER_SHORT && shorter.length == 0 && all_untouched(exact, 0, ROOM));
-    for (size_t i = 0; i < drawn.length; i++) printf(i == 0 ? "%d" : " %d", image[i]);
+    for (size_t i = 0; i < drawn.length; i++) printf(" %d", image[i]);
 }
 
 static struct hiruketawha_reply event(const uint32_t numbers[3]) {
