@@ -12,11 +12,11 @@ use Rattle.laws.specs.Choice.{if_then_else_}
 use Rattle.laws.specs.Tests.{_or_, every}
 use Rattle.laws.proofs.Tests.{and-left, and-right, or-cases, not-both, every-at}
 use Rattle.track.specs.Codes.{free, occupied}
-use Rattle.axles.specs.Heads.{readingOf, axlesReading}
-use Rattle.axles.specs.HeadLog.{HeadLog, bothSpeak, isReset, resetsIn, numberTold, occupiesTold, wasReset, provedTold, readingTold, headsAfter}
+use Rattle.axles.specs.Heads.{readingOf, axlesReading, headsAfter}
+use Rattle.axles.specs.HeadLog.{HeadLog, bothSpeak, isReset, resetsIn, numberTold, occupiesTold, wasReset, provedTold, readingTold}
 use Rattle.axles.specs.Since.{Few, ProvedSince, FreeFrom}
 use Rattle.axles.specs.declared.Said.{Said}
-use Rattle.axles.proofs.HeadLog.{log-reads}
+use Rattle.axles.proofs.HeadLog.{log-reads, reset-was}
 
 -- ---- what a number says
 
@@ -77,10 +77,10 @@ moment-then e es r m = record {
 -- one event: a reset proves nothing; else the number now does, or what was before it
 proved-by : (e : Said) (es : HeadLog) (r : Bool) → isReset e es ≡ r → (provedTold es ≡ true → wasReset es ≡ true → ProvedSince es)
     → provedTold (e ∷ es) ≡ true → wasReset (e ∷ es) ≡ true → ProvedSince (e ∷ es)
-unfolding provedTold wasReset if_then_else_ _or_
+unfolding provedTold if_then_else_ _or_
 proved-by e es true r earlier p w = not-both (rw r at p) refl
 proved-by e es false r earlier p w =
-    ⊎-elim (λ o. moment-now (e ∷ es) o w) (λ v. moment-then e es r (earlier v (rw r at w)))
+    ⊎-elim (λ o. moment-now (e ∷ es) o w) (λ v. moment-then e es r (earlier v (rw (reset-was e es, r) at w)))
     (or-cases (occupiesTold (e ∷ es)) (provedTold es) (rw r at p))
 
 -- a whole log: event by event

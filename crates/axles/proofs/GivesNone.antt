@@ -9,15 +9,15 @@ use lib.IntN.{pos}
 use Rattle.laws.specs.Choice.{if_then_else_}
 use Rattle.laws.specs.Tests.{_and_}
 use Rattle.laws.proofs.Choice.{chosen, passed-over}
-use Rattle.laws.proofs.Tests.{and-both}
+use Rattle.laws.proofs.Tests.{and-both, first-fails, second-fails}
 use Rattle.track.specs.Codes.{readsNone, headSilent, resetAxles}
 use Rattle.axles.specs.Rounds.{around, signed}
-use Rattle.axles.specs.Heads.{unproved, proved, noHead, headAfter, speaks, speaking, net, number, readingOf, occupies, resets, sumAfter, proofAfter, told, withProof, proves, judged, axlesAfter, known, axlesReading}
+use Rattle.axles.specs.Heads.{unproved, proved, noHead, headAfter, speaks, speaking, net, number, readingOf, occupies, resets, sumAfter, proofAfter, told, proves, judged, axlesAfter, known, axlesReading}
 use Rattle.axles.specs.declared.Head.{Head}
 use Rattle.axles.specs.declared.Axles.{Axles}
 use Rattle.axles.specs.declared.Said.{Said}
 use Rattle.axles.proofs.Rounds.{around-back, around-self}
-use Rattle.axles.proofs.Laws.{first-fails, second-fails}
+use Rattle.axles.proofs.Kept.{after-same, reset-head}
 
 -- ---- a silent head
 
@@ -31,16 +31,10 @@ pub unproved-none : (x : Axles) → eqb (x .proof) proved ≡ false → axlesRea
 unfolding axlesReading known
 unproved-none x e = passed-over _ _ readsNone (second-fails _ _ e)
 
--- judging changes no head
-judged-speaks : (x : Axles) (t : Bool) → proves x ≡ t → speaking (judged x) ≡ speaking x
-unfolding judged withProof if_then_else_ speaking
-judged-speaks x true e = rw e
-judged-speaks x false e = rw e
-
--- so who speaks after an event goes by what it tells
+-- who speaks after an event goes by what it tells
 after-speaks : (x : Axles) (e : Said) → speaking (axlesAfter x e) ≡ speaking (told x e)
-unfolding axlesAfter
-after-speaks x e = judged-speaks (told x e) (proves (told x e)) refl
+unfolding speaking
+after-speaks x e = let same = after-same x e in rw (same .first, same .second)
 
 -- a head that says it is silent has told nothing
 head-silenced : (h : Head) (k : ℕ) (e : Said) → e .kind ≡ 13 → e .head ≡ k → speaks (headAfter h k e) ≡ false
@@ -55,16 +49,10 @@ silence-gives-none x e p (inr q) = quiet-none (axlesAfter x e) (after-speaks x e
 
 -- ---- a reset
 
--- a reset leaves a head, its own or not
-head-reset : (h : Head) (k : ℕ) (e : Said) (t : Bool) → e .kind ≡ 14 → eqb (e .head) k ≡ t → headAfter h k e ≡ h
-unfolding headAfter if_then_else_
-head-reset h k e true p q = rw (q, p)
-head-reset h k e false p q = rw q
-
--- so the same heads speak
+-- a reset leaves both heads, so the same speak
 reset-speaks : (x : Axles) (e : Said) → e .kind ≡ 14 → speaking (told x e) ≡ speaking x
 unfolding told speaking
-reset-speaks x e p = rw (head-reset (x .head0) 0 e _ p refl, head-reset (x .head1) 1 e _ p refl)
+reset-speaks x e p = rw (reset-head (x .head0) 0 e p, reset-head (x .head1) 1 e p)
 
 -- where the stored sum is that of the counts the number is 0
 number-zero : (x y : Axles) → net y ≡ net x → y .sum ≡ around (net x) → number y ≡ pos 0
@@ -80,10 +68,10 @@ module _ (x : Axles) (e : Said) (p : e .kind ≡ 14) (s : speaking x ≡ true) w
   -- the counts stay
   reset-net : net (told x e) ≡ net x
   unfolding net told
-  reset-net = rw (head-reset (x .head0) 0 e _ p refl, head-reset (x .head1) 1 e _ p refl)
+  reset-net = rw (reset-head (x .head0) 0 e p, reset-head (x .head1) 1 e p)
 
   -- and their sum is stored: the number is 0
-  reset-number : number (told x e) ≡ pos 0
+  pub reset-number : number (told x e) ≡ pos 0
   unfolding told sumAfter
   reset-number = number-zero x (told x e) reset-net (chosen _ (around (net x)) _ reset-counts)
 
@@ -122,7 +110,7 @@ module _ (x : Axles) (e : Said) (p : e .kind ≡ 14) (s : speaking x ≡ false) 
   -- it tells nothing
   refused-told : told x e ≡ x
   unfolding told sumAfter proofAfter if_then_else_
-  refused-told = rw (refused-resets-not, head-reset (x .head0) 0 e _ p refl, head-reset (x .head1) 1 e _ p refl)
+  refused-told = rw (refused-resets-not, reset-head (x .head0) 0 e p, reset-head (x .head1) 1 e p)
 
   -- and with a head silent no number proves anything
   refused-proves-not : proves x ≡ false

@@ -1,45 +1,38 @@
 -- The heads after a log, event by event from the cold start, read what the log tells.
-use Prim.Native.Nat.{ℕ}
-use mathlib.Core.Path.{_≡_, refl, ap, _∙_}
+use Prim.Native.Nat.{ℕ, suc}
+use mathlib.Core.Path.{_≡_, refl, sym, ap, _∙_}
 use mathlib.Core.Bool.{Bool, true, false}
 use mathlib.Core.List.{[], _∷_}
 use native.Mathlib.Decide.{ℕ-discrete}
-use borrow.Author.Tests.{ne-eqb, eqb-true}
-use lib.Dec.{eqb}
+use native.Mathlib.Omega.{arith}
+use borrow.Author.Tests.{ne-eqb, eqb-true, le-leb}
+use lib.Dec.{eqb, leb}
 use lib.IntN.{ℤ, pos, _-ℤ_}
 use Rattle.laws.specs.Choice.{if_then_else_}
 use Rattle.laws.specs.Tests.{_and_, _or_, every}
-use Rattle.laws.proofs.Tests.{and-left, not-both}
+use Rattle.laws.specs.Totals.{bit}
+use Rattle.laws.proofs.Choice.{if-under}
+use Rattle.laws.proofs.Tests.{and-left, and-right, second-fails, not-both}
+use Rattle.laws.proofs.Totals.{bit-one}
 use Rattle.track.specs.Codes.{axlesIn, axlesOut}
 use Rattle.axles.specs.Rounds.{around, signed}
-use Rattle.axles.specs.Heads.{noReset, unproved, proved, noHead, noAxles, headAfter, speaks, speaking, net, number, readingOf, occupies, resets, sumAfter, proofAfter, told, withProof, proves, judged, axlesAfter, known, axlesReading}
-use Rattle.axles.specs.HeadLog.{HeadLog, said, says, hasTold, lastTold, bothSpeak, netTold, isReset, netAtReset, numberTold, occupiesTold, wasReset, provedTold, readingTold, headsAfter}
+use Rattle.axles.specs.Heads.{noReset, unproved, proved, noHead, noAxles, headAfter, speaks, speaking, net, number, readingOf, occupies, resets, sumAfter, proofAfter, told, withProof, proves, judged, axlesAfter, known, axlesReading, headsAfter}
+use Rattle.axles.specs.HeadLog.{HeadLog, said, says, hasTold, lastTold, bothSpeak, netTold, isReset, resetsIn, netAtReset, numberTold, occupiesTold, wasReset, provedTold, readingTold}
 use Rattle.axles.specs.declared.Head.{Head}
 use Rattle.axles.specs.declared.Axles.{Axles}
 use Rattle.axles.specs.declared.Said.{Said}
-use Rattle.axles.proofs.Rounds.{around-back, around-self}
-use Rattle.axles.proofs.Laws.{second-fails}
+use Rattle.axles.proofs.Rounds.{around-back}
+use Rattle.axles.proofs.GivesNone.{reset-number}
 
 -- ---- what a log says of the record
-
--- 1 for yes, 0 for no
-flag : Bool → ℕ
-flag true = 1
-flag false = 0
-
--- the test for 1 gives the answer back
-flag-is : (b : Bool) → eqb (flag b) 1 ≡ b
-unfolding flag
-flag-is true = refl
-flag-is false = refl
 
 -- head h
 unfoldable headTold : ℕ → HeadLog → Head
 headTold h es = record {
   inward = lastTold axlesIn h es;
   outward = lastTold axlesOut h es;
-  hasin = flag (hasTold axlesIn h es);
-  hasout = flag (hasTold axlesOut h es);
+  hasin = bit (hasTold axlesIn h es);
+  hasout = bit (hasTold axlesOut h es);
 }
 
 -- whether there was a reset and it is proved
@@ -76,7 +69,7 @@ kind-of k = kind-by k (ℕ-discrete k 11) (ℕ-discrete k 12) (ℕ-discrete k 13
 
 -- what an event makes of a head, by its kind and by whether it is the head's own
 head-by : {k : ℕ} → Kind k → (g n h : ℕ) (es : HeadLog) (t : Bool) → eqb g h ≡ t → headAfter (headTold h es) h (said k g n) ≡ headTold h (said k g n ∷ es)
-unfolding headAfter headTold lastTold hasTold says flag noHead if_then_else_ _and_
+unfolding headAfter headTold lastTold hasTold says bit noHead if_then_else_ _and_
 head-by count-in g n h es true e = rw e
 head-by count-in g n h es false e = rw e
 head-by count-out g n h es true e = rw e
@@ -92,10 +85,10 @@ head-step e h es = head-by (kind-of (e .kind)) (e .head) (e .count) h es (eqb (e
 
 -- ---- one event: silence, sums, resets
 
--- a head speaks where the log has both its counts: each flag is a test of the log
+-- a head speaks where the log has both its counts: each bit is a test of the log
 speaks-told : (h : ℕ) (es : HeadLog) → speaks (headTold h es) ≡ hasTold axlesIn h es and hasTold axlesOut h es
 unfolding speaks headTold
-speaks-told h es = rw (flag-is (hasTold axlesIn h es), flag-is (hasTold axlesOut h es))
+speaks-told h es = rw (bit-one (hasTold axlesIn h es), bit-one (hasTold axlesOut h es))
 
 -- and so both heads
 speaking-told : (es : HeadLog) (s p : ℕ) → speaking (heads es s p) ≡ bothSpeak es
@@ -124,12 +117,6 @@ resets-told e es s p = rw (speaking-told es s p)
 
 -- ---- one event: the record
 
--- a choice under a function
-if-under : {A B : Type 0} (f : A → B) (t : Bool) (x y : A) → (if t then f x else f y) ≡ f (if t then x else y)
-unfolding if_then_else_
-if-under f true x y = refl
-if-under f false x y = refl
-
 -- the stored sum is that of the log, round 65,536
 sum-step : (e : Said) (es : HeadLog) (p : ℕ) → sumAfter (heads es (around (netAtReset es)) p) e ≡ around (netAtReset (e ∷ es))
 unfolding sumAfter netAtReset
@@ -149,21 +136,12 @@ told-step e es p = rw (head-step e 0 es, head-step e 1 es, sum-step e es p, proo
 
 -- ---- one event: the number is judged
 
--- a reset tells no count, so the latest of a kind of count stays
-last-at-reset : (e : Said) (es : HeadLog) (k h : ℕ) → e .kind ≡ 14 → eqb 14 k ≡ false → lastTold k h (e ∷ es) ≡ lastTold k h es
-unfolding lastTold says _and_ if_then_else_
-last-at-reset e es k h q f = rw (q, f)
-
--- and with the four counts all in less all out
-net-at-reset : (e : Said) (es : HeadLog) → e .kind ≡ 14 → netTold (e ∷ es) ≡ netTold es
-unfolding netTold
-net-at-reset e es q =
-    rw (last-at-reset e es 11 0 q refl, last-at-reset e es 11 1 q refl, last-at-reset e es 12 0 q refl, last-at-reset e es 12 1 q refl)
-
--- a reset's own number is 0: the sum less itself
+-- a reset's own number is 0, since that of the record is
 number-at-reset : (e : Said) (es : HeadLog) → isReset e es ≡ true → numberTold (e ∷ es) ≡ pos 0
-unfolding numberTold netAtReset if_then_else_ isReset signed
-number-at-reset e es r = rw (net-at-reset e es (eqb-true (e .kind) 14 (and-left _ _ r)), r, around-self (netTold es))
+unfolding numberTold isReset
+number-at-reset e es r =
+    sym (ap number (told-step e es noReset) ∙ number-told (e ∷ es) (netAtReset (e ∷ es)) _)
+    ∙ reset-number (heads es (around (netAtReset es)) noReset) e (eqb-true (e .kind) 14 (and-left _ _ r)) (speaking-told es _ _ ∙ and-right _ _ r)
 
 -- so it is not in 1 to 255
 reset-not-occupies : (e : Said) (es : HeadLog) → isReset e es ≡ true → occupiesTold (e ∷ es) ≡ false
@@ -188,26 +166,36 @@ judged-told : (es : HeadLog) (p : ℕ)
 unfolding judged proves withProof
 judged-told es p = rw (occupies-told es p) (if-under (heads es (around (netAtReset es))) (eqb p unproved and occupiesTold es) proved p)
 
+-- there was a reset where the event is one or there was one before it
+pub reset-was : (e : Said) (es : HeadLog) → wasReset (e ∷ es) ≡ isReset e es or wasReset es
+unfolding wasReset resetsIn if_then_else_ _or_
+reset-was e es = by-test (isReset e es) (resetsIn es)
+  where
+    by-test : (t : Bool) (n : ℕ) → leb 1 (if t then suc n else n) ≡ t or leb 1 n
+    by-test true n = le-leb 1 (suc n) (omega arith)
+    by-test false n = refl
+
 -- the whole record after one event more: told, then judged
 after-step : (e : Said) (es : HeadLog) → axlesAfter (axlesTold es) e ≡ axlesTold (e ∷ es)
-unfolding axlesAfter axlesTold wasReset provedTold
+unfolding axlesAfter axlesTold provedTold
 after-step e es =
     ap judged (told-step e es (proofTold (wasReset es) (provedTold es)))
     ∙ judged-told (e ∷ es) (if isReset e es then unproved else proofTold (wasReset es) (provedTold es))
-    ∙ ap (heads (e ∷ es) (around (netAtReset (e ∷ es)))) (proof-by (isReset e es) (wasReset es) (provedTold es) (occupiesTold (e ∷ es)) (reset-not-occupies e es))
+    ∙ ap (heads (e ∷ es) (around (netAtReset (e ∷ es)))) (proof-by (isReset e es) (wasReset es) (provedTold es) (occupiesTold (e ∷ es)) (reset-not-occupies e es)
+    ∙ ap (λ w. proofTold w (provedTold (e ∷ es))) (sym (reset-was e es)))
 
 -- ---- a whole log
 
 -- at the cold start nothing was said
 cold-told : noAxles ≡ axlesTold []
-unfolding noAxles noHead axlesTold headTold lastTold hasTold flag netAtReset wasReset proofTold around if_then_else_
+unfolding noAxles noHead axlesTold headTold lastTold hasTold bit netAtReset wasReset resetsIn proofTold around if_then_else_
 cold-told = refl
 
 -- the heads after a log are what the log says: event by event
-heads-told : (es : HeadLog) → headsAfter es ≡ axlesTold es
+log-heads : (es : HeadLog) → headsAfter es ≡ axlesTold es
 unfolding headsAfter
-heads-told [] = cold-told
-heads-told (e ∷ es) = ap (λ x. axlesAfter x e) (heads-told es) ∙ after-step e es
+log-heads [] = cold-told
+log-heads (e ∷ es) = ap (λ x. axlesAfter x e) (log-heads es) ∙ after-step e es
 
 -- the three tests of a reading, by their values
 known-by : (b r p : Bool) → b and eqb (proofTold r p) proved ≡ every (b ∷ r ∷ p ∷ [])
@@ -229,14 +217,14 @@ reads-told es =
 
 -- the reading is told by the log: the box's own heads, event by event from the cold start, read what the list of events alone says
 pub log-reads : (es : HeadLog) → axlesReading (headsAfter es) ≡ readingTold es
-log-reads es = ap axlesReading (heads-told es) ∙ reads-told es
+log-reads es = ap axlesReading (log-heads es) ∙ reads-told es
 
 -- and so is their silence, which 35 asks
 pub log-speaks : (es : HeadLog) → speaking (headsAfter es) ≡ bothSpeak es
 unfolding axlesTold
-log-speaks es = ap speaking (heads-told es) ∙ speaking-told es (around (netAtReset es)) (proofTold (wasReset es) (provedTold es))
+log-speaks es = ap speaking (log-heads es) ∙ speaking-told es (around (netAtReset es)) (proofTold (wasReset es) (provedTold es))
 
 -- and the number
 pub log-number : (es : HeadLog) → number (headsAfter es) ≡ numberTold es
 unfolding axlesTold numberTold
-log-number es = ap number (heads-told es) ∙ number-told es (netAtReset es) (proofTold (wasReset es) (provedTold es))
+log-number es = ap number (log-heads es) ∙ number-told es (netAtReset es) (proofTold (wasReset es) (provedTold es))

@@ -1,7 +1,7 @@
 -- The cases of the number and of what it says, a law at each return of the code.
 use Prim.Native.Nat.{ℕ, _+_, _%_, _<_, _≤_}
 use mathlib.Core.Path.{_≡_, refl, sym, ap, _∙_}
-use mathlib.Core.Bool.{Bool, true, false, false≢true}
+use mathlib.Core.Bool.{true, false, false≢true}
 use native.Mathlib.Omega.{arith}
 use native.Mathlib.Nat.{not-suc-le-zero}
 use borrow.Author.Tests.{ltb-true}
@@ -10,24 +10,11 @@ use lib.Signed.{ltZ, leZ}
 use mir.Syntax.{w32}
 use mir.Val.{SFits, toZ, ofZ}
 use mir.Facts.{toZ-ofZ, toZ-pos}
-use Rattle.laws.specs.Tests.{_and_}
 use Rattle.laws.proofs.Choice.{if-true, if-false, if-eq, if-ne, if-lt, if-ge}
-use Rattle.laws.proofs.Tests.{and-right, fails-from, not-both}
 use Rattle.axles.specs.Rounds.{around, signed}
 use Rattle.axles.specs.Heads.{net, number, readingOf}
 use Rattle.axles.specs.declared.Axles.{Axles}
 use Rattle.axles.proofs.Rounds.{taken-off-around, minus-round}
-
--- ---- two tests
-
--- where the first of two fails they do not both hold
-pub first-fails : (a b : Bool) → a ≡ false → a and b ≡ false
-unfolding _and_
-first-fails a b e = rw e
-
--- nor where the second does, since both would give it
-pub second-fails : (a b : Bool) → b ≡ false → a and b ≡ false
-second-fails a b e = fails-from (a and b) (λ t. not-both (and-right a b t) e)
 
 -- ---- the number
 

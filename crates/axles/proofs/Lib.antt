@@ -2,8 +2,9 @@ pub mod Rounds
 pub mod Signed
 pub mod Laws
 pub mod Unique
+pub mod Kept
 pub mod Since
-pub mod HeadLog
 pub mod GivesNone
+pub mod HeadLog
 pub mod FreeNeeds
 pub mod Cases

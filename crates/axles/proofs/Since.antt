@@ -1,6 +1,6 @@
 -- The number depends on nothing but what was counted since the reset, however often a count has rolled over.
 use Prim.Native.Nat.{ℕ, _+_, _*_, _%_, _<_}
-use mathlib.Core.Path.{_≡_, refl, sym, ap, _∙_}
+use mathlib.Core.Path.{_≡_, refl, sym, ap, ap₂, _∙_}
 use mathlib.Core.Bool.{Bool, true, false}
 use native.Mathlib.Omega.{arith}
 use borrow.Author.Tests.{eqb-true}
@@ -11,12 +11,13 @@ use Rattle.laws.specs.Tests.{_and_}
 use Rattle.laws.proofs.Choice.{if-lt, chosen}
 use Rattle.track.specs.Codes.{free}
 use Rattle.axles.specs.Rounds.{around, signed}
-use Rattle.axles.specs.Heads.{headAfter, speaks, speaking, net, number, readingOf, resets, sumAfter, told, withProof, proves, judged, axlesAfter, known, axlesReading}
+use Rattle.axles.specs.Heads.{headAfter, speaks, speaking, net, number, readingOf, resets, sumAfter, told, axlesAfter, known, axlesReading}
 use Rattle.axles.specs.Since.{Counted, more, passed, headOf, Repeats, again-in, again-out}
 use Rattle.axles.specs.declared.Head.{Head}
 use Rattle.axles.specs.declared.Axles.{Axles}
 use Rattle.axles.specs.declared.Said.{Said}
 use Rattle.axles.proofs.Rounds.{around-sub, same-difference, less-less, around-small}
+use Rattle.axles.proofs.Kept.{after-same}
 
 -- ---- axles in and out since the reset
 
@@ -121,13 +122,9 @@ unfolding told sumAfter resets _and_ if_then_else_
 sum-again x e (again-in p q) = rw p
 sum-again x e (again-out p q) = rw p
 
--- judging changes no number
-judged-number : (x : Axles) (t : Bool) → proves x ≡ t → number (judged x) ≡ number x
-unfolding judged withProof if_then_else_ number net
-judged-number x true e = rw e
-judged-number x false e = rw e
-
 -- L1: a section whose counts do not change keeps its number: a count that its head has told already leaves it
 pub again-leaves : (x : Axles) (e : Said) → Repeats x e → number (axlesAfter x e) ≡ number x
-unfolding axlesAfter number
-again-leaves x e r = judged-number (told x e) (proves (told x e)) refl ∙ rw (net-again x e r, sum-again x e r)
+unfolding number net
+again-leaves x e r =
+    let same = after-same x e in
+    rw (same .first, same .second, same .sum) (ap₂ (λ z n. signed (around (z -ℤ pos n))) (net-again x e r) (sum-again x e r))

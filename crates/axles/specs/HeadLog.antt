@@ -2,14 +2,13 @@
 use Prim.Native.Nat.{ℕ, suc, _+_}
 use mathlib.Core.Bool.{Bool, true, false}
 use mathlib.Core.List.{List, [], _∷_}
-use lib.Dec.{eqb}
+use lib.Dec.{eqb, leb}
 use lib.IntN.{ℤ, pos, _-ℤ_}
 use Rattle.laws.specs.Choice.{if_then_else_}
 use Rattle.laws.specs.Tests.{_and_, _or_, every}
 use Rattle.track.specs.Codes.{occupied, readsNone, axlesIn, axlesOut, headSilent, resetAxles}
 use Rattle.axles.specs.Rounds.{around, signed}
-use Rattle.axles.specs.Heads.{readingOf, noAxles, axlesAfter}
-use Rattle.axles.specs.declared.Axles.{Axles}
+use Rattle.axles.specs.Heads.{readingOf}
 use Rattle.axles.specs.declared.Said.{Said}
 
 -- what was said of the heads of a section, newest first: e ∷ es is the log es and then e, [] the cold start
@@ -72,8 +71,7 @@ occupiesTold es = bothSpeak es and eqb (readingOf (numberTold es)) occupied
 
 -- there was a reset
 unfoldable pub wasReset : HeadLog → Bool
-wasReset [] = false
-wasReset (e ∷ es) = isReset e es or wasReset es
+wasReset es = leb 1 (resetsIn es)
 
 -- after one of the events since the last reset the number was in 1 to 255 with neither head silent
 unfoldable pub provedTold : HeadLog → Bool
@@ -84,10 +82,3 @@ provedTold (e ∷ es) = if isReset e es then false else (occupiesTold (e ∷ es)
 -- else what the number says
 unfoldable pub readingTold : HeadLog → ℕ
 readingTold es = if every (bothSpeak es ∷ wasReset es ∷ provedTold es ∷ []) then readingOf (numberTold es) else readsNone
-
--- ---- the box's own heads
-
--- the heads after a log: from the cold start, event by event
-unfoldable pub headsAfter : HeadLog → Axles
-headsAfter [] = noAxles
-headsAfter (e ∷ es) = axlesAfter (headsAfter es) e

@@ -1,6 +1,7 @@
 -- L1: the two heads of a section, what an event makes of them, and what the section reads.
 use Prim.Native.Nat.{ℕ, _+_}
 use mathlib.Core.Bool.{Bool}
+use mathlib.Core.List.{List, [], _∷_}
 use lib.Dec.{eqb, leb}
 use lib.IntN.{ℤ, pos, negsuc, _-ℤ_}
 use Rattle.laws.specs.Choice.{if_then_else_}
@@ -102,6 +103,11 @@ judged x = if proves x then withProof x proved else x
 -- the heads after an event: it is told, and then the number is judged
 unfoldable pub axlesAfter : Axles → Said → Axles
 axlesAfter x e = judged (told x e)
+
+-- the heads after a list of events, newest first: from the cold start, event by event
+unfoldable pub headsAfter : List Said → Axles
+headsAfter [] = noAxles
+headsAfter (e ∷ es) = axlesAfter (headsAfter es) e
 
 -- ---- what the section reads
 

@@ -56,7 +56,7 @@ pub demand-1 : (before : Records) (c : Call) → Demand1 before c
 unfolding Numbered tells ofLoad ofFit ofEvent ofPanel afterCall afterLoad afterFit afterFile lent
 demand-1 before powerOn = record { answered = refl; refused = λ h. absurd (h refl) }
 demand-1 before (loadFile bytes) = record { answered = load-numbers bytes .numbers; refused = λ h. record { records = sym (if-ne _ _ _ _ _ h refl); buffer = refl } }
-demand-1 before (fitSections bytes) = record { answered = fit-numbers bytes (before .layout); refused = λ h. record { records = sym (if-ne _ _ _ _ _ h refl); buffer = refl } }
+demand-1 before (fitSections bytes) = record { answered = fit-numbers (before .layout) bytes; refused = λ h. record { records = sym (if-ne _ _ _ _ _ h refl); buffer = refl } }
 demand-1 before (giveEvent k a b) = record {
   answered = step-numbers (before .layout) (before .state) k a b;
   refused = λ h. record { records = ap (records (before .layout)) (refusal-keeps (before .layout) (before .state) k a b h); buffer = refl };

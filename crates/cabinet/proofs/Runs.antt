@@ -13,6 +13,7 @@ use lib.ListN.{length}
 use Rattle.laws.specs.Choice.{if_then_else_}
 use Rattle.laws.specs.Tables.{tableFrom, table}
 use Rattle.laws.specs.Tests.{_and_, every}
+use Rattle.laws.specs.Totals.{bit}
 use Rattle.laws.proofs.Tests.{and-both, fails-from}
 use Rattle.track.specs.Lists.{between}
 use Rattle.layout.specs.declared.Layout.{Layout}
@@ -21,7 +22,7 @@ use Rattle.layout.specs.Load.{load}
 use Rattle.layout.specs.Sound.{fits, sound}
 use Rattle.layout_facts.proofs.Loaded.{loaded-sound}
 use Rattle.fitted.specs.Numbers.{numbersOf}
-use Rattle.fitted.specs.Fitted.{Among, anyOf, isTold, lacks, bit, toldBy, withTold, equipped}
+use Rattle.fitted.specs.Fitted.{Among, anyOf, isTold, lacks, toldBy, withTold, equipped}
 use Rattle.fitted.specs.InUse.{InUse}
 use Rattle.fitted.proofs.Equipped.{equipped-none, equipped-sound}
 use Rattle.fitted.proofs.InUse.{in-use-sound}

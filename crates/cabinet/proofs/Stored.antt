@@ -54,7 +54,7 @@ use Rattle.cabinet.proofs.LoadedOver.Laws as N′
 use Rattle.cabinet.proofs.LoadReply as P
 use Rattle.cabinet.proofs.LoadReply.Laws as P′
 use Rattle.cabinet.proofs.load_over as over
-use Rattle.cabinet.proofs.Values.{valS, valL}
+use Rattle.cabinet.proofs.Values.{valS, valL, Arguments, arguments, ArgumentValues, argumentValues}
 use Rattle.cabinet.proofs.hiruketawha_load as entry
 
 -- ---- the two entries
@@ -144,17 +144,13 @@ module _ {asked : List ℕ → Call} {gives : Answers} (fits : Fits asked gives)
   abbrev v : Val
   v = sliceVal (s .ptr) (length (s .now))
 
-  -- the arguments
-  abbrev Arg : Type 0
-  Arg = RefT State × (RefT Layout × (RefT (List ℕ) × Unit {0}))
-
   -- the state, the layout and the bytes that are lent
-  abbrev x : Arg
-  x = (record { ptr = (b, o); name = γ; now = h }, (record { ptr = (b′, o′); name = γ′; now = l }, (s, tt)))
+  abbrev x : Arguments
+  x = arguments b o γ h b′ o′ γ′ l s
 
   -- their values, one list for each
-  abbrev at : List Val × (List Val × (List Val × Unit {0}))
-  at = (vptr b o ∷ [], (vptr b′ o′ ∷ [], (v ∷ [], tt)))
+  abbrev at : ArgumentValues
+  at = argumentValues b o b′ o′ v
 
   -- the same as one list
   abbrev args : List Val

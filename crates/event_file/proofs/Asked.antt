@@ -1,24 +1,23 @@
 -- A run asks soundness once, before its first event. On a layout that loads, with any sections told as fitted (L1), it answers and shows what is answered
 -- and shown where every event asks.
-use Prim.Native.Nat.{ℕ, zero, suc, _<_}
+use Prim.Native.Nat.{ℕ}
 use mathlib.Core.Path.{_≡_, refl, sym, ap, _∙_}
 use mathlib.Core.Bool.{Bool, true, false}
-use mathlib.Core.List.{List, [], _∷_}
-use native.Mathlib.Nat.{not-suc-le-zero}
+use mathlib.Core.List.{List}
 use native.Mathlib.Omega.{arith}
-use borrow.Author.Tests.{eqb-true, leb-false}
-use lib.Dec.{eqb, leb}
-use lib.ListN.{length, getD}
+use borrow.Author.Tests.{eqb-true}
+use lib.Dec.{eqb}
 use Rattle.laws.specs.Choice.{if_then_else_}
 use Rattle.laws.specs.Tests.{_and_}
+use Rattle.laws.specs.Totals.{bit}
 use Rattle.laws.proofs.Choice.{if-both}
-use Rattle.laws.proofs.Tests.{and-right, or-neither, fails-from, every-at}
+use Rattle.laws.proofs.Tests.{and-right, fails-from, every-at}
 use Rattle.layout.specs.declared.Layout.{Layout}
 use Rattle.layout.specs.Sound.{fits, sound}
 use Rattle.fitted.specs.declared.Fitting.{Fitting}
 use Rattle.fitted.specs.Numbers.{numbersOf}
-use Rattle.fitted.specs.Fitted.{anyOf, lacks, bit, toldBy, withTold, equipped, fitBy, fit}
-use Rattle.fitted.proofs.Equipped.{equipped-sound}
+use Rattle.fitted.specs.Fitted.{lacks, toldBy, withTold, equipped, fitBy, fit}
+use Rattle.fitted.proofs.Equipped.{none-lacks, equipped-sound}
 use Rattle.interlocking.specs.declared.State.{State}
 use Rattle.interlocking.specs.State.{inRange}
 use Rattle.interlocking.specs.Step.{stepWhere, step, askedInRun, stepInRun}
@@ -64,13 +63,6 @@ module _ (L : Layout) (d : L .lacking ≡ 0 → ⊥) where
 
 -- ---- a layout with its fitted sections
 
--- where none of the numbers is lacking, each of them is below the number of sections: number by number
-all-there : (sections : ℕ) (ns : List ℕ) → lacks sections ns ≡ false → (i : ℕ) → i < length ns → getD ns i 0 < sections
-unfolding lacks anyOf
-all-there sections [] e i h = absurd (not-suc-le-zero h)
-all-there sections (n ∷ ns) e zero h = leb-false sections n (or-neither (leb sections n) _ e .0)
-all-there sections (n ∷ ns) e (suc i) h = all-there sections ns (or-neither (leb sections n) _ e .1) i (omega arith)
-
 -- a sound layout with any sections told stays sound, or lacks one
 equipped-once : (L : Layout) (ns : List ℕ) → sound L ≡ true → AskedOnce (equipped ns L)
 unfolding equipped withTold toldBy bit if_then_else_
@@ -78,7 +70,7 @@ equipped-once L ns h = by-test (lacks (L .sections) ns) refl
   where
     by-test : (t : Bool) → lacks (L .sections) ns ≡ t → AskedOnce (equipped ns L)
     by-test true e = lacking-once (equipped ns L) (rw e (λ z. let y : _≡_ {A = ℕ} 1 0 = z in omega arith))
-    by-test false e = sound-once (equipped ns L) (equipped-sound L ns h .1 (λ n a. rw (← a .2) (all-there (L .sections) ns e (a .0) (a .1))))
+    by-test false e = sound-once (equipped ns L) (equipped-sound L ns h .1 (none-lacks (L .sections) ns .0 e))
 
 -- so of what a file of fitted sections makes of it, with a fault or without
 pub fit-once : (L : Layout) (file : List ℕ) → sound L ≡ true → AskedOnce (fit L file .layout)

@@ -11,7 +11,7 @@ use lib.Dec.{eqb, ltb}
 use lib.ListN.{length, take, drop, length-append, take-append-drop}
 use lib.Seq.{length-take-le}
 use Rattle.laws.specs.Choice.{if_then_else_}
-use Rattle.laws.proofs.Choice.{if-eq, if-ne, if-both}
+use Rattle.laws.proofs.Choice.{if-eq, if-ne, if-both, if-under}
 use Rattle.numbers.specs.declared.Number.{Number}
 use Rattle.numbers.specs.declared.Number.the-variants.{Value, Fault}
 use Rattle.numbers.specs.Number.{numberAt}
@@ -33,12 +33,6 @@ use Rattle.fitted.proofs.Whole.{fit-is}
 abbrev moved : ℕ → Numbers → Numbers
 moved d r = record { list = r .list; fault = r .fault; place = d + r .place }
 
--- of two the one that is chosen is moved
-choice-moved : (d at : ℕ) (t : Bool) (r : Numbers) → if t then moved d r else none 0 (d + at) ≡ moved d (if t then r else none 0 at)
-unfolding if_then_else_ none
-choice-moved d at true r = refl
-choice-moved d at false r = refl
-
 module _ (front s : List ℕ) where
   -- a number and those that follow it, or a fault
   next-moved : (rest more : ℕ → Numbers) → ((next : ℕ) → more (length front + next) ≡ moved (length front) (rest next))
@@ -53,7 +47,7 @@ module _ (front s : List ℕ) where
   numbers-moved zero at = refl
   numbers-moved (suc m) at =
       rw (inside-further front s at, number-further front s at, next-moved (numbersFrom m s) (numbersFrom m (front ++ s)) (numbers-moved m) (numberAt s at))
-      (choice-moved (length front) at (ltb at (length s)) (numbersNext (numbersFrom m s) (numberAt s at)))
+      (if-under (moved (length front)) (ltb at (length s)) (numbersNext (numbersFrom m s) (numberAt s at)) (none 0 at))
 
   -- the numbers of a string are found behind the other bytes
   from-moved : (at : ℕ) → fromPlace (front ++ s) (length front + at) ≡ moved (length front) (fromPlace s at)

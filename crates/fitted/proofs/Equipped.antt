@@ -9,21 +9,24 @@ use native.Mathlib.Omega.{arith}
 use native.Mathlib.Decide.{decLt}
 use borrow.Author.Tests.{eqb-true, eq-eqb, leb-true, le-leb}
 use lib.Dec.{eqb, leb}
-use lib.ListN.{length, getD}
+use lib.ListN.{getD}
 use lib.Seq.{ext-getD}
 use Rattle.laws.specs.Choice.{if_then_else_}
+use Rattle.laws.specs.Totals.{bit}
 use Rattle.laws.proofs.Choice.{if-both}
-use Rattle.laws.proofs.Tests.{and-right, or-cases, or-left, or-right, not-both, fails-from, every-at, every-one, every-more, all-from}
+use Rattle.laws.proofs.Tests.{and-right, or-cases, or-left, or-right, not-both, fails-from, alike, every-at, every-one, every-more, all-from}
 use Rattle.laws.proofs.Tables.{length-table, table-at}
+use Rattle.laws.proofs.Totals.{bit-one, bit-none}
 use Rattle.track.specs.Sizes.{mostSections}
 use Rattle.track.specs.Lists.{between}
 use Rattle.layout.specs.declared.Layout.{Layout}
-use Rattle.layout.specs.declared.Loaded.{Loaded}
-use Rattle.layout.specs.Layout.{noneFitted, noLayout, counts, lineIn, routeIn, conflict, isFitted}
+use Rattle.layout.specs.Layout.{counts, lineIn, routeIn, conflict, isFitted}
 use Rattle.layout.specs.Rules.{rule1, rule2, rule3, rule4, rule5, rule6, broken}
 use Rattle.layout.specs.Sound.{fits, mirrored, sound}
-use Rattle.layout.specs.Load.{whole, refused, finished, load}
-use Rattle.fitted.specs.Fitted.{Among, anyOf, isTold, lacks, bit, toldBy, withTold, equipped, noneTold, tellAll}
+use Rattle.layout.specs.Load.{load}
+use Rattle.layout_facts.specs.Loaded.{NoneTold}
+use Rattle.layout_facts.proofs.LoadedCleared.{loaded-none-told}
+use Rattle.fitted.specs.Fitted.{Among, anyOf, isTold, lacks, toldBy, withTold, equipped, noneTold, tellAll}
 use Rattle.fitted.proofs.Telling.{told-is}
 
 -- ---- the tests of a list, in plain statements
@@ -52,12 +55,6 @@ any-alike p ns ms same = alike (anyOf p ns) (anyOf p ms) (over ns ms (λ g. same
     over : (xs ys : List ℕ) → ((g : ℕ) → Among xs g → Among ys g) → anyOf p xs ≡ true → anyOf p ys ≡ true
     over xs ys f e = let n = any-found p xs e in any-given p ys (n .0) (f (n .0) (n .1)) (n .2)
 
-    -- two tests each of which holds where the other does are the same
-    alike : (x y : Bool) → (x ≡ true → y ≡ true) → (y ≡ true → x ≡ true) → x ≡ y
-    alike true y f g = sym (f refl)
-    alike false true f g = g refl
-    alike false false f g = refl
-
 -- a section is told just where it is one of the numbers
 pub told-means : (ns : List ℕ) (g : ℕ) → isTold ns g ≡ true ↔ Among ns g
 unfolding isTold
@@ -67,7 +64,7 @@ told-means ns g = (
 )
 
 -- none is lacking just where each is below the number of sections
-none-lacks : (sections : ℕ) (ns : List ℕ) → lacks sections ns ≡ false ↔ ((n : ℕ) → Among ns n → n < sections)
+pub none-lacks : (sections : ℕ) (ns : List ℕ) → lacks sections ns ≡ false ↔ ((n : ℕ) → Among ns n → n < sections)
 unfolding lacks
 none-lacks sections ns = (
   λ e n a. below n (decLt n sections) (λ h. not-both (any-given _ ns n a (le-leb sections n h)) e),
@@ -80,18 +77,6 @@ none-lacks sections ns = (
     below n (no h) f = absurd (f (omega arith))
 
 -- ---- which sections have heads
-
--- 1 stands just where a test holds
-bit-one : (t : Bool) → eqb (bit t) 1 ≡ t
-unfolding bit if_then_else_
-bit-one true = refl
-bit-one false = refl
-
--- and 0 just where it fails
-bit-none : (t : Bool) → eqb (bit t) 0 ≡ true → t ≡ false
-unfolding bit if_then_else_
-bit-none true q = absurd (false≢true q)
-bit-none false q = refl
 
 -- 1 stands so in the layout that is equipped
 fitted-told : (L : Layout) (ns : List ℕ) (g : ℕ) → g < mostSections → isFitted (equipped ns L) g ≡ isTold ns g
@@ -114,29 +99,16 @@ equipped-same L ns ms same =
     table-at mostSections _ 0 g q ∙ ap bit (any-alike _ ns ms same) ∙ sym (table-at mostSections _ 0 g q)))
     (ap bit (any-alike _ ns ms same))
 
--- no section is told as fitted
-abbrev NoneTold : Layout → Type 0
-NoneTold L = (L .fitted ≡ noneFitted) × (L .lacking ≡ 0)
-
--- a layout of which that is so is as it was where no number is told
+-- a layout that tells of no heads is as it was where no number is told
 none-equips : (L : Layout) → NoneTold L → equipped [] L ≡ L
 unfolding equipped withTold noneTold tellAll
-none-equips L (e, f) =
+none-equips L none =
     ap (withTold L) (sym (told-is (L .sections) []))
-    ∙ ap₂ (λ (heads : List ℕ) (lacking : ℕ). withTold L (record { fitted = heads; lacking = lacking })) (sym e) (sym f)
-
--- it is so of what loading answers, whatever the file
-loaded-none : (s : List ℕ) → NoneTold (load s .layout)
-unfolding load finished refused whole noLayout
-loaded-none s =
-    if-both (λ (a : Loaded). NoneTold (a .layout)) (eqb (whole s .cur .fault) 0)
-    (λ t. if-both (λ (a : Loaded). NoneTold (a .layout)) (eqb (whole s .cur .at) (length s))
-    (λ u. if-both (λ (a : Loaded). NoneTold (a .layout)) (eqb (broken (whole s .layout)) 0) (λ v. (refl, refl)) (λ v. (refl, refl))) (λ u. (refl, refl)))
-    (λ t. (refl, refl))
+    ∙ ap₂ (λ (heads : List ℕ) (lacking : ℕ). withTold L (record { fitted = heads; lacking = lacking })) (sym (none .fitted)) (sym (none .noneLacking))
 
 -- L1, where no number is told, a layout that was loaded is as it was
 pub equipped-none : (s : List ℕ) → equipped [] (load s .layout) ≡ load s .layout
-equipped-none s = none-equips (load s .layout) (loaded-none s)
+equipped-none s = none-equips (load s .layout) (loaded-none-told s)
 
 -- ---- soundness
 

@@ -12,12 +12,13 @@ use lib.Seq.{getD-set-same, getD-set-other, ext-getD}
 use Rattle.laws.specs.Choice.{if_then_else_}
 use Rattle.laws.specs.Tests.{_or_}
 use Rattle.laws.specs.Tables.{table}
+use Rattle.laws.specs.Totals.{bit}
 use Rattle.laws.proofs.Arrays.{nothing-at}
 use Rattle.laws.proofs.Tables.{length-table, table-at}
 use Rattle.track.specs.Sizes.{mostSections}
 use Rattle.layout.specs.Layout.{noneFitted}
 use Rattle.fitted.specs.declared.Told.{Told}
-use Rattle.fitted.specs.Fitted.{anyOf, isTold, lacks, bit, toldBy, noneTold, lackingWith, tell, tellAll}
+use Rattle.fitted.specs.Fitted.{anyOf, isTold, lacks, toldBy, noneTold, lackingWith, tell, tellAll}
 
 -- 1 where one of two tests holds, by the second first
 one-of-two : (a b : Bool) (x : ℕ) → if b then 1 else (if a then 1 else x) ≡ if a or b then 1 else x

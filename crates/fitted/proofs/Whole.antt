@@ -23,25 +23,25 @@ use Rattle.fitted.specs.Pieces.{stopOf, ended, pieceOf, answer}
 use Rattle.fitted.proofs.Telling.{told-is}
 
 -- what ends numbers is the end of the bytes, 21 or 22
-abbrev Known : Numbers → Type 0
-Known r = (r .fault ≡ 0) ⊎ ((r .fault ≡ 21) ⊎ (r .fault ≡ 22))
+abbrev pub Known : ℕ → Type 0
+Known n = (n ≡ 0) ⊎ ((n ≡ 21) ⊎ (n ≡ 22))
 
 module _ (file : List ℕ) where
   -- by what stands at a place
-  next-known : (rest : ℕ → Numbers) → ((next : ℕ) → Known (rest next)) → (at : ℕ) (x : Number) → x ≡ numberAt file at → Known (numbersNext rest x)
+  next-known : (rest : ℕ → Numbers) → ((next : ℕ) → Known (rest next .fault)) → (at : ℕ) (x : Number) → x ≡ numberAt file at → Known (numbersNext rest x .fault)
   unfolding numbersNext before none
   next-known rest known at (Value value next) e = known next
   next-known rest known at (Fault number place) e = inr (⊎-elim (λ z. inr z) (λ z. inl (z .0)) (fault-number file at e refl))
 
   -- by the numbers that are allowed
-  numbers-known : (m at : ℕ) → Known (numbersFrom m file at)
+  numbers-known : (m at : ℕ) → Known (numbersFrom m file at .fault)
   unfolding numbersFrom none
   numbers-known zero at = inl refl
   numbers-known (suc m) at =
-      if-both Known (ltb at (length file)) (λ t. next-known (numbersFrom m file) (numbers-known m) at (numberAt file at) refl) (λ t. inl refl)
+      if-both (λ (r : Numbers). Known (r .fault)) (ltb at (length file)) (λ t. next-known (numbersFrom m file) (numbers-known m) at (numberAt file at) refl) (λ t. inl refl)
 
   -- from a place on
-  from-known : (at : ℕ) → Known (fromPlace file at)
+  pub from-known : (at : ℕ) → Known (fromPlace file at .fault)
   unfolding fromPlace
   from-known at = numbers-known (suc (length file)) at
 
@@ -79,7 +79,7 @@ answer-bad L r e =
     ∙ if-ne (r .fault) 0 _ _ _ (far 0 (omega arith)) refl
 
 -- one or the other
-answer-is : (L : Layout) (r : Numbers) → Known r → answer L (readAs L r) ≡ fitBy L r
+answer-is : (L : Layout) (r : Numbers) → Known (r .fault) → answer L (readAs L r) ≡ fitBy L r
 answer-is L r = ⊎-elim (answer-whole L r) (answer-bad L r)
 
 -- so is the answer to a file that is read as one piece

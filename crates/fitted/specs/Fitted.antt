@@ -8,6 +8,7 @@ use lib.Dec.{eqb, leb}
 use Rattle.laws.specs.Choice.{if_then_else_}
 use Rattle.laws.specs.Tests.{_or_}
 use Rattle.laws.specs.Tables.{table}
+use Rattle.laws.specs.Totals.{bit}
 use Rattle.track.specs.Sizes.{mostSections}
 use Rattle.layout.specs.declared.Layout.{Layout}
 use Rattle.layout.specs.Layout.{noneFitted}
@@ -33,10 +34,6 @@ isTold ns g = anyOf (λ n. eqb n g) ns
 -- of so many sections, one is told that there is not
 unfoldable pub lacks : ℕ → List ℕ → Bool
 lacks sections ns = anyOf (λ n. leb sections n) ns
-
--- 1 where a test holds, else 0
-unfoldable pub bit : Bool → ℕ
-bit t = if t then 1 else 0
 
 -- what a list of numbers tells of a layout with so many sections: 1 at g just where g is told; and 1 just where one is told that there is not
 unfoldable pub toldBy : ℕ → List ℕ → Told

@@ -1,19 +1,21 @@
 -- The row of a kind.
-use Prim.Native.Nat.{ℕ}
+use Prim.Native.Nat.{ℕ, _/_, _≤_}
 use mathlib.Core.Path.{_≡_, refl, sym, ap, _∙_}
 use mathlib.Core.Bool.{Bool}
 use mathlib.Core.Logic.{_≢_, _⊎_, inl, inr}
-use borrow.Author.Tests.{eqb-true, eqb-false}
+use native.Mathlib.Omega.{arith}
+use borrow.Author.Tests.{eqb-true, eqb-false, eq-eqb, ne-eqb}
 use lib.Dec.{eqb}
-use Rattle.laws.proofs.Choice.{if-both, if-ne}
+use Rattle.laws.proofs.Choice.{if-both, if-ne, chosen, passed-over}
 use Rattle.track.specs.Codes.{readSection, readPoint, throwPoint, setRoute, cancelRoute, secureLine, releaseLine, barBlock, unbarBlock, oneSecond, axlesIn, axlesOut, headSilent, resetAxles}
 use Rattle.axles.specs.declared.Axles.{Axles}
+use Rattle.axles.specs.Heads.{axlesReading}
 use Rattle.layout.specs.declared.Layout.{Layout}
 use Rattle.interlocking.specs.declared.State.{State}
 use Rattle.interlocking.specs.declared.Core.{Core}
 use Rattle.interlocking.specs.declared.Tried.{Tried}
-use Rattle.interlocking.specs.Own.{headsOf, headsBy}
-use Rattle.interlocking.specs.Rows.{Row, sectionRow, pointRow, throwRow, setRow, cancelRow, secureRow, manualRow, barRow, secondRow, countRow, silentRow, resetRow, noRow, rowWith, rowOf}
+use Rattle.interlocking.specs.Own.{headSection, headsOf, headsBy, ownHeads}
+use Rattle.interlocking.specs.Rows.{Row, givesReading, sectionRow, pointRow, throwRow, setRow, cancelRow, secureRow, manualRow, barRow, secondRow, headRow, countRow, silentRow, resetRow, noRow, rowWith, rowOf}
 use Rattle.interlocking.specs.Parts.{bare, tried}
 
 -- k is none of the fourteen kinds
@@ -95,6 +97,49 @@ OfKind L s a b k row = RowKind L s (headsOf s k a) (headsBy (headsOf s k a) k a 
 pub row-of : (L : Layout) (s : State) (k a b : ℕ) → OfKind L s a b k (rowOf L s k a b)
 unfolding rowOf
 row-of L s k a b = row-with L s _ _ k a b
+
+-- ---- the rows of heads (L1)
+
+module _ (k a : ℕ) where
+  -- kinds 11 to 13 name a head, two for each section
+  pub head-named : k ≢ resetAxles → headSection k a ≡ a / 2
+  unfolding headSection
+  head-named d = passed-over _ a (a / 2) (ne-eqb k resetAxles d)
+
+  -- kind 14 names the section
+  pub reset-named : k ≡ resetAxles → headSection k a ≡ a
+  unfolding headSection
+  reset-named q = chosen _ a (a / 2) (eq-eqb k resetAxles q)
+
+-- a kind that is none of the four is not of heads
+pub no-heads : {k : ℕ} → k ≢ axlesIn → k ≢ axlesOut → k ≢ headSilent → k ≢ resetAxles → (axlesIn ≤ k) × (k ≤ resetAxles) → ⊥
+no-heads p q r s h = omega arith
+
+-- a row does this with the heads of section g, and gives the section what they then say
+abbrev OfHeads : Layout → State → ℕ → Axles → Row → Type 0
+OfHeads L s g y row = (row .does ≡ ownHeads (L .line) (L .lines) s g y) × (row .gives ≡ givesReading g (axlesReading y))
+
+-- each of the four rows does so with the section that its event names
+pub heads-row : {L : Layout} {s : State} {k a b : ℕ} {row : Row} → OfKind L s a b k row → (axlesIn ≤ k) × (k ≤ resetAxles)
+    → OfHeads L s (headSection k a) (headsBy (headsOf s k a) k a b) row
+unfolding headRow countRow silentRow resetRow
+heads-row {k = k} {a = a} (count-row (inl q)) h = rw (head-named k a (omega arith)) (refl, refl)
+heads-row {k = k} {a = a} (count-row (inr q)) h = rw (head-named k a (omega arith)) (refl, refl)
+heads-row {k = k} {a = a} (silent-row q) h = rw (head-named k a (omega arith)) (refl, refl)
+heads-row {k = k} {a = a} (reset-row q) h = rw (reset-named k a q) (refl, refl)
+heads-row (section-row q) h = absurd (omega arith)
+heads-row (point-row q) h = absurd (omega arith)
+heads-row (throw-row q) h = absurd (omega arith)
+heads-row (set-row q) h = absurd (omega arith)
+heads-row (cancel-row q) h = absurd (omega arith)
+heads-row (secure-row q) h = absurd (omega arith)
+heads-row (manual-row q) h = absurd (omega arith)
+heads-row (bar-row q) h = absurd (omega arith)
+heads-row (unbar-row q) h = absurd (omega arith)
+heads-row (second-row q) h = absurd (omega arith)
+heads-row (no-row u) h = absurd (no-heads (u .no-in) (u .no-out) (u .no-silent) (u .no-reset) h)
+
+-- ---- no row
 
 -- a kind that is none of the fourteen has no row, since each test of the kind fails
 pub row-unknown : (L : Layout) (s : State) (x y : Axles) (k a b : ℕ) → Unknown k → noRow s ≡ rowWith L s x y k a b

@@ -133,11 +133,6 @@ module _ (ls : List Line) (rs : List Route) (n : ℕ) (s : State) (r : ℕ) (b :
 -- ---- the table of fallen phases, while it is made
 
 module _ (ls : List Line) (rs : List Route) (n : ℕ) (s : State) (r : ℕ) (ys : List ℕ) (h : Redone mostRoutes n (fallenAt ls rs s) (s .phase) ys r) where
-  -- the table has an entry for each route
-  pub phases-there : length (s .phase) ≡ mostRoutes
-  unfolding Redone
-  phases-there = h .2
-
   -- the entry of a route that the walk has not reached is what it was
   not-yet : getD ys r 0 ≡ getD (s .phase) r 0
   unfolding Redone

@@ -9,7 +9,7 @@ use borrow.Author.Tests.{eq-eqb, ne-eqb, lt-ltb, le-leb, leb-true}
 use lib.Dec.{eqb, leb}
 use lib.ListN.{length, getD, set}
 use Rattle.laws.specs.Choice.{if_then_else_}
-use Rattle.laws.proofs.Choice.{chosen, passed-over}
+use Rattle.laws.proofs.Choice.{chosen}
 use Rattle.laws.proofs.Tests.{and-left, and-right, and-both, not-both}
 use lib.Seq.{set-getD}
 use Rattle.laws.proofs.Arrays.{read-in}
@@ -29,8 +29,8 @@ use Rattle.interlocking.specs.State.{headsAt, withSections, withPoints, 
 use Rattle.interlocking.specs.Own.{ownSection, ownPoint, ownThrow, ownSet, ownCancel, ownSecure, ownManual, ownBar, headSection, headsOf, headsBy, ownHeads}
 use Rattle.interlocking.specs.Rows.{Row, sectionRow, pointRow, throwRow, setRow, cancelRow, secureRow, manualRow, barRow, secondRow, headRow, countRow, silentRow, stillSilent, resetRow, noRow, rowWith, rowOf}
 use Rattle.interlocking.specs.Step.{rowRefusal, answeredBy, stepWhere}
-use Rattle.interlocking.specs.Parts.{coreOf, bare, whole, moves, stays, tried, isOfHeads, headsThen, headPlace, followed, coreStep, together}
-use Rattle.interlocking.proofs.Rows.{OfKind, section-row, point-row, throw-row, set-row, cancel-row, secure-row, manual-row, bar-row, unbar-row, second-row, count-row, silent-row, reset-row, no-row, row-unknown, row-of}
+use Rattle.interlocking.specs.Parts.{coreOf, bare, moves, stays, tried, isOfHeads, headsThen, headPlace, followed, coreStep, together}
+use Rattle.interlocking.proofs.Rows.{OfKind, section-row, point-row, throw-row, set-row, cancel-row, secure-row, manual-row, bar-row, unbar-row, second-row, count-row, silent-row, reset-row, no-row, row-unknown, row-of, head-named, reset-named, no-heads}
 use Rattle.interlocking.proofs.Lifted.{settle-parts}
 
 -- ---- rows of the parts and of the whole
@@ -123,11 +123,11 @@ module _ (t : Bool) (L : Layout) (s : State) (k a b : ℕ) (x : Axles) (of : isO
       (p, at ∙ ap (λ i. getD (s .axles) i d) p ∙ read-in (s .axles) (headSection k a) mostSections d noAxles len h)
 
   -- a row of the heads of section g, with f besides in the parts and h in the whole
-  heads-row : (missing wrong : Bool) (f h : Refusal) → (mostSections ≤ headSection k a → t ≡ true → missing ≡ true) → (x ≡ headsOf s k a → f ≡ h)
+  alike-rows : (missing wrong : Bool) (f h : Refusal) → (mostSections ≤ headSection k a → t ≡ true → missing ≡ true) → (x ≡ headsOf s k a → f ≡ h)
       → Alike t a s (headPlace k a) (headsThen x k a b) (headRow L (bare (coreOf s)) (headsThen x k a b) (headSection k a) missing wrong f)
       (headRow L s (headsBy (headsOf s k a) k a b) (headSection k a) missing wrong h)
   unfolding headRow headsThen if_then_else_ rowRefusal ownHeads ownSection withSections withAxles coreOf
-  heads-row missing wrong f h past besides = go (decLt (headSection k a) mostSections)
+  alike-rows missing wrong f h past besides = go (decLt (headSection k a) mostSections)
     where
       go : Dec (headSection k a < mostSections)
           → Alike t a s (headPlace k a) (headsThen x k a b) (headRow L (bare (coreOf s)) (headsThen x k a b) (headSection k a) missing wrong f)
@@ -140,11 +140,6 @@ module _ (t : Bool) (L : Layout) (s : State) (k a b : ℕ) (x : Axles) (of : isO
           (headRow L s (headsBy (headsOf s k a) k a b) (headSection k a) missing wrong h) refl refl refl (numbers-refuse t missing wrong a _ (past (omega arith))) in
           refused-both e n
 
-  -- a count or a silence names its section by a head
-  by-head : k ≢ resetAxles → headSection k a ≡ a / 2
-  unfolding headSection
-  by-head n = passed-over _ a (a / 2) (ne-eqb k resetAxles n)
-
   -- a head of a section past the table is past the last
   head-past : headSection k a ≡ a / 2 → mostSections ≤ headSection k a → t ≡ true → leb (2 * L .sections) a ≡ true
   head-past e h q = let b = few q in le-leb _ a (omega arith)
@@ -153,24 +148,23 @@ module _ (t : Bool) (L : Layout) (s : State) (k a b : ℕ) (x : Axles) (of : isO
   count-alike : k ≢ resetAxles → rowWith L (bare (coreOf s)) x (headsThen x k a b) k a b ≡ countRow L (bare (coreOf s)) (headsThen x k a b) a b
       → Alike t a s (headPlace k a) (headsThen x k a b) (rowWith L (bare (coreOf s)) x (headsThen x k a b) k a b) (countRow L s (headsBy (headsOf s k a) k a b) a b)
   unfolding countRow
-  count-alike n e = rw (e, ← by-head n) (heads-row _ _ noRefusal noRefusal (head-past (by-head n)) (λ q. refl))
+  count-alike n e = rw (e, ← head-named k a n) (alike-rows _ _ noRefusal noRefusal (head-past (head-named k a n)) (λ q. refl))
 
   -- of a silence
   silent-alike : k ≡ headSilent → rowWith L (bare (coreOf s)) x (headsThen x k a b) k a b ≡ silentRow L (bare (coreOf s)) (headsThen x k a b) a b
       → Alike t a s (headPlace k a) (headsThen x k a b) (rowWith L (bare (coreOf s)) x (headsThen x k a b) k a b) (silentRow L s (headsBy (headsOf s k a) k a b) a b)
   unfolding silentRow
-  silent-alike n e = let g = by-head (omega arith) in rw (e, ← g) (heads-row _ _ noRefusal noRefusal (head-past g) (λ q. refl))
+  silent-alike n e = let g = head-named k a (omega arith) in rw (e, ← g) (alike-rows _ _ noRefusal noRefusal (head-past g) (λ q. refl))
 
   -- and of a reset, which asks the heads as they were
   reset-alike : k ≡ resetAxles → rowWith L (bare (coreOf s)) x (headsThen x k a b) k a b ≡ resetRow L (bare (coreOf s)) x (headsThen x k a b) a b
       → Alike t a s (headPlace k a) (headsThen x k a b) (rowWith L (bare (coreOf s)) x (headsThen x k a b) k a b)
       (resetRow L s (headsOf s k a) (headsBy (headsOf s k a) k a b) a b)
-  unfolding resetRow headSection
+  unfolding resetRow
   reset-alike n e =
-      let g : headSection k a ≡ a = chosen _ a (a / 2) (eq-eqb k resetAxles n) in
       rw e (subst (λ i. Alike t a s (headPlace k a) (headsThen x k a b) (headRow L (bare (coreOf s)) (headsThen x k a b) i (leb (L .sections) a) (not (eqb b 0)) (stillSilent x a))
-      (headRow L s (headsBy (headsOf s k a) k a b) i (leb (L .sections) a) (not (eqb b 0)) (stillSilent (headsOf s k a) a))) g
-      (heads-row _ _ _ _ (λ h q. let c = few q in le-leb _ a (omega arith)) (λ q. ap (λ z. stillSilent z a) q)))
+      (headRow L s (headsBy (headsOf s k a) k a b) i (leb (L .sections) a) (not (eqb b 0)) (stillSilent (headsOf s k a) a))) (reset-named k a n)
+      (alike-rows _ _ _ _ (λ h q. let c = few q in let g = reset-named k a n in le-leb _ a (omega arith)) (λ q. ap (λ z. stillSilent z a) q)))
 
   -- its row, kind by kind
   of-its-heads : {v : Row} → OfKind L s a b k v → Alike t a s (headPlace k a) (headsThen x k a b) (rowWith L (bare (coreOf s)) x (headsThen x k a b) k a b) v
@@ -189,7 +183,7 @@ module _ (t : Bool) (L : Layout) (s : State) (k a b : ℕ) (x : Axles) (of : isO
   of-its-heads (bar-row q) = absurd (omega (arith, kinds .0))
   of-its-heads (unbar-row q) = absurd (omega (arith, kinds .0))
   of-its-heads (second-row q) = absurd (omega (arith, kinds .0))
-  of-its-heads (no-row u) = absurd (omega (arith, kinds .0, kinds .1, u .no-in, u .no-out, u .no-silent, u .no-reset))
+  of-its-heads (no-row u) = absurd (no-heads (u .no-in) (u .no-out) (u .no-silent) (u .no-reset) kinds)
 
 -- ---- either
 

@@ -3,10 +3,16 @@ use Prim.Native.Nat.{ℕ, _≤_}
 use mathlib.Core.Path.{_≡_, refl}
 use mathlib.Core.List.{List}
 use native.Mathlib.Omega.{arith}
+use lib.Dec.{eqb}
+use lib.ListN.{length}
+use Rattle.laws.proofs.Choice.{if-both}
 use Rattle.file_objects.proofs.Cleared.{sections-past, lines-past, lines-cleared, routes-past, routes-cleared}
 use Rattle.pairs.proofs.Ranges.{Said, neither, both, pairs-in}
-use Rattle.layout.specs.Layout.{lineIn, routeIn, entryOf}
-use Rattle.layout.specs.Load.{heading, whole, load}
+use Rattle.layout.specs.declared.Layout.{Layout}
+use Rattle.layout.specs.declared.Loaded.{Loaded}
+use Rattle.layout.specs.Layout.{noLayout, noneFitted, lineIn, routeIn, entryOf}
+use Rattle.layout.specs.Rules.{broken}
+use Rattle.layout.specs.Load.{heading, whole, refused, finished, load}
 use Rattle.layout.proofs.Laws.{whole-few}
 use Rattle.layout_facts.specs.Loaded.{NoneTold, ZeroPast}
 use Rattle.layout_facts.proofs.Loaded.{loaded-whole}
@@ -36,11 +42,15 @@ whole-cleared s e = record {
 pub loaded-cleared : (s : List ℕ) → load s .number ≡ 0 → ZeroPast (load s .layout)
 loaded-cleared s e = let p = loaded-whole s e in rw (p .2) (whole-cleared s (p .0))
 
--- what is read of a file tells of no heads
-whole-none-told : (s : List ℕ) → NoneTold (whole s .layout)
-unfolding whole
-whole-none-told s = record { fitted = refl; noneLacking = refl }
+-- in the layout that loading answers, whatever the file, no section is told as fitted
+pub loaded-none-told : (s : List ℕ) → NoneTold (load s .layout)
+unfolding load finished refused whole noLayout
+loaded-none-told s =
+    if-both P (eqb (whole s .cur .fault) 0) (λ t. if-both P (eqb (whole s .cur .at) (length s)) (λ u. if-both P (eqb (broken (whole s .layout)) 0) (λ v. none refl refl) (λ v. none refl refl)) (λ u. none refl refl))
+    (λ t. none refl refl)
+  where
+    P : Loaded → Type 0
+    P a = NoneTold (a .layout)
 
--- in a layout that loads with 0 no section is told as fitted
-pub loaded-none-told : (s : List ℕ) → load s .number ≡ 0 → NoneTold (load s .layout)
-loaded-none-told s e = rw (loaded-whole s e .2) (whole-none-told s)
+    none : {L : Layout} → L .fitted ≡ noneFitted → L .lacking ≡ 0 → NoneTold L
+    none e f = record { fitted = e; noneLacking = f }

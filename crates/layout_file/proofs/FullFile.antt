@@ -7,9 +7,11 @@ use borrow.Author.Tests.{ltb-true}
 use lib.Dec.{ltb}
 use lib.ListN.{length, getD, replicate, length-replicate, List·getD-eq-default}
 use Rattle.laws.specs.Tables.{table}
+use Rattle.laws.specs.Totals.{total, bit, count}
 use Rattle.laws.proofs.Arrays.{nothing-at}
 use Rattle.laws.proofs.Choice.{if-ge}
 use Rattle.laws.proofs.Tables.{length-table, table-at}
+use Rattle.laws.proofs.Totals.{total-same, total-each, bit-all, count-above}
 use Rattle.track.specs.declared.Line.{Line}
 use Rattle.track.specs.declared.Route.{Route}
 use Rattle.track.specs.Codes.{left, endA, innerRoute}
@@ -24,7 +26,6 @@ use Rattle.layout_file.specs.Bare.{LineTables, RouteTables, Tables, Bare
 use Rattle.layout_file.specs.Lengths.{lineSpan, routeSpan, longest}
 use Rattle.layout_file.specs.Full.{upFrom, allLeft, fullLine, fullRoute, fullConflict, fullLayout}
 use Rattle.layout_file.proofs.Loaded.{no-line-tables, no-route-tables}
-use Rattle.layout_file.proofs.Totals.{total, total-same, total-each, mark, mark-all, count, count-above}
 use Rattle.layout_file.proofs.Sizes.{size, size-long}
 use Rattle.layout_file.proofs.PartSizes.{pairAt-length, pairs-length, end-sized, route-sized, lines-size, routes-size, file-size}
 use Rattle.layout_file.proofs.Full.{full-conflicts, full-route, full-sound}
@@ -89,8 +90,8 @@ full-pairs : length (pairsOf fullLayout) ≡ mostConflicts
 unfolding count total fullLayout
 full-pairs =
     pairs-length fullLayout ∙ total-same mostTrainRoutes _ (λ r. mostTrainRoutes - suc r) (λ r h.
-    total-same mostTrainRoutes _ (λ q. mark (ltb r q)) (λ q l.
-    pairAt-length fullLayout r q ∙ mark-all (ltb r q) (conflict fullLayout r q) (λ t. full-conflicts r q h l (λ e. omega (arith, ltb-true r q t))))
+    total-same mostTrainRoutes _ (λ q. bit (ltb r q)) (λ q l.
+    pairAt-length fullLayout r q ∙ bit-all (ltb r q) (conflict fullLayout r q) (λ t. full-conflicts r q h l (λ e. omega (arith, ltb-true r q t))))
     ∙ count-above mostTrainRoutes r)
 
 -- all of it

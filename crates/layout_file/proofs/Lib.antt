@@ -8,7 +8,6 @@ pub mod Routes
 pub mod PairPlaces
 pub mod Pairs
 pub mod PairsGiven
-pub mod Totals
 pub mod Sizes
 pub mod PartSizes
 pub mod Longest

@@ -149,4 +149,4 @@ whole-ends s = routes-ends s _ _
 
 -- a layout that loads with 0 has nothing beside its objects
 pub loaded-bare : (s : List ℕ) → load s .number ≡ 0 → Bare (load s .layout)
-loaded-bare s e = let p = loaded-whole s e in record { tables = rw (p .2) (whole-tables s); past = loaded-cleared s e; noneTold = loaded-none-told s e; ends = rw (p .2) (whole-ends s) }
+loaded-bare s e = let p = loaded-whole s e in record { tables = rw (p .2) (whole-tables s); past = loaded-cleared s e; noneTold = loaded-none-told s; ends = rw (p .2) (whole-ends s) }

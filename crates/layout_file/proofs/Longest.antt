@@ -9,7 +9,9 @@ use borrow.Author.Tests.{eqb-true}
 use lib.Dec.{eqb, ltb}
 use lib.ListN.{length}
 use Rattle.laws.specs.Tests.{_or_, anyBelow}
+use Rattle.laws.specs.Totals.{total, bit, count}
 use Rattle.laws.proofs.Tests.{any-some}
+use Rattle.laws.proofs.Totals.{total-same, total-below, total-more, total-each, total-sum, bit-both, count-most, count-one, count-above, count-or, count-any}
 use Rattle.track.specs.Codes.{innerRoute}
 use Rattle.track.specs.Sizes.{mostSections, mostLines, mostBlocks, mostTrainRoutes, mostConflicts, mostListed}
 use Rattle.track.specs.Blocks.{onlySection, inBlock}
@@ -21,8 +23,6 @@ use Rattle.layout_facts.specs.Plain.{InBlock, path, Sound}
 use Rattle.layout_facts.proofs.Sound.{sound-says}
 use Rattle.layout_file.specs.Written.{routeNumbers, pairAt, pairsOf, fileOf}
 use Rattle.layout_file.specs.Lengths.{lineSpan, routeSpan, longest}
-use Rattle.layout_file.proofs.Totals.{total, total-same, total-below, total-more, total-each, total-sum}
-use Rattle.layout_file.proofs.Totals.{mark, mark-both, count, count-most, count-one, count-above, count-or, count-any}
 use Rattle.layout_file.proofs.Sizes.{size, size-two}
 use Rattle.layout_file.proofs.PartSizes.{pairAt-length, pairs-length, no-end-sized, end-sized, route-sized, lines-size, routes-size, file-size}
 
@@ -47,7 +47,7 @@ module _ (L : Layout) where
       omega (
         arith,
         count-above n r,
-        total-below n (λ q. length (pairAt L r q)) (λ q. mark (ltb r q)) (λ q l. omega (arith, pairAt-length L r q, mark-both (ltb r q) (conflict L r q))),
+        total-below n (λ q. length (pairAt L r q)) (λ q. bit (ltb r q)) (λ q l. omega (arith, pairAt-length L r q, bit-both (ltb r q) (conflict L r q))),
       )) in
       omega (arith, pairs-length L, total-more n mostTrainRoutes above few)
 

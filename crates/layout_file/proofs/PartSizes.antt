@@ -9,7 +9,9 @@ use lib.Dec.{ltb}
 use lib.ListN.{length, length-append}
 use Rattle.laws.specs.Choice.{if_then_else_}
 use Rattle.laws.specs.Tests.{_and_}
+use Rattle.laws.specs.Totals.{total, bit}
 use Rattle.laws.proofs.Choice.{if-both}
+use Rattle.laws.proofs.Totals.{total-same, Adds, total-join, joins-agree, bit-list}
 use Rattle.numbers.specs.Form.{encode}
 use Rattle.track.specs.Codes.{endA, endB, innerRoute}
 use Rattle.track.specs.Sizes.{mostSections}
@@ -22,7 +24,6 @@ use Rattle.layout.specs.Layout.{lineIn, routeIn, conflict}
 use Rattle.layout_facts.specs.Plain.{ownSection, InBlock, innerSection, entranceSignal, linePoint, linePosition, path, overlap, routePoint, routePosition, Ranges}
 use Rattle.layout_file.specs.Written.{listing, lineNumbers, endNumbers, routeNumbers, pairAt, pairsOf, pairNumbers, parts, written, fileOf}
 use Rattle.layout_file.proofs.Routes.{beyond-inner}
-use Rattle.layout_file.proofs.Totals.{total, total-same, Adds, total-join, joins-agree, mark, mark-list}
 use Rattle.layout_file.proofs.Sizes.{size, size-none, size-with, Sized, sized-as, none-sized, short-sized, both-sized, listing-sized, items-sized, points-sized}
 
 -- ---- pairs
@@ -66,9 +67,9 @@ module _ (L : Layout) where
       (λ t. pair-size _ _ (omega arith) (omega arith)) (λ t. size-none)
 
   -- one where the first is the smaller and they conflict
-  pub pairAt-length : (r q : ℕ) → length (pairAt L r q) ≡ mark (ltb r q and conflict L r q)
+  pub pairAt-length : (r q : ℕ) → length (pairAt L r q) ≡ bit (ltb r q and conflict L r q)
   unfolding pairAt
-  pairAt-length r q = mark-list (ltb r q and conflict L r q) _
+  pairAt-length r q = bit-list (ltb r q and conflict L r q) _
 
   -- pairs of at most 128 routes have two bytes each
   pairs-size : L .routes ≤ 128 → size (pairNumbers (pairsOf L)) ≡ length (pairsOf L) * 2

@@ -5,11 +5,12 @@ use mathlib.Core.List.{List, [], _∷_, _++_, flatMap}
 use native.Mathlib.Decide.{decLt}
 use native.Mathlib.Omega.{arith}
 use lib.ListN.{length, getD, length-append}
+use Rattle.laws.specs.Totals.{total}
+use Rattle.laws.proofs.Totals.{total-same, total-each, Adds, total-join}
 use Rattle.numbers.specs.Form.{encode}
 use Rattle.numbers.proofs.Readings.{encode-last, encode-more}
 use Rattle.layout_file.specs.Written.{listing, itemNumbers, pointNumbers, forms}
 use Rattle.layout_file.proofs.Stands.{forms-append}
-use Rattle.layout_file.proofs.Totals.{total, total-same, total-each, Adds, total-join}
 
 -- ---- one number
 

@@ -3,6 +3,7 @@ use Prim.Native.Nat.{ℕ}
 use Rattle.laws.specs.Choice.{if_then_else_}
 use Rattle.laws.specs.Tests.{_and_, _or_, implies, every, allBelow, anyBelow, lowestFrom, lowest}
 use Rattle.laws.specs.Tables.{iter, tableFrom, table, read, eachFrom, each, put, join}
+use Rattle.laws.specs.Totals.{bit}
 use Rattle.sets.specs.Sets.{holds, joined, mergedSet, addEntry, setOf}
 use Rattle.tables.specs.Readings.{recorded, given, reading, blockGiven, blockReading, pointReading, allFree, inPosition, linePlaced, routePlaced}
 use Rattle.track.specs.Objects.{nearest}
@@ -20,7 +21,7 @@ use Rattle.layout.specs.Layout.{isFitted}
 use Rattle.layout_facts.specs.Plain.{innerSection, entranceSignal, nearestBlock, path, overlap, routePoint, routePosition, linePoint, linePosition}
 use Rattle.layout_facts.specs.Plain as plain
 use Rattle.layout_facts.proofs.BranchT.{computed}
-use Rattle.fitted.specs.Fitted.{anyOf, isTold, lacks, bit, toldBy, withTold, equipped}
+use Rattle.fitted.specs.Fitted.{anyOf, isTold, lacks, toldBy, withTold, equipped}
 use Rattle.reasons.specs.Refusal.{refused, noRefusal, refusedIf, found, firstOf}
 use Rattle.reasons.specs.Searches.{lacking, misplaced, routeLocks, lineLocks, failing}
 use Rattle.tables.specs.Locks.{locked, lockedExitBy, lockedExit}
@@ -35,7 +36,7 @@ use Rattle.interlocking.specs.Step.{rowRefusal, answeredBy, stepWhere, step, as
 use Rattle.axles.specs.Rounds.{around, signed}
 use Rattle.axles.specs.Heads.{noHead, noAxles, speaks, speaking, headAfter, net, number, readingOf, occupies, resets, sumAfter, proofAfter, withProof, proves, judged, axlesAfter, known, axlesReading}
 use Rattle.axles.specs.Heads as heads
-use Rattle.axles.specs.HeadLog.{says, hasTold, lastTold, bothSpeak, netTold, isReset, netAtReset, numberTold, occupiesTold, wasReset, provedTold, readingTold}
+use Rattle.axles.specs.HeadLog.{says, hasTold, lastTold, bothSpeak, netTold, isReset, resetsIn, netAtReset, numberTold, occupiesTold, wasReset, provedTold, readingTold}
 use Rattle.panel.specs.Panel.{blocks, routeByte, blockBytes, lineBytes, image, panelLength, drawnWhere, drawn}
 use Rattle.panel.specs.Panel as panels
 use Rattle.step_facts.specs.Run.{box, boxInRun, stateAfter, answers, fromCold}
@@ -72,7 +73,7 @@ runComputed = 0
 unfoldable pub headsComputed : ℕ
 unfolding equipped withTold toldBy isTold lacks anyOf bit around signed
     noHead noAxles speaks speaking headAfter net number readingOf occupies resets sumAfter proofAfter heads.told withProof proves judged axlesAfter known axlesReading
-    says hasTold lastTold bothSpeak netTold isReset netAtReset numberTold occupiesTold wasReset provedTold readingTold
+    says hasTold lastTold bothSpeak netTold isReset resetsIn netAtReset numberTold occupiesTold wasReset provedTold readingTold
     headsAt withAxles headSection headsOf headsBy ownHeads noHeads headRow countRow silentRow resetRow stillSilent
     named ofHeads saidOf takesEffect gaveByHeads headLog
 headsComputed = 0

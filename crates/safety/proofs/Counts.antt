@@ -16,7 +16,7 @@ use Rattle.laws.proofs.Choice.{if-both, chosen, passed-over}
 use Rattle.laws.proofs.Tests.{and-left, and-right, or-right, every-at}
 use Rattle.axles.specs.Rounds.{around, signed}
 use Rattle.axles.specs.Heads.{readingOf}
-use Rattle.axles.specs.HeadLog.{HeadLog, said, says, hasTold, lastTold, bothSpeak, netTold, isReset, netAtReset, numberTold, occupiesTold, wasReset, provedTold, readingTold}
+use Rattle.axles.specs.HeadLog.{HeadLog, said, says, hasTold, lastTold, bothSpeak, netTold, isReset, resetsIn, netAtReset, numberTold, occupiesTold, wasReset, provedTold, readingTold}
 use Rattle.axles.proofs.HeadLog.{log-reads}
 use Rattle.axles.proofs.FreeNeeds.{free-needs}
 use Rattle.axles.proofs.Rounds.{around-below, around-sub, minus-round}
@@ -117,7 +117,7 @@ module _ (es : HeadLog) where
 
   -- a count is no reset: the last one stands, and stays proved
   still-known : {k j : ℕ} → Count k → Head j → (c : ℕ) → Known es → Known (said k j c ∷ es)
-  unfolding every wasReset provedTold isReset _and_ _or_ if_then_else_
+  unfolding every wasReset resetsIn provedTold isReset _and_ _or_ if_then_else_
   still-known {j = j} inward x c t = rw (still-speak inward x c (known-by t .0), known-by t .1) (or-right (occupiesTold (said 11 j c ∷ es)) _ (known-by t .2))
   still-known {j = j} outward x c t = rw (still-speak outward x c (known-by t .0), known-by t .1) (or-right (occupiesTold (said 12 j c ∷ es)) _ (known-by t .2))
 

@@ -26,14 +26,14 @@ use Rattle.layout.specs.Layout.{isFitted}
 use Rattle.layout.specs.Sound.{sound}
 use Rattle.interlocking.specs.declared.State.{State}
 use Rattle.interlocking.specs.State.{inRange, headsAt, withSections, withRoutes, withLines, withAxles}
-use Rattle.interlocking.specs.Own.{ownSection, ownSet, ownCancel, ownSecure, ownManual, headSection, headsOf, headsBy}
+use Rattle.interlocking.specs.Own.{ownSection, ownSet, ownCancel, ownSecure, ownManual, headsOf}
 use Rattle.interlocking.specs.Rows.{Row, nothing, givesReading, aSecond, sectionRow, pointRow, throwRow, setRow, cancelRow, secureRow, manualRow, barRow, secondRow, headRow, countRow, silentRow, resetRow, noRow}
 use Rattle.interlocking.specs.Step.{refusal, gives}
-use Rattle.interlocking.proofs.Rows.{OfKind, section-row, point-row, throw-row, set-row, cancel-row, secure-row, manual-row, bar-row, unbar-row, second-row, count-row, silent-row, reset-row, no-row, row-of}
+use Rattle.interlocking.proofs.Rows.{OfKind, section-row, point-row, throw-row, set-row, cancel-row, secure-row, manual-row, bar-row, unbar-row, second-row, count-row, silent-row, reset-row, no-row, row-of, reset-named, heads-row}
 use Rattle.panel.specs.Panel.{image}
 use Rattle.step_facts.specs.Run.{Event}
 use Rattle.step_facts.proofs.Own.{recorded-in, heads-say-in}
-use Rattle.step_facts.proofs.Tells.{head-named, reset-named, Tells, by-code, by-heads, Untold}
+use Rattle.step_facts.proofs.Tells.{Tells, by-code, by-heads, Untold}
 use Rattle.safety.specs.Said.{saying, takesEffect}
 use Rattle.safety.specs.History.{Moment, History, gaveByReading, headLog, gaveByHeads, gaveSection}
 use Rattle.step_facts.proofs.Entries.{put-here, put-elsewhere}
@@ -212,9 +212,8 @@ module _ (L : Layout) (s : State) (e : Event) (h : History) (H : HeadsHeld L (s 
         none : Untold (e .kind) → (x : ℕ) → (if eqb mostSections g then x else 0) ≡ gaveSection L g (granted L s e) h
         none u x = passed-over _ _ _ (ne-eqb mostSections g (omega arith)) ∙ sym (untold-gives-nothing L g (granted L s e) h u)
 
-        told : {k : ℕ} → k ≡ headSection (e .kind) (e .first) → (11 ≤ e .kind) × (e .kind ≤ 14)
-            → given (givesReading k (axlesReading (headsBy (headsOf s (e .kind) (e .first)) (e .kind) (e .first) (e .second)))) g ≡ gaveSection L g (granted L s e) h
-        told q k = reading-follows (by-heads k q (ap (λ n. headsBy (headsAt (s .axles) n) (e .kind) (e .first) (e .second)) (sym q)))
+        told : {row : Row} → OfKind L s (e .first) (e .second) (e .kind) row → (11 ≤ e .kind) × (e .kind ≤ 14) → given (row .gives) g ≡ gaveSection L g (granted L s e) h
+        told r k = rw (heads-row r k .1) (reading-follows (by-heads k refl refl))
 
         go : {row : Row} → OfKind L s (e .first) (e .second) (e .kind) row → given (row .gives) g ≡ gaveSection L g (granted L s e) h
         go (section-row q) = reading-follows (by-code q)
@@ -227,8 +226,8 @@ module _ (L : Layout) (s : State) (e : Event) (h : History) (H : HeadsHeld L (s 
         go (bar-row q) = none (omega arith) 0
         go (unbar-row q) = none (omega arith) 0
         go (second-row q) = none (omega arith) 0
-        go (count-row (inl q)) = told (sym (head-named _ _ (omega arith))) (omega arith)
-        go (count-row (inr q)) = told (sym (head-named _ _ (omega arith))) (omega arith)
-        go (silent-row q) = told (sym (head-named _ _ (omega arith))) (omega arith)
-        go (reset-row q) = told (sym (reset-named _ _ q)) (omega arith)
+        go (count-row (inl q)) = told (count-row (inl q)) (omega arith)
+        go (count-row (inr q)) = told (count-row (inr q)) (omega arith)
+        go (silent-row q) = told (silent-row q) (omega arith)
+        go (reset-row q) = told (reset-row q) (omega arith)
         go (no-row u) = none (u .no-section, u .no-in, u .no-out, u .no-silent, u .no-reset) 0

@@ -24,9 +24,8 @@ use Rattle.interlocking.specs.State.{inRange, headsAt}
 use Rattle.interlocking.specs.Own.{headSection, headsOf}
 use Rattle.interlocking.specs.Rows.{Row, sectionRow, pointRow, barRow, secondRow, headRow, countRow, silentRow, resetRow, stillSilent, noRow, rowWith, rowOf}
 use Rattle.interlocking.specs.Step.{rowRefusal, refusal}
-use Rattle.interlocking.proofs.Rows.{OfKind, section-row, point-row, throw-row, set-row, cancel-row, secure-row, manual-row, bar-row, unbar-row, second-row, count-row, silent-row, reset-row, no-row, row-of}
+use Rattle.interlocking.proofs.Rows.{OfKind, section-row, point-row, throw-row, set-row, cancel-row, secure-row, manual-row, bar-row, unbar-row, second-row, count-row, silent-row, reset-row, no-row, row-of, reset-named}
 use Rattle.step_facts.specs.Run.{Event, box}
-use Rattle.step_facts.proofs.Tells.{reset-named}
 use Rattle.step_facts.proofs.Granted.{step-granted}
 use Rattle.safety.specs.History.{History, Throughout, moment, history}
 use Rattle.safety.specs.Grants.{MayRead, MayCount, MaySilence, MayReset, BlockThere, Grants, section, point, throw, set, cancel, secure, release, bar, unbar, second, count, silence, reset, AcceptedJust, AcceptsExactly}

@@ -14,8 +14,8 @@ use Rattle.laws.proofs.Choice.{if-both, chosen, passed-over}
 use Rattle.laws.proofs.Tests.{and-left, and-right, and-both, or-cases, implies-from}
 use Rattle.track.specs.Sizes.{mostSections}
 use Rattle.axles.specs.declared.Axles.{Axles}
-use Rattle.axles.specs.Heads.{noAxles, speaking, axlesAfter, axlesReading}
-use Rattle.axles.specs.HeadLog.{HeadLog, said, bothSpeak, readingTold, headsAfter}
+use Rattle.axles.specs.Heads.{noAxles, speaking, axlesAfter, axlesReading, headsAfter}
+use Rattle.axles.specs.HeadLog.{HeadLog, said, bothSpeak, readingTold}
 use Rattle.axles.proofs.HeadLog.{log-reads, log-speaks}
 use Rattle.axles.proofs.GivesNone.{refused-leaves}
 use Rattle.layout.specs.declared.Layout.{Layout}
@@ -25,9 +25,9 @@ use Rattle.interlocking.specs.declared.State.{State}
 use Rattle.interlocking.specs.State.{cold, inRange, headsAt}
 use Rattle.interlocking.specs.Own.{headSection, headsBy}
 use Rattle.interlocking.specs.Step.{refusal}
+use Rattle.interlocking.proofs.Rows.{head-named, reset-named}
 use Rattle.step_facts.specs.Run.{Event}
 use Rattle.step_facts.proofs.Own.{heads-say-in}
-use Rattle.step_facts.proofs.Tells.{head-named, reset-named}
 use Rattle.step_facts.proofs.Passed.{count-few, no-count}
 use Rattle.safety.specs.Said.{named, ofHeads, saidOf, saying, takesEffect}
 use Rattle.safety.specs.History.{Moment, History, headLog, gaveByHeads}

@@ -10,7 +10,7 @@ use Rattle.laws.specs.Tests.{_and_}
 use Rattle.laws.proofs.Choice.{Is, holds, fails, which}
 use Rattle.laws.proofs.Tests.{not-both}
 use Rattle.track.specs.Sizes.{mostSections}
-use Rattle.axles.specs.HeadLog.{headsAfter}
+use Rattle.axles.specs.Heads.{headsAfter}
 use Rattle.layout.specs.declared.Layout.{Layout}
 use Rattle.layout.specs.Layout.{isFitted}
 use Rattle.layout.specs.Sound.{sound}

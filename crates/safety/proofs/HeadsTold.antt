@@ -10,8 +10,8 @@ use Rattle.laws.specs.Choice.{if_then_else_}
 use Rattle.laws.specs.Tests.{_and_, every}
 use Rattle.laws.proofs.Choice.{Is, holds, fails, which}
 use Rattle.laws.proofs.Tests.{not-both}
-use Rattle.axles.specs.Heads.{speaking, number, axlesReading}
-use Rattle.axles.specs.HeadLog.{HeadLog, hasTold, bothSpeak, readingTold, headsAfter}
+use Rattle.axles.specs.Heads.{speaking, number, axlesReading, headsAfter}
+use Rattle.axles.specs.HeadLog.{HeadLog, hasTold, bothSpeak, readingTold}
 use Rattle.axles.proofs.HeadLog.{log-reads, log-speaks, log-number}
 use Rattle.layout.specs.declared.Layout.{Layout}
 use Rattle.layout.specs.Layout.{isFitted}

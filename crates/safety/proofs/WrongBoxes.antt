@@ -1,4 +1,5 @@
 -- The wrong boxes differ from the box only in what they are named for: with the step's own parts they are the step of a run.
+use Prim.Native.Nat.{ℕ}
 use mathlib.Core.Path.{_≡_, refl, sym}
 use borrow.Author.Tests.{eqb-false, eqb-true}
 use lib.Dec.{eqb}
@@ -17,23 +18,33 @@ use Rattle.interlocking.specs.Own.{ownStageAt, ownSection}
 use Rattle.interlocking.specs.Settle.{signals, farSections, routes, lineRelease, settle}
 use Rattle.interlocking.specs.declared.Answer.{Answer}
 use Rattle.interlocking.specs.Rows.{sectionRow, throwRow, setRow, secureRow, manualRow, rowWith, rowOf}
-use Rattle.interlocking.specs.Step.{rowRefusal, stepInRun, refusal, own, after}
+use Rattle.interlocking.specs.Step.{rowRefusal, stepInRun, refusal, own, gives, after}
 use Rattle.signals.specs.BlockSignals.{blockShows}
 use Rattle.panel.specs.Panel.{blockBytes, lineBytes, image}
 use Rattle.step_facts.proofs.Step.{step-done, step-refused}
 use Rattle.step_facts.specs.Run.{Event, boxInRun}
-use Rattle.safety.specs.WrongBoxes.{stepBy, refuses, does, readBy, moveBy, secured, endBy}
-use Rattle.safety.specs.WrongOrders.{refuseBy}
+use Rattle.safety.specs.WrongBoxes.{answersBy, stepBy, refuses, does, readBy, moveBy, secured, endBy}
+use Rattle.safety.specs.WrongOrders.{asksBy, refuseBy}
 use Rattle.safety.specs.WrongPanels.{imageBy, itsWay}
 use Rattle.step_facts.specs.FarInState.{farReading, farDropped}
 use Rattle.step_facts.proofs.Entries.{ends}
 
--- one part after the other
-pub own-parts : (L : Layout) (s : State) (e : Event) → stepBy refuses does signals farSections routes lineRelease L s e ≡ boxInRun L s e
-unfolding boxInRun stepInRun after settle
-own-parts L s e =
+-- what is refused, what the event does itself, and all that follows
+pub own-answer : (L : Layout) (s : State) (e : Event) → answersBy refuses (λ L s e. settle L s (does L s e) (gives L s (e .kind) (e .first) (e .second))) L s e ≡ boxInRun L s e
+unfolding boxInRun stepInRun after
+own-answer L s e =
     if-both (λ (r : Answer). r ≡ boxInRun L s e) (eqb (refuses L s e .number) 0)
     (λ t. sym (step-done _ L s (e .kind) (e .first) (e .second) (eqb-true _ 0 t))) (λ f. sym (step-refused _ L s (e .kind) (e .first) (e .second) (eqb-false _ 0 f)))
+
+-- one part after the other
+pub own-parts : (L : Layout) (s : State) (e : Event) → stepBy refuses does signals farSections routes lineRelease L s e ≡ boxInRun L s e
+unfolding settle
+own-parts L s e = own-answer L s e
+
+-- what is refused of an event, by 30 and 34 (L1) and besides
+pub own-asked : (L : Layout) (s : State) (e : Event) (k : ℕ) → asksBy k (λ row. row .misfit) (λ row. row .besides) L s e ≡ refuses L s e
+unfolding refusal rowRefusal
+own-asked L s e k = if-both (λ (r : Refusal). r ≡ refuses L s e) (eqb (e .kind) k) (λ t. rw (eqb-true (e .kind) k t)) (λ f. refl)
 
 -- what is refused of a throw, of a route that is set, of a line that is secured and of a manual release
 pub own-refusals : (L : Layout) (s : State) (e : Event)
@@ -41,13 +52,8 @@ pub own-refusals : (L : Layout) (s : State) (e : Event)
     × (refuseBy 4 (λ L s r. setRefusal L (tablesOf s) r) L s e ≡ refuses L s e)
     × (refuseBy 6 (λ L s l. secureRefusal L (tablesOf s) l) L s e ≡ refuses L s e)
     × (refuseBy 7 (λ L s l. manualRefusal L (tablesOf s) l) L s e ≡ refuses L s e)
-unfolding refusal rowRefusal rowOf rowWith throwRow setRow secureRow manualRow if_then_else_
-own-refusals L s e = (
-  if-both (λ (r : Refusal). r ≡ refuses L s e) (eqb (e .kind) 3) (λ t. rw (eqb-true (e .kind) 3 t)) (λ f. refl),
-  if-both (λ (r : Refusal). r ≡ refuses L s e) (eqb (e .kind) 4) (λ t. rw (eqb-true (e .kind) 4 t)) (λ f. refl),
-  if-both (λ (r : Refusal). r ≡ refuses L s e) (eqb (e .kind) 6) (λ t. rw (eqb-true (e .kind) 6 t)) (λ f. refl),
-  if-both (λ (r : Refusal). r ≡ refuses L s e) (eqb (e .kind) 7) (λ t. rw (eqb-true (e .kind) 7 t)) (λ f. refl),
-)
+unfolding rowOf rowWith throwRow setRow secureRow manualRow if_then_else_
+own-refusals L s e = (own-asked L s e 3, own-asked L s e 4, own-asked L s e 6, own-asked L s e 7)
 
 -- a block's own reading
 pub own-readings : (L : Layout) (s : State) (e : Event) → readBy ownStage L s e ≡ does L s e

@@ -36,16 +36,17 @@ use Rattle.step_facts.specs.FarInState.{farReading, farProceeds, farDropped}
 abbrev pub Box : Type 0
 Box = Layout → State → Event → Answer
 
--- a refusal leaves the state as it was; else one part after the other
+-- a refusal leaves the state as it was; else there is a next one
+abbrev pub answersBy : (Layout → State → Event → Refusal) → (Layout → State → Event → State) → Box
+answersBy refuse next L s e =
+    if eqb (refuse L s e .number) 0 then record { number = 0; detail = 0; next = next L s e }
+    else record { number = refuse L s e .number; detail = refuse L s e .detail; next = s }
+
+-- which is made by one part after the other
 abbrev pub stepBy : (Layout → State → Event → Refusal) → (Layout → State → Event → State) → (Layout → State → State) → (Layout → State → State → State)
     → (Layout → State → Gives → State) → (Layout → State → State → State) → Box
-stepBy refuse act light move free end L s e =
-    if eqb (refuse L s e .number) 0 then record {
-      number = 0;
-      detail = 0;
-      next = end L s (free L (move L s (light L (act L s e))) (gives L s (e .kind) (e .first) (e .second)));
-    }
-    else record { number = refuse L s e .number; detail = refuse L s e .detail; next = s }
+stepBy refuse act light move free end =
+    answersBy refuse (λ L s e. end L s (free L (move L s (light L (act L s e))) (gives L s (e .kind) (e .first) (e .second))))
 
 -- what is refused, soundness being asked before the first event
 abbrev pub refuses : Layout → State → Event → Refusal

@@ -19,25 +19,23 @@ use Rattle.layout.specs.declared.Layout.{Layout}
 use Rattle.layout_facts.specs.BranchT.{layoutT}
 use Rattle.fitted.specs.Fitted.{equipped}
 use Rattle.reasons.specs.declared.Refusal.{Refusal}
-use Rattle.reasons.specs.Refusal.{noRefusal, firstOf}
-use Rattle.refusals.specs.Events.{numbersRefusal}
+use Rattle.reasons.specs.Refusal.{noRefusal}
 use Rattle.interlocking.specs.declared.State.{State}
 use Rattle.interlocking.specs.State.{headsAt, withAxles}
 use Rattle.interlocking.specs.Own.{headSection, ownSection}
 use Rattle.interlocking.specs.Settle.{settle}
-use Rattle.interlocking.specs.Rows.{Row, givesReading, rowOf}
-use Rattle.interlocking.specs.Step.{askedInRun, gives}
+use Rattle.interlocking.specs.Rows.{givesReading}
+use Rattle.interlocking.specs.Step.{gives}
 use Rattle.step_facts.specs.Run.{Event, event}
 use Rattle.safety.specs.History.{nothing}
-use Rattle.safety.specs.WrongBoxes.{Box, refuses, does}
+use Rattle.safety.specs.WrongBoxes.{Box, answersBy, refuses, does}
+use Rattle.safety.specs.WrongOrders.{asksBy}
 use Rattle.safety.specs.WrongRuns.{Run, coldRun}
 
--- ---- a step from its parts: what is refused, what the event does itself, what it gives
+-- ---- a step from what is refused, what the event does itself and what it gives
 
-abbrev pub stepWith : (Layout → State → Event → Refusal) → (Layout → State → Event → State) → (Layout → State → Event → Gives) → Box
-stepWith refuse act give L s e =
-    if eqb (refuse L s e .number) 0 then record { number = 0; detail = 0; next = settle L s (act L s e) (give L s e) }
-    else record { number = refuse L s e .number; detail = refuse L s e .detail; next = s }
+abbrev settlesBy : (Layout → State → Event → Refusal) → (Layout → State → Event → State) → (Layout → State → Event → Gives) → Box
+settlesBy refuse act give = answersBy refuse (λ L s e. settle L s (act L s e) (give L s e))
 
 -- what an event gives
 abbrev pub givesOwn : Layout → State → Event → Gives
@@ -79,7 +77,7 @@ givesBy way L s e = if between axlesIn resetAxles (e .kind) then givesReading (s
 
 -- the box whose heads go this way
 abbrev pub headsGo : Ways → Box
-headsGo way = stepWith refuses (doesBy way) (givesBy way)
+headsGo way = settlesBy refuses (doesBy way) (givesBy way)
 
 -- where only what heads say is another: the number by this
 abbrev pub countsBy : (Axles → ℤ) → Box
@@ -149,23 +147,17 @@ neverRolls = countsBy (λ y. net y -ℤ pos (y .sum))
 abbrev pub stopsAtZero : Box
 stopsAtZero = countsBy (λ y. pos (y .head0 .inward + y .head1 .inward - (y .head0 .outward + y .head1 .outward) - y .sum))
 
--- what is refused, where an event of kind k is refused by this in place of 30 and 34, and by that besides
-abbrev pub asksBy : ℕ → (Row → Refusal) → (Row → Refusal) → Layout → State → Event → Refusal
-asksBy k misfit besides L s e =
-    let row : Row = rowOf L s k (e .first) (e .second) in
-    if eqb (e .kind) k then firstOf (numbersRefusal (askedInRun L) (row .missing) (e .first) (misfit row) (row .wrong) ∷ besides row ∷ []) else refuses L s e
-
 -- 34 is not asked: a section with heads takes a reading of kind 1
 abbrev pub readsFitted : Box
-readsFitted = stepWith (asksBy readSection (λ row. noRefusal) (λ row. row .besides)) does givesOwn
+readsFitted = settlesBy (asksBy readSection (λ row. noRefusal) (λ row. row .besides)) does givesOwn
 
 -- 30 is not asked: a section without heads takes counts
 abbrev pub countsUnfitted : Box
-countsUnfitted = stepWith (asksBy axlesIn (λ row. noRefusal) (λ row. row .besides)) does givesOwn
+countsUnfitted = settlesBy (asksBy axlesIn (λ row. noRefusal) (λ row. row .besides)) does givesOwn
 
 -- 35 is not asked: a reset is accepted while a head is silent
 abbrev pub resetsSilent : Box
-resetsSilent = stepWith (asksBy resetAxles (λ row. row .misfit) (λ row. noRefusal)) does givesOwn
+resetsSilent = settlesBy (asksBy resetAxles (λ row. row .misfit) (λ row. noRefusal)) does givesOwn
 
 -- ---- the runs
 

@@ -27,11 +27,15 @@ use Rattle.interlocking.specs.Step.{askedInRun}
 use Rattle.step_facts.specs.Run.{Event}
 use Rattle.safety.specs.WrongBoxes.{Box, stepBy, refuses, does}
 
--- what is refused, where an order of kind k is refused by this
-abbrev pub refuseBy : ℕ → (Layout → State → ℕ → Refusal) → Layout → State → Event → Refusal
-refuseBy k refuse L s e =
+-- what is refused, where an event of kind k is refused by this in place of 30 and 34 (L1), and by that besides
+abbrev pub asksBy : ℕ → (Row → Refusal) → (Row → Refusal) → Layout → State → Event → Refusal
+asksBy k misfit besides L s e =
     let row : Row = rowOf L s k (e .first) (e .second) in
-    if eqb (e .kind) k then firstOf (numbersRefusal (askedInRun L) (row .missing) (e .first) (row .misfit) (row .wrong) ∷ refuse L s (e .first) ∷ []) else refuses L s e
+    if eqb (e .kind) k then firstOf (numbersRefusal (askedInRun L) (row .missing) (e .first) (misfit row) (row .wrong) ∷ besides row ∷ []) else refuses L s e
+
+-- where an order of kind k is refused by this
+abbrev pub refuseBy : ℕ → (Layout → State → ℕ → Refusal) → Layout → State → Event → Refusal
+refuseBy k refuse L s e = asksBy k (λ row. row .misfit) (λ row. refuse L s (e .first)) L s e
 
 -- the box that refuses so
 abbrev refusesBy : ℕ → (Layout → State → ℕ → Refusal) → Box

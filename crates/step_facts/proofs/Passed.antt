@@ -21,7 +21,6 @@ use Rattle.track.specs.Blocks.{lineSections}
 use Rattle.sets.specs.Sets as sets
 use Rattle.sets.proofs.Sets.{holds-joined, holds-setOf}
 use Rattle.tables.specs.Readings.{reading}
-use Rattle.axles.specs.declared.Axles.{Axles}
 use Rattle.axles.specs.Heads.{speaking}
 use Rattle.layout.specs.declared.Layout.{Layout}
 use Rattle.layout.specs.Layout.{isFitted, lineIn, routeIn, conflict}
@@ -39,10 +38,10 @@ use Rattle.interlocking.specs.State.{inRange, headsAt}
 use Rattle.interlocking.specs.Own.{headSection, headsOf}
 use Rattle.interlocking.specs.Rows.{sectionRow, throwRow, setRow, cancelRow, secureRow, manualRow, barRow, secondRow, headRow, countRow, silentRow, resetRow, stillSilent, rowWith, rowOf}
 use Rattle.interlocking.specs.Step.{rowRefusal, refusal}
+use Rattle.interlocking.proofs.Rows.{head-named, reset-named}
 use Rattle.step_facts.specs.Run.{Event}
 use Rattle.step_facts.proofs.Range.{inRange-means, read-within}
 use Rattle.step_facts.proofs.Entries.{phase, direction, block}
-use Rattle.step_facts.proofs.Tells.{head-named, reset-named, Tells, by-code, by-heads}
 
 -- ---- reasons that there were not
 
@@ -182,11 +181,6 @@ module _ (L : Layout) (s : State) (e : Event) (pass : refusal (sound L and inRan
   pub reset-speaking : e .kind ≡ 14 → speaking (headsAt (s .axles) (e .first)) ≡ true
   unfolding rowOf rowWith headRow resetRow stillSilent headsOf headSection if_then_else_
   reset-speaking k = not-false _ (when-granted _ 35 _ (omega arith) (order-granted 14 k))
-
-  -- so a section that is given a reading is there
-  pub tells-there : {g v : ℕ} {xs : List Axles} → Tells s e g v xs → g < L .sections
-  tells-there (by-code k) = reading-there k .0
-  tells-there (by-heads k q y) = rw q (heads-there k .0)
 
   -- 2, 3: the block that is barred or unbarred is there
   pub bar-there : (e .kind ≡ 8) ⊎ (e .kind ≡ 9) → (e .first < L .lines) × (e .second < lineIn L (e .first) .blocks)

@@ -1,34 +1,18 @@
 -- The readings that events give sections: those of kind 1, and what a section's heads say (L1).
-use Prim.Native.Nat.{ℕ, _/_, _≤_}
+use Prim.Native.Nat.{ℕ, _≤_}
 use mathlib.Core.Path.{_≡_, refl, sym, ap, ap₂, _∙_}
 use mathlib.Core.Logic.{_≢_}
 use mathlib.Core.List.{List}
 use native.Mathlib.Omega.{arith}
-use borrow.Author.Tests.{eq-eqb, ne-eqb}
 use lib.ListN.{set}
-use Rattle.laws.proofs.Choice.{chosen, passed-over}
 use Rattle.tables.specs.Readings.{recorded}
 use Rattle.axles.specs.declared.Axles.{Axles}
 use Rattle.axles.specs.Heads.{axlesReading}
 use Rattle.interlocking.specs.declared.State.{State}
 use Rattle.interlocking.specs.State.{headsAt}
 use Rattle.interlocking.specs.Own.{headSection, headsBy}
+use Rattle.interlocking.proofs.Rows.{no-heads}
 use Rattle.step_facts.specs.Run.{Event}
-
--- ---- the section of an event of heads
-
-module _ (k a : ℕ) where
-  -- kinds 11 to 13 name a head, two for each section
-  pub head-named : k ≢ 14 → headSection k a ≡ a / 2
-  unfolding headSection
-  head-named d = passed-over _ _ _ (ne-eqb k 14 d)
-
-  -- kind 14 names the section
-  pub reset-named : k ≡ 14 → headSection k a ≡ a
-  unfolding headSection
-  reset-named q = chosen _ _ _ (eq-eqb k 14 q)
-
--- ---- readings
 
 -- event e gives section g the reading v, and the sections then have the heads xs: a reading of kind 1 leaves heads as they were; where an event is of heads,
 -- those of its section become y, and the section is given what they say
@@ -43,7 +27,7 @@ Untold k = (k ≢ 1) × (k ≢ 11) × (k ≢ 12) × (k ≢ 13) × (k ≢ 14)
 
 -- it is not of heads
 pub of-no-heads : {k : ℕ} → Untold k → (11 ≤ k) × (k ≤ 14) → ⊥
-of-no-heads u h = omega arith
+of-no-heads u h = no-heads (u .1) (u .2) (u .3) (u .4) h
 
 module _ {s : State} {e : Event} {g v : ℕ} {xs : List Axles} (t : Tells s e g v xs) where
   -- an event of such a kind gives none

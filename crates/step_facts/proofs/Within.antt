@@ -24,16 +24,16 @@ use Rattle.layout.specs.declared.Layout.{Layout}
 use Rattle.layout.specs.Layout.{lineIn, routeIn}
 use Rattle.line_block.specs.LineRelease.{passable, endsBy, directionAfter, directionsAfter}
 use Rattle.interlocking.specs.declared.State.{State}
-use Rattle.interlocking.specs.State.{withSections, withPoints, withRoutes, withLines, withBars, withAxles, headsAt}
-use Rattle.interlocking.specs.Own.{ownSection, ownPoint, ownThrow, ownSet, ownCancel, ownSecure, ownManual, ownBar, headSection, headsOf, headsBy, ownHeads}
+use Rattle.interlocking.specs.State.{withSections, withPoints, withRoutes, withLines, withBars, withAxles}
+use Rattle.interlocking.specs.Own.{ownSection, ownPoint, ownThrow, ownSet, ownCancel, ownSecure, ownManual, ownBar, headsOf, ownHeads}
 use Rattle.tables.specs.Locks.{locked, lockedExitBy, lockedExit}
 use Rattle.interlocking.specs.Settle.{fallenAt, signals, farSections, lockingOf, routeAfter, unlessIdle, routesBy, routes, lineRelease, settle}
 use Rattle.interlocking.specs.Rows.{Row, sectionRow, pointRow, throwRow, setRow, cancelRow, secureRow, manualRow, barRow, secondRow, headRow, countRow, silentRow, resetRow, noRow}
 use Rattle.interlocking.specs.Step.{own, gives, after}
-use Rattle.interlocking.proofs.Rows.{OfKind, section-row, point-row, throw-row, set-row, cancel-row, secure-row, manual-row, bar-row, unbar-row, second-row, count-row, silent-row, reset-row, no-row, row-of}
+use Rattle.interlocking.proofs.Rows.{OfKind, section-row, point-row, throw-row, set-row, cancel-row, secure-row, manual-row, bar-row, unbar-row, second-row, count-row, silent-row, reset-row, no-row, row-of, heads-row}
 use Rattle.step_facts.specs.Run.{Event}
 use Rattle.step_facts.proofs.Entries.{phase, direction, stage, ends, read-each, put-elsewhere}
-use Rattle.step_facts.proofs.Tells.{head-named, reset-named, Tells, by-code, by-heads, Untold, tells-nothing, tells-no-order, tells-once}
+use Rattle.step_facts.proofs.Tells.{Tells, by-code, by-heads, Untold, tells-nothing, tells-no-order, tells-once}
 
 -- ---- the states within one event
 
@@ -82,9 +82,8 @@ is-done L s e = go (row-of L s (e .kind) (e .first) (e .second))
         × (s .axles ≡ s .axles)
     same = (refl, refl, refl, refl, refl, refl, refl)
 
-    told : {g : ℕ} → g ≡ headSection (e .kind) (e .first) → (11 ≤ e .kind) × (e .kind ≤ 14)
-        → Done L s e (ownHeads (L .line) (L .lines) s g (headsBy (headsOf s (e .kind) (e .first)) (e .kind) (e .first) (e .second)))
-    told q k = reads (by-heads k q (ap (λ n. headsBy (headsAt (s .axles) n) (e .kind) (e .first) (e .second)) (sym q)))
+    told : {row : Row} → OfKind L s (e .first) (e .second) (e .kind) row → (11 ≤ e .kind) × (e .kind ≤ 14) → Done L s e (row .does)
+    told r k = rw (heads-row r k .0) (reads (by-heads k refl refl))
 
     go : {row : Row} → OfKind L s (e .first) (e .second) (e .kind) row → Done L s e (row .does)
     go (section-row q) = reads (by-code q)
@@ -97,10 +96,10 @@ is-done L s e = go (row-of L s (e .kind) (e .first) (e .second))
     go (bar-row q) = leaves (omega arith) same
     go (unbar-row q) = leaves (omega arith) same
     go (second-row q) = leaves (omega arith) same
-    go (count-row (inl q)) = told (sym (head-named _ _ (omega arith))) (omega arith)
-    go (count-row (inr q)) = told (sym (head-named _ _ (omega arith))) (omega arith)
-    go (silent-row q) = told (sym (head-named _ _ (omega arith))) (omega arith)
-    go (reset-row q) = told (sym (reset-named _ _ q)) (omega arith)
+    go (count-row (inl q)) = told (count-row (inl q)) (omega arith)
+    go (count-row (inr q)) = told (count-row (inr q)) (omega arith)
+    go (silent-row q) = told (silent-row q) (omega arith)
+    go (reset-row q) = told (reset-row q) (omega arith)
     go (no-row u) = leaves (u .no-set, u .no-cancel, u .no-secure, u .no-release, (u .no-section, u .no-in, u .no-out, u .no-silent, u .no-reset)) same
 
 module _ (L : Layout) {s : State} {e : Event} {g v : ℕ} {xs : List Axles} (told : Tells s e g v xs) where

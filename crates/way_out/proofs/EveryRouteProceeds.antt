@@ -9,6 +9,7 @@ use borrow.Author.Tests.{eqb-true}
 use lib.Dec.{eqb}
 use lib.ListN.{length, length-append}
 use Rattle.laws.specs.Choice.{if_then_else_}
+use Rattle.laws.specs.Totals.{total, bit, count}
 use Rattle.laws.proofs.Choice.{if-both}
 use Rattle.laws.specs.Tables.{join}
 use Rattle.laws.proofs.Tables.{length-table}
@@ -24,20 +25,20 @@ use Rattle.step_facts.specs.Run.{Event, fromCold}
 use Rattle.interlocking.specs.declared.State.{State}
 use Rattle.panel.specs.Panel.{routeByte}
 use Rattle.way_out.specs.WayToProceed.{unbars, readsFree, countsAfter, allReadsFree, throws, readsPlaced, placing, countsAfterPath, countsAfterOverlap, countsAfterPoints, clearing, securing, lineFor, wayToProceed, PointsAgree, fittedForLine, fittedAsked, WayToProceed, EveryRouteProceeds}
-use Rattle.way_out.specs.Freeing.{CountsOf, oneIfFitted, fittedAmong, fittedBlocks}
+use Rattle.way_out.specs.Freeing.{CountsOf, fittedAmong, fittedBlocks}
 use Rattle.panel.proofs.Image.{shows-main, shows-route}
 use Rattle.way_out.proofs.Goes.{Whole, run-whole, after-that}
-use Rattle.way_out.proofs.NoDeadEnd.{freeing-length, way-short, goes-to-rest, among-few, blocks-few, none-among, none-in-blocks, accepted-unfitted}
+use Rattle.way_out.proofs.NoDeadEnd.{freeing-length, way-short, goes-to-rest, among-few, blocks-few, none-among, none-in-blocks, loaded-unfitted}
 use Rattle.way_out.proofs.WayToProceed.{comes-to-proceed}
 
 -- a section that is freed has one event, and six more where it has heads; a block has none
-one-short : (L : Layout) (cs : CountsOf) (g : ℕ) → length (readsFree L cs g) ≤ 1 + 6 * oneIfFitted L g
+one-short : (L : Layout) (cs : CountsOf) (g : ℕ) → length (readsFree L cs g) ≤ 1 + 6 * bit (isFitted L g)
 unfolding readsFree
-one-short L cs g = if-both (λ (es : List Event). length es ≤ 1 + 6 * oneIfFitted L g) _ (λ t. omega arith) (λ f. omega (arith, freeing-length L cs g))
+one-short L cs g = if-both (λ (es : List Event). length es ≤ 1 + 6 * bit (isFitted L g)) _ (λ t. omega arith) (λ f. omega (arith, freeing-length L cs g))
 
 -- so for n sections
 free-short : (L : Layout) (cs : CountsOf) (n : ℕ) (g : ℕ → ℕ) → length (allReadsFree L cs n g) ≤ n + 6 * fittedAmong L n g
-unfolding allReadsFree join fittedAmong
+unfolding allReadsFree join fittedAmong count total
 free-short L cs zero g = omega arith
 free-short L cs (suc n) g = let h = free-short L cs n g in let one = one-short L (countsAfter cs n g) (g n) in simp length-append (omega arith)
 
@@ -148,4 +149,4 @@ module _ (L : Layout) (ok : sound L ≡ true) (r : ℕ) (b : r < L .routes) wher
 -- so on an accepted layout
 pub accepted-proceed-short : (bytes : List ℕ) → load bytes .number ≡ 0 → (cs : CountsOf) (s : State) (r : ℕ) → r < load bytes .layout .routes
     → length (wayToProceed (load bytes .layout) cs s r) ≤ load bytes .layout .routes + 9 * load bytes .layout .lines + 160
-accepted-proceed-short bytes ok cs s r b = unfitted-proceed-short _ (loaded-sound bytes ok) r b (accepted-unfitted bytes ok) cs s
+accepted-proceed-short bytes ok cs s r b = unfitted-proceed-short _ (loaded-sound bytes ok) r b (loaded-unfitted bytes) cs s

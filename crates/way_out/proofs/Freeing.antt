@@ -23,9 +23,10 @@ use Rattle.interlocking.specs.State.{inRange, headsAt, withSections, withRoutes
 use Rattle.interlocking.specs.Own.{ownSection, headSection, headsBy}
 use Rattle.interlocking.specs.Settle.{signals, farSections, routesBy, routes, lineRelease, settle}
 use Rattle.interlocking.specs.Step.{refusal, after}
+use Rattle.interlocking.proofs.Rows.{head-named, reset-named}
 use Rattle.step_facts.specs.Run.{Event, event}
 use Rattle.step_facts.proofs.Entries.{put-here, put-elsewhere}
-use Rattle.step_facts.proofs.Tells.{head-named, reset-named, Tells, by-code, by-heads}
+use Rattle.step_facts.proofs.Tells.{Tells, by-code, by-heads}
 use Rattle.step_facts.proofs.Within.{end, tells-done, tells-readings}
 use Rattle.step_facts.proofs.Heads.{heads-here}
 use Rattle.step_facts.proofs.Granted.{reading-granted, count-granted, reset-granted}

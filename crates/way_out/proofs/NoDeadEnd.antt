@@ -1,5 +1,5 @@
 -- No dead end: from every state that a run can reach on a layout in use the way out leads to rest.
-use Prim.Native.Nat.{ℕ, zero, suc, _+_, _*_, _≤_}
+use Prim.Native.Nat.{ℕ, zero, suc, _+_, _*_, _<_, _≤_}
 use mathlib.Core.Path.{_≡_, refl, _∙_}
 use mathlib.Core.Bool.{Bool, true, false}
 use mathlib.Core.List.{List, [], _∷_}
@@ -8,8 +8,10 @@ use native.Mathlib.Omega.{arith}
 use borrow.Author.Tests.{eq-eqb}
 use lib.ListN.{length, length-append}
 use Rattle.laws.specs.Choice.{if_then_else_}
+use Rattle.laws.specs.Totals.{total, bit, count}
 use Rattle.laws.proofs.Arrays.{nothing-at}
-use Rattle.laws.proofs.Choice.{if-both, passed-over}
+use Rattle.laws.proofs.Choice.{if-both}
+use Rattle.laws.proofs.Totals.{total-same, total-below, total-each, count-most, count-none}
 use Rattle.track.specs.Codes.{openBlock}
 use Rattle.track.specs.Sizes.{mostSections, mostBlocks}
 use Rattle.track.specs.Blocks.{onlySection}
@@ -27,7 +29,7 @@ use Rattle.fitted.proofs.InUse.{in-use-sound}
 use Rattle.interlocking.specs.declared.State.{State}
 use Rattle.interlocking.specs.Step.{step}
 use Rattle.step_facts.specs.Run.{Event, event, fromCold}
-use Rattle.way_out.specs.Freeing.{CountsOf, counted, freeing, oneIfFitted, fittedAmong, fittedBlocks}
+use Rattle.way_out.specs.Freeing.{CountsOf, counted, freeing, fittedAmong, fittedBlocks}
 use Rattle.way_out.specs.WayOut.{standing, cancels, ninetySeconds, readFree, allReadFree, releases, wayOut, AtRest, WayOut, NoDeadEnd}
 use Rattle.way_out.proofs.Goes.{Whole, run-whole, Goes, after-that, ending-so}
 use Rattle.way_out.proofs.WayOut.{cancel-all, wait-all, read-all, release-all}
@@ -43,8 +45,8 @@ cancels-short L (suc n) s =
     (λ f. let h = cancels-short L n s in omega arith)
 
 -- one reading for a section that has no heads, six events more for one that has
-pub freeing-length : (L : Layout) (cs : CountsOf) (g : ℕ) → length (freeing L cs g) ≡ 1 + 6 * oneIfFitted L g
-unfolding freeing counted oneIfFitted if_then_else_
+pub freeing-length : (L : Layout) (cs : CountsOf) (g : ℕ) → length (freeing L cs g) ≡ 1 + 6 * bit (isFitted L g)
+unfolding freeing counted bit if_then_else_
 freeing-length L cs g = go (isFitted L g)
   where
     go : (t : Bool) → length (if t then counted g (cs g) else (event 1 g 1 ∷ [])) ≡ 1 + 6 * (if t then 1 else 0)
@@ -53,14 +55,14 @@ freeing-length L cs g = go (isFitted L g)
 
 -- so for the blocks of a line
 read-length : (L : Layout) (cs : CountsOf) (l n : ℕ) → length (readFree L cs l n) ≡ n + 6 * fittedAmong L n (onlySection (lineIn L l))
-unfolding readFree fittedAmong
+unfolding readFree fittedAmong count total
 read-length L cs l zero = refl
 read-length L cs l (suc n) =
     length-append (freeing L cs (onlySection (lineIn L l) n)) _ ∙ (let h = read-length L cs l n in let one = freeing-length L cs (onlySection (lineIn L l) n) in omega arith)
 
 -- at most eight blocks for each line
 read-short : (L : Layout) → Sound L → (cs : CountsOf) (n : ℕ) → n ≤ L .lines → length (allReadFree L cs n) ≤ mostBlocks * n + 6 * fittedBlocks L n
-unfolding allReadFree fittedBlocks
+unfolding allReadFree fittedBlocks total
 read-short L S cs zero b = omega arith
 read-short L S cs (suc l) b =
     let few = S .ranges .lines l b .blockCount in
@@ -111,25 +113,19 @@ no-dead-end L u cs es = sound-way-out L (in-use-sound u) cs es
 
 -- ---- how long it is at most, and where no section has heads
 
--- a section counts once
-one-section : (L : Layout) (g : ℕ) → oneIfFitted L g ≤ 1
-unfolding oneIfFitted
-one-section L g = if-both (λ k. k ≤ 1) _ (λ t. omega arith) (λ f. omega arith)
-
 -- of n sections at most n have heads
 pub among-few : (L : Layout) (n : ℕ) (g : ℕ → ℕ) → fittedAmong L n g ≤ n
 unfolding fittedAmong
-among-few L zero g = omega arith
-among-few L (suc n) g = let h = among-few L n g in omega (arith, one-section L (g n))
+among-few L n g = count-most n _
 
 -- so of the blocks of a line at most eight
 pub blocks-few : (L : Layout) → Sound L → (n : ℕ) → n ≤ L .lines → fittedBlocks L n ≤ mostBlocks * n
 unfolding fittedBlocks
-blocks-few L S zero b = omega arith
-blocks-few L S (suc l) b =
-    let few = S .ranges .lines l b .blockCount in
-    let rest = blocks-few L S l (omega arith) in
-    omega (arith, among-few L (lineIn L l .blocks) (onlySection (lineIn L l)))
+blocks-few L S n b =
+    let each : (l : ℕ) → l < n → fittedAmong L (lineIn L l .blocks) (onlySection (lineIn L l)) ≤ mostBlocks = λ l c.
+    let few = S .ranges .lines l (omega arith) .blockCount in
+    omega (arith, among-few L (lineIn L l .blocks) (onlySection (lineIn L l))) in
+    omega (arith, total-below n (λ l. fittedAmong L (lineIn L l .blocks) (onlySection (lineIn L l))) (λ l. mostBlocks) each, total-each n mostBlocks)
 
 -- and the way out has at most 57 events for each line: seven for each block, and the release
 pub way-longest : (L : Layout) → sound L ≡ true → (cs : CountsOf) (s : State) → length (wayOut L cs s) ≤ L .routes + 90 + 57 * L .lines
@@ -138,26 +134,24 @@ way-longest L ok cs s = let S = sound-says L ok in omega (arith, way-short L S c
 module _ (L : Layout) (none : (g : ℕ) → isFitted L g ≡ false) where
   -- where no section has heads none of any does
   pub none-among : (n : ℕ) (g : ℕ → ℕ) → fittedAmong L n g ≡ 0
-  unfolding fittedAmong oneIfFitted
-  none-among zero g = refl
-  none-among (suc n) g = rw (none-among n g, passed-over {A = ℕ} _ 1 0 (none (g n)))
+  unfolding fittedAmong
+  none-among n g = count-none n _ (λ i b. none (g i))
 
   -- nor any block
   pub none-in-blocks : (n : ℕ) → fittedBlocks L n ≡ 0
   unfolding fittedBlocks
-  none-in-blocks zero = refl
-  none-in-blocks (suc l) = rw (none-in-blocks l, none-among (lineIn L l .blocks) (onlySection (lineIn L l)))
+  none-in-blocks n = total-same n _ (λ l. 0) (λ l b. none-among (lineIn L l .blocks) (onlySection (lineIn L l))) ∙ omega (arith, total-each n 0)
 
   -- so the way out has at most nine events for each line
   pub unfitted-short : sound L ≡ true → (cs : CountsOf) (s : State) → length (wayOut L cs s) ≤ L .routes + 90 + 9 * L .lines
   unfitted-short ok cs s = omega (arith, way-short L (sound-says L ok) cs s, none-in-blocks (L .lines))
 
--- an accepted layout is one, since a file tells of no heads
-pub accepted-unfitted : (bytes : List ℕ) → load bytes .number ≡ 0 → (g : ℕ) → isFitted (load bytes .layout) g ≡ false
+-- a layout that was loaded is one, since a file tells of no heads
+pub loaded-unfitted : (bytes : List ℕ) (g : ℕ) → isFitted (load bytes .layout) g ≡ false
 unfolding isFitted noneFitted
-accepted-unfitted bytes ok g = rw (loaded-none-told bytes ok .fitted, nothing-at {A = ℕ} mostSections 0 g)
+loaded-unfitted bytes g = rw (loaded-none-told bytes .fitted, nothing-at {A = ℕ} mostSections 0 g)
 
 -- so there it has
 pub accepted-short : (bytes : List ℕ) → load bytes .number ≡ 0 → (cs : CountsOf) (s : State)
     → length (wayOut (load bytes .layout) cs s) ≤ load bytes .layout .routes + 90 + 9 * load bytes .layout .lines
-accepted-short bytes ok cs s = unfitted-short _ (accepted-unfitted bytes ok) (loaded-sound bytes ok) cs s
+accepted-short bytes ok cs s = unfitted-short _ (loaded-unfitted bytes) (loaded-sound bytes ok) cs s

@@ -3,11 +3,9 @@ use Prim.Native.Nat.{ℕ, _+_, _-_, _*_, _%_, _<_, _≤_}
 use mathlib.Core.Path.{_≡_, refl, ap, ap₂, _∙_}
 use mathlib.Core.Bool.{true}
 use native.Mathlib.Omega.{arith}
-use lib.Dec.{eqb}
 use lib.IntN.{pos, _-ℤ_}
 use Rattle.laws.specs.Choice.{if_then_else_}
 use Rattle.laws.specs.Tests.{_and_}
-use Rattle.laws.proofs.Choice.{if-both}
 use Rattle.axles.specs.declared.Head.{Head}
 use Rattle.axles.specs.declared.Axles.{Axles}
 use Rattle.axles.specs.declared.Said.{Said}
@@ -15,26 +13,17 @@ use Rattle.axles.specs.Rounds.{around}
 use Rattle.axles.specs.Heads.{speaks, speaking, headAfter, net, number, readingOf, occupies, resets, sumAfter, proofAfter, told, withProof, proves, judged, axlesAfter, known, axlesReading}
 use Rattle.axles.specs.HeadLog.{said}
 use Rattle.axles.proofs.Rounds.{same-difference}
+use Rattle.axles.proofs.Kept.{after-same, reset-head}
 use Rattle.axles.proofs.Since.{number-small}
 use Rattle.interlocking.specs.Own.{headsBy}
 use Rattle.way_out.specs.Freeing.{Counts, rolled}
 
 -- ---- what an event makes of each head
 
--- judging the number leaves both
-judged-heads : (x : Axles) → (judged x .head0 ≡ x .head0) × (judged x .head1 ≡ x .head1)
-unfolding judged withProof
-judged-heads x = if-both (λ (y : Axles). (y .head0 ≡ x .head0) × (y .head1 ≡ x .head1)) _ (λ t. (refl, refl)) (λ f. (refl, refl))
-
--- so each is what the event itself makes of it
+-- judging the number leaves each as the event itself makes it
 after-heads : (x : Axles) (e : Said) → (axlesAfter x e .head0 ≡ headAfter (x .head0) 0 e) × (axlesAfter x e .head1 ≡ headAfter (x .head1) 1 e)
-unfolding axlesAfter told
-after-heads x e = judged-heads (told x e)
-
--- a reset leaves both
-reset-head : (h : Head) (k n : ℕ) → headAfter h k (said 14 n 0) ≡ h
-unfolding headAfter if_then_else_
-reset-head h k n = if-both (λ (y : Head). y ≡ h) (eqb n k) (λ t. refl) (λ f. refl)
+unfolding told
+after-heads x e = let same = after-same x e in (same .first, same .second)
 
 -- ---- the seven events
 
@@ -90,8 +79,8 @@ module _ (c : Counts) where
   unfolding axlesAfter told sumAfter proofAfter resets speaking speaks net judged proves occupies readingOf _and_ if_then_else_
   reset-stand sum proof n =
       rw (
-        reset-head (speaking-head (c .in0) (c .out0)) 0 n,
-        reset-head (speaking-head (c .in1) (c .out1)) 1 n,
+        reset-head (speaking-head (c .in0) (c .out0)) 0 (said 14 n 0) refl,
+        reset-head (speaking-head (c .in1) (c .out1)) 1 (said 14 n 0) refl,
         told-sum,
         since-number (c .in0) (c .out1) 0 1 (omega arith) (omega arith) (omega arith) (omega arith),
       )

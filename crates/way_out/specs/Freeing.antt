@@ -1,8 +1,9 @@
 -- How a section comes to read free, whatever it read: one reading, or, where it has heads, an axle that passes after a reset (L1).
-use Prim.Native.Nat.{ℕ, zero, suc, _+_, _*_, _%_}
+use Prim.Native.Nat.{ℕ, _+_, _*_, _%_}
 use mathlib.Core.List.{List, [], _∷_}
 use lib.Dec.{eqb}
 use Rattle.laws.specs.Choice.{if_then_else_}
+use Rattle.laws.specs.Totals.{total, count}
 use Rattle.track.specs.Codes.{free, readSection, axlesIn, axlesOut, resetAxles}
 use Rattle.track.specs.Blocks.{onlySection}
 use Rattle.layout.specs.declared.Layout.{Layout}
@@ -55,16 +56,10 @@ countsSince cs g h = if eqb h g then oneFurther (cs h) else cs h
 
 -- ---- how many of the sections that are freed have heads: for each the way is six events longer
 
--- 1 where section g has heads
-unfoldable pub oneIfFitted : Layout → ℕ → ℕ
-oneIfFitted L g = if isFitted L g then 1 else 0
-
 -- of the sections g 0, .., g (n - 1)
 unfoldable pub fittedAmong : Layout → ℕ → (ℕ → ℕ) → ℕ
-fittedAmong L zero g = 0
-fittedAmong L (suc n) g = fittedAmong L n g + oneIfFitted L (g n)
+fittedAmong L n g = count n (λ i. isFitted L (g i))
 
 -- of the blocks of the first n lines
 unfoldable pub fittedBlocks : Layout → ℕ → ℕ
-fittedBlocks L zero = 0
-fittedBlocks L (suc l) = fittedBlocks L l + fittedAmong L (lineIn L l .blocks) (onlySection (lineIn L l))
+fittedBlocks L n = total n (λ l. fittedAmong L (lineIn L l .blocks) (onlySection (lineIn L l)))

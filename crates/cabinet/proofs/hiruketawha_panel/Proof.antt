@@ -56,7 +56,7 @@ use Rattle.panel.proofs.panel.Symbol.{name as #panel·panel}
 use Rattle.panel.proofs.panel.Met as pan-thm
 use Rattle.cabinet.specs.Calls.{records, drawPanel, ofPanel, tells}
 use Rattle.cabinet.specs.Cabinet.{drawnReply}
-use Rattle.cabinet.proofs.Values.{valS, valL}
+use Rattle.cabinet.proofs.Values.{valS, valL, Arguments, arguments, ArgumentValues, argumentValues}
 use Rattle.cabinet.proofs.hiruketawha_panel.Key.{name as #cabinet·hiruketawha-panel}
 use Rattle.cabinet.proofs.hiruketawha_panel as entry
 use Rattle.cabinet.proofs.hiruketawha_panel.Statement as stated
@@ -80,17 +80,13 @@ module _ {M : Type 1} (𝓤 : URA M) (H : Heap 𝓤) (A : Atoms 𝓤) (W : Given
   abbrev v : Val
   v = sliceVal (b″, o″) (length ys)
 
-  -- the arguments
-  abbrev Arg : Type 0
-  Arg = RefT State × (RefT Layout × (RefT (List ℕ) × Unit {0}))
-
   -- the state, the layout and the buffer that are lent
-  abbrev x : Arg
-  x = (record { ptr = (b, o); name = γ; now = h }, (record { ptr = (b′, o′); name = γ′; now = l }, (s, tt)))
+  abbrev x : Arguments
+  x = arguments b o γ h b′ o′ γ′ l s
 
   -- their values, one list for each
-  abbrev at : List Val × (List Val × (List Val × Unit {0}))
-  at = (vptr b o ∷ [], (vptr b′ o′ ∷ [], (v ∷ [], tt)))
+  abbrev at : ArgumentValues
+  at = argumentValues b o b′ o′ v
 
   -- the same as one list
   abbrev args : List Val

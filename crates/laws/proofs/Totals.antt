@@ -1,7 +1,7 @@
 -- Totals over 0 .. n - 1, and how many numbers pass a test: tests of which no two hold at once are counted one by one.
 use Prim.Native.Nat.{ℕ, zero, suc, _+_, _-_, _*_, _<_, _≤_}
 use mathlib.Core.Path.{_≡_, refl, sym, ap, ap₂, _∙_}
-use mathlib.Core.Bool.{Bool, true, false}
+use mathlib.Core.Bool.{Bool, true, false, false≢true}
 use mathlib.Core.List.{List, [], _∷_, _++_}
 use native.Mathlib.Nat.{suc-mul}
 use native.Mathlib.Decide.{decLt, ℕ-discrete}
@@ -9,15 +9,11 @@ use native.Mathlib.Omega.{arith}
 use borrow.Author.Tests.{eq-eqb, ne-eqb, lt-ltb, le-ltb}
 use lib.Dec.{eqb, ltb}
 use lib.ListN.{length}
 use Rattle.laws.specs.Choice.{if_then_else_}
 use Rattle.laws.specs.Tests.{_and_, _or_, anyBelow}
 use Rattle.laws.specs.Tables.{join}
+use Rattle.laws.specs.Totals.{total, bit, count}
 use Rattle.laws.proofs.Tests.{any-some}
-
--- f 0 + f 1 + .. + f (n - 1)
-unfoldable pub total : ℕ → (ℕ → ℕ) → ℕ
-total zero f = 0
-total (suc n) f = total n f + f n
 
 -- ---- totals
 
@@ -75,52 +71,56 @@ module _ {A : Type 0} (of : List A → ℕ) (a : Adds of) where
 
 -- ---- how many pass a test
 
--- 1 where a test holds
-unfoldable pub mark : Bool → ℕ
-mark t = if t then 1 else 0
+-- 1 stands just where a test holds
+pub bit-one : (t : Bool) → eqb (bit t) 1 ≡ t
+unfolding bit if_then_else_
+bit-one true = refl
+bit-one false = refl
 
--- of 0 .. n - 1 so many pass
-unfoldable pub count : ℕ → (ℕ → Bool) → ℕ
-count n p = total n (λ g. mark (p g))
+-- and 0 just where it fails
+pub bit-none : (t : Bool) → eqb (bit t) 0 ≡ true → t ≡ false
+unfolding bit if_then_else_
+bit-none true q = absurd (false≢true q)
+bit-none false q = refl
 
 -- both of two tests count for no more than the first
-pub mark-both : (a b : Bool) → mark (a and b) ≤ mark a
-unfolding mark if_then_else_ _and_
-mark-both true true = omega arith
-mark-both true false = omega arith
-mark-both false b = omega arith
+pub bit-both : (a b : Bool) → bit (a and b) ≤ bit a
+unfolding bit if_then_else_ _and_
+bit-both true true = omega arith
+bit-both true false = omega arith
+bit-both false b = omega arith
 
 -- where the second follows from the first they count as the first does
-pub mark-all : (a b : Bool) → (a ≡ true → b ≡ true) → mark (a and b) ≡ mark a
+pub bit-all : (a b : Bool) → (a ≡ true → b ≡ true) → bit (a and b) ≡ bit a
 unfolding _and_
-mark-all true b f = ap mark (f refl)
-mark-all false b f = refl
+bit-all true b f = ap bit (f refl)
+bit-all false b f = refl
 
 -- a list of one entry where a test holds, else of none
-pub mark-list : {A : Type 0} (t : Bool) (x : A) → length (if t then x ∷ [] else []) ≡ mark t
-unfolding mark if_then_else_
-mark-list true x = refl
-mark-list false x = refl
+pub bit-list : {A : Type 0} (t : Bool) (x : A) → length (if t then x ∷ [] else []) ≡ bit t
+unfolding bit if_then_else_
+bit-list true x = refl
+bit-list false x = refl
 
 -- a test counts for at most 1
-mark-most : (t : Bool) → mark t ≤ 1
-unfolding mark if_then_else_
-mark-most true = omega arith
-mark-most false = omega arith
+pub bit-most : (t : Bool) → bit t ≤ 1
+unfolding bit if_then_else_
+bit-most true = omega arith
+bit-most false = omega arith
 
 -- no more pass than there are
 pub count-most : (n : ℕ) (p : ℕ → Bool) → count n p ≤ n
 unfolding count
-count-most n p = omega (arith, total-below n (λ g. mark (p g)) (λ g. 1) (λ g l. mark-most (p g)), total-each n 1)
+count-most n p = omega (arith, total-below n (λ g. bit (p g)) (λ g. 1) (λ g l. bit-most (p g)), total-each n 1)
 
 -- none passes
-count-none : (n : ℕ) (p : ℕ → Bool) → ((g : ℕ) → g < n → p g ≡ false) → count n p ≡ 0
-unfolding count mark if_then_else_
-count-none n p h = total-same n (λ g. mark (p g)) (λ g. 0) (λ g l. rw (h g l)) ∙ omega (arith, total-each n 0)
+pub count-none : (n : ℕ) (p : ℕ → Bool) → ((g : ℕ) → g < n → p g ≡ false) → count n p ≡ 0
+unfolding count bit if_then_else_
+count-none n p h = total-same n (λ g. bit (p g)) (λ g. 0) (λ g l. rw (h g l)) ∙ omega (arith, total-each n 0)
 
 -- one number is x
 pub count-one : (n x : ℕ) → x < n → count n (eqb x) ≡ 1
-unfolding count total mark if_then_else_
+unfolding count total bit if_then_else_
 count-one zero x l = absurd (omega arith)
 count-one (suc n) x l = one (count-one n x) (ℕ-discrete x n)
   where
@@ -130,7 +130,7 @@ count-one (suc n) x l = one (count-one n x) (ℕ-discrete x n)
 
 -- those above r
 pub count-above : (n r : ℕ) → count n (ltb r) ≡ n - suc r
-unfolding count total mark if_then_else_
+unfolding count total bit if_then_else_
 count-above zero r = omega arith
 count-above (suc n) r = one (count-above n r) (decLt r n)
   where
@@ -139,16 +139,16 @@ count-above (suc n) r = one (count-above n r) (decLt r n)
     one less (no l) = rw (le-ltb r n (omega arith)) (omega arith)
 
 -- one of two tests that do not both hold
-mark-or : (a b : Bool) → (a ≡ true → b ≡ true → ⊥) → mark (a or b) ≡ mark a + mark b
-unfolding mark if_then_else_ _or_
-mark-or true true apart = absurd (apart refl refl)
-mark-or true false apart = refl
-mark-or false b apart = omega arith
+bit-or : (a b : Bool) → (a ≡ true → b ≡ true → ⊥) → bit (a or b) ≡ bit a + bit b
+unfolding bit if_then_else_ _or_
+bit-or true true apart = absurd (apart refl refl)
+bit-or true false apart = refl
+bit-or false b apart = omega arith
 
 -- those that pass one of two such tests
 pub count-or : (n : ℕ) (p q : ℕ → Bool) → ((g : ℕ) → p g ≡ true → q g ≡ true → ⊥) → count n (λ g. p g or q g) ≡ count n p + count n q
 unfolding count
-count-or n p q apart = total-same n _ _ (λ g l. mark-or (p g) (q g) (apart g)) ∙ total-sum n (λ g. mark (p g)) (λ g. mark (q g))
+count-or n p q apart = total-same n _ _ (λ g l. bit-or (p g) (q g) (apart g)) ∙ total-sum n (λ g. bit (p g)) (λ g. bit (q g))
 
 -- those that pass one of k tests of which no two hold at once
 pub count-any : (n k : ℕ) (p : ℕ → ℕ → Bool) → ((i j g : ℕ) → i < k → j < k → p i g ≡ true → p j g ≡ true → i ≡ j)
