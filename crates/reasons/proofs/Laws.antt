@@ -22,7 +22,7 @@ use Rattle.layout.specs.declared.Layout.{Layout}
 use Rattle.layout.specs.Layout.{lineIn, entryOf, conflict}
 use Rattle.reasons.specs.declared.Refusal.{Refusal}
 use Rattle.reasons.specs.Refusal.{refused, noRefusal, refusedIf, found, firstOf}
-use Rattle.reasons.specs.Searches.{lacking, conflictsWith, failing}
+use Rattle.reasons.specs.Searches.{unfree, conflictsWith, failing}
 use Rattle.tables.specs.Locks.{locked}
 use Rattle.reasons.specs.Reasons.{notFree, conflicting, blockBarred, blockHeld}
 
@@ -49,24 +49,24 @@ pub ruleset firsts = (needs, first-here, first-next, first-last)
 
 -- ---- 7 and 8, by the lowest section that does not read free
 
-module _ (sections : List ℕ) (set g : ℕ) (r : Refusal) (e : g ≡ lowest mostSections (lacking sections set)) where
+module _ (sections : List ℕ) (set g : ℕ) (r : Refusal) (e : g ≡ lowest mostSections (unfree sections set)) where
   -- there is no such section: nothing is refused
   pub free-all : mostSections ≤ g → r ≡ noRefusal → r ≡ notFree sections set
   unfolding notFree
-  free-all h q = if-ge (lowest mostSections (lacking sections set)) mostSections _ _ r (rw (← e) h) q
+  free-all h q = if-ge (lowest mostSections (unfree sections set)) mostSections _ _ r (rw (← e) h) q
 
   -- it is occupied
   pub free-occupied : (v : ℕ) → g < mostSections → v ≡ reading sections g → v ≡ occupied → r ≡ refused 7 g → r ≡ notFree sections set
   unfolding notFree
   free-occupied v l d h q =
-      if-lt (lowest mostSections (lacking sections set)) mostSections _ _ r (rw (← e) l)
+      if-lt (lowest mostSections (unfree sections set)) mostSections _ _ r (rw (← e) l)
       (rw (← e) (q ∙ ap (λ n. refused n g) (if-eq (reading sections g) occupied 7 8 7 (sym d ∙ h) refl)))
 
   -- it is not occupied
   pub free-none : (v : ℕ) → g < mostSections → v ≡ reading sections g → (v ≡ occupied → ⊥) → r ≡ refused 8 g → r ≡ notFree sections set
   unfolding notFree
   free-none v l d h q =
-      if-lt (lowest mostSections (lacking sections set)) mostSections _ _ r (rw (← e) l)
+      if-lt (lowest mostSections (unfree sections set)) mostSections _ _ r (rw (← e) l)
       (rw (← e) (q ∙ ap (λ n. refused n g) (if-ne (reading sections g) occupied 7 8 8 (λ z. h (d ∙ z)) refl)))
 
 -- ---- 5, by the table of conflicts

@@ -12,7 +12,7 @@ use Rattle.track.specs.Objects.{line}
 use Rattle.tables.specs.Readings.{reading}
 use Rattle.tables.specs.Blocks.{isOpen, unbarred}
 use Rattle.tables.specs.Locks.{locked, lockedExit}
-use Rattle.reasons.specs.Searches.{lacking, misplaced, routeLocks, lineLocks, failing}
+use Rattle.reasons.specs.Searches.{unfree, misplaced, routeLocks, lineLocks, failing}
 use Rattle.layout.specs.declared.Layout.{Layout}
 use Rattle.layout.specs.Layout.{isFitted, conflict}
 use Rattle.reasons.specs.declared.Refusal.{Refusal}
@@ -21,8 +21,8 @@ use Rattle.reasons.specs.Refusal.{refused, noRefusal, refusedIf, found}
 -- 7, 8: a section asked for is occupied, reads none; the lowest-numbered of those asked for that doesn't read free decides which
 unfoldable pub notFree : List ℕ → ℕ → Refusal
 notFree sections set =
-    if ltb (lowest mostSections (lacking sections set)) mostSections then
-    refused (if eqb (reading sections (lowest mostSections (lacking sections set))) occupied then 7 else 8) (lowest mostSections (lacking sections set))
+    if ltb (lowest mostSections (unfree sections set)) mostSections then
+    refused (if eqb (reading sections (lowest mostSections (unfree sections set))) occupied then 7 else 8) (lowest mostSections (unfree sections set))
     else noRefusal
 
 -- 6: a point is not read in position

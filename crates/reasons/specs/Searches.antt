@@ -19,8 +19,8 @@ use Rattle.tables.specs.Readings.{reading, pointReading}
 use Rattle.tables.specs.Locks.{direction, locked}
 
 -- section g is in the set and does not read free
-unfoldable pub lacking : List ℕ → ℕ → ℕ → Bool
-lacking sections set g = holds set g and not (eqb (reading sections g) free)
+unfoldable pub unfree : List ℕ → ℕ → ℕ → Bool
+unfree sections set g = holds set g and not (eqb (reading sections g) free)
 
 -- point p is one of the first n and is not read in its position
 unfoldable pub misplaced : List ℕ → ℕ → List ℕ → List ℕ → ℕ → Bool

@@ -86,7 +86,7 @@ fn found_at(number: u8, n: u8, at: u8) -> Refusal
 fn not_free(sections: &[u8; SECTIONS], set: u64) -> Refusal
     ensures { λ r. ⌜ r ≡ notFree (now (sections .entry)) set ⌝ }
 {
-    let g = searches::lowest_lacking(sections, set);
+    let g = searches::lowest_unfree(sections, set);
     if MOST_SECTIONS <= g {
         return no_refusal();
     }

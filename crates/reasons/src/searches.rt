@@ -39,7 +39,7 @@ ghost use Rattle.track.specs.Codes.{neutral};
 ghost use Rattle.track.specs.Lists.{among};
 ghost use Rattle.track.specs.Blocks.{blockDetail};
 ghost use Rattle.tables.specs.Locks.{direction, locked, lockedExit};
-ghost use Rattle.reasons.specs.Searches.{lacking, misplaced, conflictsWith, routeLocks, lineLocks, failing};
+ghost use Rattle.reasons.specs.Searches.{unfree, misplaced, conflictsWith, routeLocks, lineLocks, failing};
 
 // The section that point p stands in.
 pub fn section_of(own: [u8; POINTS], p: u8) -> u8
@@ -52,8 +52,8 @@ pub fn section_of(own: [u8; POINTS], p: u8) -> u8
 }
 
 // Section g is in the set and does not read free.
-fn is_lacking(sections: &[u8; SECTIONS], set: u64, g: u8) -> bool
-    ensures { λ r. ⌜ r ≡ lacking (now (sections .entry)) set g ⌝ }
+fn is_unfree(sections: &[u8; SECTIONS], set: u64, g: u8) -> bool
+    ensures { λ r. ⌜ r ≡ unfree (now (sections .entry)) set g ⌝ }
 {
     if !sets::has(set, g) {
         return false;
@@ -62,12 +62,12 @@ fn is_lacking(sections: &[u8; SECTIONS], set: u64, g: u8) -> bool
 }
 
 // The lowest section of a set that does not read free.
-pub fn lowest_lacking(sections: &[u8; SECTIONS], set: u64) -> u8
-    ensures { λ r. ⌜ r ≡ lowest mostSections (lacking (now (sections .entry)) set) ⌝ }
+pub fn lowest_unfree(sections: &[u8; SECTIONS], set: u64) -> u8
+    ensures { λ r. ⌜ r ≡ lowest mostSections (unfree (now (sections .entry)) set) ⌝ }
 {
     let mut g: u8 = 0;
     while g < MOST_SECTIONS {
-        if is_lacking(sections, set, g) {
+        if is_unfree(sections, set, g) {
             return g;
         }
         g += 1;

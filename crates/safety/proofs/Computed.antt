@@ -23,7 +23,7 @@ use Rattle.layout_facts.specs.Plain as plain
 use Rattle.layout_facts.proofs.BranchT.{computed}
 use Rattle.fitted.specs.Fitted.{anyOf, isTold, lacks, toldBy, withTold, equipped}
 use Rattle.reasons.specs.Refusal.{refused, noRefusal, refusedIf, found, firstOf}
-use Rattle.reasons.specs.Searches.{lacking, misplaced, routeLocks, lineLocks, failing}
+use Rattle.reasons.specs.Searches.{unfree, misplaced, routeLocks, lineLocks, failing}
 use Rattle.tables.specs.Locks.{locked, lockedExitBy, lockedExit}
 use Rattle.reasons.specs.Reasons.{notFree, notPlaced, conflicting, byRoute, byLine, exitLocked, blockBarred, blockHeld, noHeads, hasHeads}
 use Rattle.refusals.specs.Orders.{throwRefusal, exitRefusal, routeRefusal, setRefusal, cancelRefusal, secureRefusal, manualRefusal}
@@ -55,7 +55,7 @@ unfolding computed
     ownStage departure arrival beyond sectionAt signalAt farSection farSignal farStage drops farMoved farStageAt farStages
     given watchedSection watchedBlock exitPair pathPair watchedPair stepsAfter toVacate endReading vacated secondsAfter goes lockingAfter
     innerSection entranceSignal nearestBlock
-    refused noRefusal refusedIf found firstOf lacking notFree misplaced notPlaced locked conflicting byRoute byLine exitLocked blockBarred blockHeld hasHeads
+    refused noRefusal refusedIf found firstOf unfree notFree misplaced notPlaced locked conflicting byRoute byLine exitLocked blockBarred blockHeld hasHeads
     routeLocks lineLocks failing lockedExitBy lockedExit
     throwRefusal exitRefusal routeRefusal setRefusal cancelRefusal secureRefusal manualRefusal
     cold codes routesAndLinesInRange inRange withSections withPoints withRoutes withLines withBars

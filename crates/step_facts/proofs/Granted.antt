@@ -21,7 +21,7 @@ use Rattle.layout.specs.Layout.{isFitted, lineIn}
 use Rattle.layout.specs.Sound.{sound}
 use Rattle.reasons.specs.declared.Refusal.{Refusal}
 use Rattle.reasons.specs.Refusal.{refused, noRefusal, refusedIf, found, firstOf}
-use Rattle.reasons.specs.Searches.{lacking}
+use Rattle.reasons.specs.Searches.{unfree}
 use Rattle.tables.specs.Locks.{locked, lockedExitBy, lockedExit}
 use Rattle.reasons.specs.Reasons.{notFree, exitLocked, noHeads, hasHeads}
 use Rattle.refusals.specs.Orders.{cancelRefusal, manualRefusal}
@@ -61,10 +61,10 @@ found-none number n p h = when-none _ number _ (lowest-past n p h)
 
 -- nor do sections that read free
 pub all-free : (sections : List ℕ) (set : ℕ) → ((g : ℕ) → g < mostSections → sets.holds set g ≡ true → reading sections g ≡ 1) → notFree sections set .number ≡ 0
-unfolding notFree lacking noRefusal refused
-all-free sections set h = rw (passed-over _ _ _ (lowest-past mostSections (lacking sections set) free))
+unfolding notFree unfree noRefusal refused
+all-free sections set h = rw (passed-over _ _ _ (lowest-past mostSections (unfree sections set) free))
   where
-    free : (g : ℕ) → g < mostSections → lacking sections set g ≡ false
+    free : (g : ℕ) → g < mostSections → unfree sections set g ≡ false
     free g b = fails-from _ (λ t. not-both (eq-eqb _ 1 (h g b (and-left _ _ t))) (not-true _ (and-right _ _ t)))
 
 -- ---- the events

@@ -28,7 +28,7 @@ use Rattle.layout.specs.Sound.{sound}
 use Rattle.layout_facts.specs.Plain.{ownSection, routePoint, linePoint, Sound}
 use Rattle.reasons.specs.declared.Refusal.{Refusal}
 use Rattle.reasons.specs.Refusal.{refused, found}
-use Rattle.reasons.specs.Searches.{lacking, routeLocks, lineLocks}
+use Rattle.reasons.specs.Searches.{unfree, routeLocks, lineLocks}
 use Rattle.tables.specs.Locks.{locked, lockedExitBy, lockedExit}
 use Rattle.reasons.specs.Reasons.{notFree, conflicting, byRoute, byLine, exitLocked, noHeads, hasHeads}
 use Rattle.refusals.specs.Orders.{throwRefusal, exitRefusal, routeRefusal, setRefusal, cancelRefusal, secureRefusal, manualRefusal}
@@ -57,15 +57,15 @@ not-second a b p e = rw p at e
 
 -- of the sections asked for each reads free
 pub all-free : (sections : List ℕ) (set : ℕ) → notFree sections set .number ≡ 0 → (g : ℕ) → g < mostSections → sets.holds set g ≡ true → reading sections g ≡ 1
-unfolding notFree refused lacking
-all-free sections set e g b h = eqb-true _ _ (not-false _ (not-second _ _ h (lowest-none mostSections (lacking sections set) (past e) g b)))
+unfolding notFree refused unfree
+all-free sections set e g b h = eqb-true _ _ (not-false _ (not-second _ _ h (lowest-none mostSections (unfree sections set) (past e) g b)))
   where
     seven-eight : (t : Bool) → _≢_ {A = ℕ} (if t then 7 else 8) 0
     seven-eight t = if-both (λ n. n ≢ 0) t (λ p. omega arith) (λ p. omega arith)
 
-    past : notFree sections set .number ≡ 0 → ltb (lowest mostSections (lacking sections set)) mostSections ≡ false
+    past : notFree sections set .number ≡ 0 → ltb (lowest mostSections (unfree sections set)) mostSections ≡ false
     past =
-        if-both (λ (r : Refusal). r .number ≡ 0 → ltb (lowest mostSections (lacking sections set)) mostSections ≡ false) _ (λ t z. absurd (seven-eight _ z)) (λ f z. f)
+        if-both (λ (r : Refusal). r .number ≡ 0 → ltb (lowest mostSections (unfree sections set)) mostSections ≡ false) _ (λ t z. absurd (seven-eight _ z)) (λ f z. f)
 
 -- ---- what an accepted event has passed
 
