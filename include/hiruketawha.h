@@ -207,8 +207,8 @@ struct hiruketawha_load_reply hiruketawha_load(struct hiruketawha_state *state, 
 /* The sections that have heads (request L1), told beside the layout once it is loaded: a file of `length` bytes, section numbers in the
  * number form (section 2), in any order. Where it is accepted, 0 and 0, and both records are written whole: just these sections have heads,
  * whatever was told before, none where there are no bytes; and the state starts anew, cold. A section that the layout lacks is accepted too
- * and makes the layout unsound: every event and every panel gets 18 until a layout is loaded or sections are told anew. Where the file is
- * refused, 21 or 22 with the offset, and both records keep every byte. */
+ * and makes the layout unsound: every event and every panel gets 18 until a layout is loaded or sections are told anew. Told before a
+ * layout is loaded, they are gone with the load. Where the file is refused, 21 or 22 with the offset, and both records keep every byte. */
 struct hiruketawha_load_reply hiruketawha_fit(struct hiruketawha_state *state, struct hiruketawha_layout *layout, const uint8_t *bytes,
                                               size_t length);
 

@@ -12,7 +12,7 @@ use Rattle.laws.specs.Choice.{if_then_else_}
 use Rattle.laws.specs.Tests.{_or_, every}
 use Rattle.laws.proofs.Tests.{and-left, and-right, or-cases, not-both, every-at}
 use Rattle.track.specs.Codes.{free, occupied}
-use Rattle.axles.specs.Heads.{readingOf, axlesReading, headsAfter}
+use Rattle.axles.specs.Heads.{readingOf, axlesReading, headsAfterLog}
 use Rattle.axles.specs.HeadLog.{HeadLog, bothSpeak, isReset, resetsIn, numberTold, occupiesTold, wasReset, provedTold, readingTold}
 use Rattle.axles.specs.Since.{Few, ProvedSince, FreeFrom}
 use Rattle.axles.specs.declared.Said.{Said}
@@ -103,5 +103,5 @@ free-from es false t e = absurd (let z : _≡_ {A = ℕ} 3 1 = rw t at e in omeg
 
 -- L1: a free reading needs that neither head is silent, that there was a reset, that since then the number was in 1 to 255 at some moment with neither
 -- head silent, and that it is 0 now
-pub free-needs : (es : HeadLog) → axlesReading (headsAfter es) ≡ free → FreeFrom es
+pub free-needs : (es : HeadLog) → axlesReading (headsAfterLog es) ≡ free → FreeFrom es
 free-needs es e = free-from es _ refl (sym (log-reads es) ∙ e)

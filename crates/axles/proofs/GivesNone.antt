@@ -12,7 +12,7 @@ use Rattle.laws.proofs.Choice.{chosen, passed-over}
 use Rattle.laws.proofs.Tests.{and-both, first-fails, second-fails}
 use Rattle.track.specs.Codes.{readsNone, headSilent, resetAxles}
 use Rattle.axles.specs.Rounds.{around, signed}
-use Rattle.axles.specs.Heads.{unproved, proved, noHead, headAfter, speaks, speaking, net, number, readingOf, occupies, resets, sumAfter, proofAfter, told, proves, judged, axlesAfter, known, axlesReading}
+use Rattle.axles.specs.Heads.{unproved, proved, silentHead, headAfter, speaks, speaking, net, number, readingOf, occupies, resets, sumAfter, proofAfter, told, proves, judged, axlesAfter, known, axlesReading}
 use Rattle.axles.specs.declared.Head.{Head}
 use Rattle.axles.specs.declared.Axles.{Axles}
 use Rattle.axles.specs.declared.Said.{Said}
@@ -34,11 +34,11 @@ unproved-none x e = passed-over _ _ readsNone (second-fails _ _ e)
 -- who speaks after an event goes by what it tells
 after-speaks : (x : Axles) (e : Said) → speaking (axlesAfter x e) ≡ speaking (told x e)
 unfolding speaking
-after-speaks x e = let same = after-same x e in rw (same .first, same .second)
+after-speaks x e = let same = after-same x e in rw (same .head0, same .head1)
 
 -- a head that says it is silent has told nothing
 head-silenced : (h : Head) (k : ℕ) (e : Said) → e .kind ≡ 13 → e .head ≡ k → speaks (headAfter h k e) ≡ false
-unfolding headAfter speaks noHead if_then_else_ _and_
+unfolding headAfter speaks silentHead if_then_else_ _and_
 head-silenced h k e p q = rw (p, eq-eqb (e .head) k q)
 
 -- L1: a head that says it is silent gives none, whichever of the two it is

@@ -16,7 +16,7 @@ use Rattle.laws.proofs.Tests.{and-left, and-right, second-fails, not-both}
 use Rattle.laws.proofs.Totals.{bit-one}
 use Rattle.track.specs.Codes.{axlesIn, axlesOut}
 use Rattle.axles.specs.Rounds.{around, signed}
-use Rattle.axles.specs.Heads.{noReset, unproved, proved, noHead, noAxles, headAfter, speaks, speaking, net, number, readingOf, occupies, resets, sumAfter, proofAfter, told, withProof, proves, judged, axlesAfter, known, axlesReading, headsAfter}
+use Rattle.axles.specs.Heads.{noReset, unproved, proved, silentHead, coldHeads, headAfter, speaks, speaking, net, number, readingOf, occupies, resets, sumAfter, proofAfter, told, withProof, proves, judged, axlesAfter, known, axlesReading, headsAfterLog}
 use Rattle.axles.specs.HeadLog.{HeadLog, said, says, hasTold, lastTold, bothSpeak, netTold, isReset, resetsIn, netAtReset, numberTold, occupiesTold, wasReset, provedTold, readingTold}
 use Rattle.axles.specs.declared.Head.{Head}
 use Rattle.axles.specs.declared.Axles.{Axles}
@@ -69,7 +69,7 @@ kind-of k = kind-by k (ℕ-discrete k 11) (ℕ-discrete k 12) (ℕ-discrete k 13
 
 -- what an event makes of a head, by its kind and by whether it is the head's own
 head-by : {k : ℕ} → Kind k → (g n h : ℕ) (es : HeadLog) (t : Bool) → eqb g h ≡ t → headAfter (headTold h es) h (said k g n) ≡ headTold h (said k g n ∷ es)
-unfolding headAfter headTold lastTold hasTold says bit noHead if_then_else_ _and_
+unfolding headAfter headTold lastTold hasTold says bit silentHead if_then_else_ _and_
 head-by count-in g n h es true e = rw e
 head-by count-in g n h es false e = rw e
 head-by count-out g n h es true e = rw e
@@ -187,13 +187,13 @@ after-step e es =
 -- ---- a whole log
 
 -- at the cold start nothing was said
-cold-told : noAxles ≡ axlesTold []
-unfolding noAxles noHead axlesTold headTold lastTold hasTold bit netAtReset wasReset resetsIn proofTold around if_then_else_
+cold-told : coldHeads ≡ axlesTold []
+unfolding coldHeads silentHead axlesTold headTold lastTold hasTold bit netAtReset wasReset resetsIn proofTold around if_then_else_
 cold-told = refl
 
 -- the heads after a log are what the log says: event by event
-log-heads : (es : HeadLog) → headsAfter es ≡ axlesTold es
-unfolding headsAfter
+log-heads : (es : HeadLog) → headsAfterLog es ≡ axlesTold es
+unfolding headsAfterLog
 log-heads [] = cold-told
 log-heads (e ∷ es) = ap (λ x. axlesAfter x e) (log-heads es) ∙ after-step e es
 
@@ -216,15 +216,15 @@ reads-told es =
     )
 
 -- the reading is told by the log: the box's own heads, event by event from the cold start, read what the list of events alone says
-pub log-reads : (es : HeadLog) → axlesReading (headsAfter es) ≡ readingTold es
+pub log-reads : (es : HeadLog) → axlesReading (headsAfterLog es) ≡ readingTold es
 log-reads es = ap axlesReading (log-heads es) ∙ reads-told es
 
 -- and so is their silence, which 35 asks
-pub log-speaks : (es : HeadLog) → speaking (headsAfter es) ≡ bothSpeak es
+pub log-speaks : (es : HeadLog) → speaking (headsAfterLog es) ≡ bothSpeak es
 unfolding axlesTold
 log-speaks es = ap speaking (log-heads es) ∙ speaking-told es (around (netAtReset es)) (proofTold (wasReset es) (provedTold es))
 
 -- and the number
-pub log-number : (es : HeadLog) → number (headsAfter es) ≡ numberTold es
+pub log-number : (es : HeadLog) → number (headsAfterLog es) ≡ numberTold es
 unfolding axlesTold numberTold
 log-number es = ap number (log-heads es) ∙ number-told es (netAtReset es) (proofTold (wasReset es) (provedTold es))

@@ -12,7 +12,7 @@ use Rattle.laws.proofs.Choice.{if-lt, chosen}
 use Rattle.track.specs.Codes.{free}
 use Rattle.axles.specs.Rounds.{around, signed}
 use Rattle.axles.specs.Heads.{headAfter, speaks, speaking, net, number, readingOf, resets, sumAfter, told, axlesAfter, known, axlesReading}
-use Rattle.axles.specs.Since.{Counted, more, passed, headOf, Repeats, again-in, again-out}
+use Rattle.axles.specs.Since.{Counted, rolled, more, passed, headOf, Repeats, again-in, again-out}
 use Rattle.axles.specs.declared.Head.{Head}
 use Rattle.axles.specs.declared.Axles.{Axles}
 use Rattle.axles.specs.declared.Said.{Said}
@@ -24,7 +24,7 @@ use Rattle.axles.proofs.Kept.{after-same}
 -- L1: the number is axles in less axles out since the reset, round 65,536: what stood at the reset falls out of the difference, and so do whole rounds
 pub number-since : (x : Axles) (a0 a1 b0 b1 i0 i1 o0 o1 : ℕ) → Counted x a0 a1 b0 b1 i0 i1 o0 o1
     → number x ≡ signed (around (pos (i0 + i1) -ℤ pos (o0 + o1)))
-unfolding number net
+unfolding number net rolled
 number-since x a0 a1 b0 b1 i0 i1 o0 o1 c =
     ap signed
     (ap (λ m. around (net x -ℤ pos m)) (c .at-reset)
@@ -52,7 +52,7 @@ round-reads-free x a0 a1 b0 b1 c k = even-reads-free x a0 a1 b0 b1 65536 0 0 655
 
 -- one of two counts goes on
 in-by : (n a b : ℕ) (t : Bool) → ((if t then more n a else a) + (if t then b else more n b)) % 65536 ≡ (a + b + n) % 65536
-unfolding if_then_else_ more
+unfolding if_then_else_ more rolled
 in-by n a b true = omega arith
 in-by n a b false = omega arith
 
@@ -122,9 +122,9 @@ unfolding told sumAfter resets _and_ if_then_else_
 sum-again x e (again-in p q) = rw p
 sum-again x e (again-out p q) = rw p
 
--- L1: a section whose counts do not change keeps its number: a count that its head has told already leaves it
+-- L1: a section whose counts do not change keeps its number: a count that is held of its head already leaves it
 pub again-leaves : (x : Axles) (e : Said) → Repeats x e → number (axlesAfter x e) ≡ number x
 unfolding number net
 again-leaves x e r =
     let same = after-same x e in
-    rw (same .first, same .second, same .sum) (ap₂ (λ z n. signed (around (z -ℤ pos n))) (net-again x e r) (sum-again x e r))
+    rw (same .head0, same .head1, same .sum) (ap₂ (λ z n. signed (around (z -ℤ pos n))) (net-again x e r) (sum-again x e r))

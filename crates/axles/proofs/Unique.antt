@@ -1,14 +1,14 @@
 -- No second result meets the contract of a public function. Each `Post` is the contract itself, as the function is proved to meet it.
 use Rattle.laws.proofs.Only.{Determines, only}
-use Rattle.axles.proofs.no_axles.Reads as no-axles
+use Rattle.axles.proofs.cold_heads.Reads as cold-heads
 use Rattle.axles.proofs.are_speaking.Reads as are-speaking
 use Rattle.axles.proofs.number_of.Reads as number-of
 use Rattle.axles.proofs.after.Reads as after
 use Rattle.axles.proofs.reading.Reads as reading
 
 -- The heads of a section at the cold start
-pub no-axles-determined : Determines no-axles.Post
-no-axles-determined κs a r q s = only
+pub cold-heads-determined : Determines cold-heads.Post
+cold-heads-determined κs a r q s = only
 
 -- Neither head is silent
 pub are-speaking-determined : Determines are-speaking.Post

@@ -26,12 +26,12 @@ proved = 2
 -- ---- heads
 
 -- L1: at the cold start, and once it is silent, a head has told nothing
-unfoldable pub noHead : Head
-noHead = record { inward = 0; outward = 0; hasin = 0; hasout = 0 }
+unfoldable pub silentHead : Head
+silentHead = record { inward = 0; outward = 0; hasin = 0; hasout = 0 }
 
 -- a section's heads at the cold start: both are silent, and there was no reset
-unfoldable pub noAxles : Axles
-noAxles = record { head0 = noHead; head1 = noHead; sum = 0; proof = noReset }
+unfoldable pub coldHeads : Axles
+coldHeads = record { head0 = silentHead; head1 = silentHead; sum = 0; proof = noReset }
 
 -- L1: a head is silent until both its counts have come since the cold start or its last silence
 unfoldable pub speaks : Head → Bool
@@ -41,13 +41,13 @@ speaks h = eqb (h .hasin) 1 and eqb (h .hasout) 1
 unfoldable pub speaking : Axles → Bool
 speaking x = speaks (x .head0) and speaks (x .head1)
 
--- L1: what an event makes of head k of its section: 11 and 12 carry its axles in and out, 13 says that it is silent, which forgets both
+-- L1: what an event makes of a head of its section, head 0 or head 1: 11 and 12 carry its axles in and out, 13 says that it is silent, which forgets both
 unfoldable pub headAfter : Head → ℕ → Said → Head
-headAfter h k e =
-    if eqb (e .head) k then
+headAfter h which e =
+    if eqb (e .head) which then
     (if eqb (e .kind) axlesIn then record { inward = e .count; outward = h .outward; hasin = 1; hasout = h .hasout }
     else if eqb (e .kind) axlesOut then record { inward = h .inward; outward = e .count; hasin = h .hasin; hasout = 1 }
-    else if eqb (e .kind) headSilent then noHead
+    else if eqb (e .kind) headSilent then silentHead
     else h)
     else h
 
@@ -84,7 +84,7 @@ sumAfter x e = if resets x e then around (net x) else x .sum
 unfoldable pub proofAfter : Axles → Said → ℕ
 proofAfter x e = if resets x e then unproved else x .proof
 
--- what an event tells: the counts, and at a reset their sum
+-- the heads once an event is told and the number not yet judged: the counts, and at a reset their sum
 unfoldable pub told : Axles → Said → Axles
 told x e = record { head0 = headAfter (x .head0) 0 e; head1 = headAfter (x .head1) 1 e; sum = sumAfter x e; proof = proofAfter x e }
 
@@ -105,9 +105,9 @@ unfoldable pub axlesAfter : Axles → Said → Axles
 axlesAfter x e = judged (told x e)
 
 -- the heads after a list of events, newest first: from the cold start, event by event
-unfoldable pub headsAfter : List Said → Axles
-headsAfter [] = noAxles
-headsAfter (e ∷ es) = axlesAfter (headsAfter es) e
+unfoldable pub headsAfterLog : List Said → Axles
+headsAfterLog [] = coldHeads
+headsAfterLog (e ∷ es) = axlesAfter (headsAfterLog es) e
 
 -- ---- what the section reads
 

@@ -15,18 +15,22 @@ use Rattle.axles.specs.declared.Said.{Said}
 
 -- ---- counts of 16 bits that roll over
 
+-- L1: a count is told by 16 bits, 0 .. 65,535, and rolls over
+unfoldable pub rolled : ℕ → ℕ
+rolled n = n % 65536
+
 -- a section's heads, which at the reset had counted a0, a1 in and b0, b1 out since their own start, and since then i0, i1 in and o0, o1 out: any whole
 -- numbers
 pub record Counted (x : Axles) (a0 a1 b0 b1 i0 i1 o0 o1 : ℕ) : Type 0 where
-  pub in0 : x .head0 .inward ≡ (a0 + i0) % 65536
-  pub in1 : x .head1 .inward ≡ (a1 + i1) % 65536
-  pub out0 : x .head0 .outward ≡ (b0 + o0) % 65536
-  pub out1 : x .head1 .outward ≡ (b1 + o1) % 65536
+  pub in0 : x .head0 .inward ≡ rolled (a0 + i0)
+  pub in1 : x .head1 .inward ≡ rolled (a1 + i1)
+  pub out0 : x .head0 .outward ≡ rolled (b0 + o0)
+  pub out1 : x .head1 .outward ≡ rolled (b1 + o1)
   pub at-reset : x .sum ≡ around (pos (a0 + a1) -ℤ pos (b0 + b1))
 
 -- a count after n axles more
 unfoldable pub more : ℕ → ℕ → ℕ
-more n count = (count + n) % 65536
+more n count = rolled (count + n)
 
 -- a section's heads after n axles in past head i and out past head j, each 0 or else 1
 unfoldable pub passed : ℕ → ℕ → ℕ → Axles → Axles
@@ -53,7 +57,7 @@ passed n i j x = record {
 unfoldable pub headOf : Axles → ℕ → Head
 headOf x h = if eqb h 0 then x .head0 else x .head1
 
--- an event of kind 11 or 12 that repeats the count which its head has told already
+-- an event of kind 11 or 12 with the count that is held of its head
 pub data Repeats (x : Axles) (e : Said) : Type 0 where
   again-in : e .kind ≡ axlesIn → e .count ≡ headOf x (e .head) .inward → Repeats x e
   again-out : e .kind ≡ axlesOut → e .count ≡ headOf x (e .head) .outward → Repeats x e

@@ -10,7 +10,7 @@ use track::codes::OCCUPIED;
 use track::codes::RESET_AXLES;
 ghost use mathlib.Core.Path.{_≡_};
 ghost use Rattle.axles.specs.Rounds.{around, signed};
-ghost use Rattle.axles.specs.Heads.{noHead, noAxles, headAfter, speaks, speaking, net, number, readingOf, occupies, resets, sumAfter, proofAfter, told, withProof, proves, judged, axlesAfter, known, axlesReading};
+ghost use Rattle.axles.specs.Heads.{silentHead, coldHeads, headAfter, speaks, speaking, net, number, readingOf, occupies, resets, sumAfter, proofAfter, told, withProof, proves, judged, axlesAfter, known, axlesReading};
 
 // A head: the axles that it told in and out, and for each count a flag, 1 where it has come since the cold start or the head's last silence. No value is
 // out of range: a flag that is not 1 says that the count has not come, and the head is silent.
@@ -47,8 +47,8 @@ pub const UNPROVED: u16 = 1;
 pub const PROVED: u16 = 2;
 
 // A head that is silent.
-fn no_head() -> Head
-    ensures { λ r. ⌜ r ≡ noHead ⌝ }
+fn silent_head() -> Head
+    ensures { λ r. ⌜ r ≡ silentHead ⌝ }
 {
     Head {
         inward: 0,
@@ -59,11 +59,11 @@ fn no_head() -> Head
 }
 
 // The heads of a section at the cold start.
-pub fn no_axles() -> Axles
-    ensures { λ r. ⌜ r ≡ noAxles ⌝ }
+pub fn cold_heads() -> Axles
+    ensures { λ r. ⌜ r ≡ coldHeads ⌝ }
 {
-    let head0 = no_head();
-    let head1 = no_head();
+    let head0 = silent_head();
+    let head1 = silent_head();
     Axles {
         head0,
         head1,
@@ -96,7 +96,7 @@ fn head_after(h: Head, which: u8, e: Said) -> Head
         };
     }
     if e.kind == HEAD_SILENT {
-        return no_head();
+        return silent_head();
     }
     h
 }

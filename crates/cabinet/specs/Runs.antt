@@ -61,7 +61,7 @@ pub record InRun (cs : List Call) : Type 0 where
 
 -- ---- 18
 
--- records that wait for a layout: every event and every panel image gets 18, and no buffer is written (sections 3 and 7)
+-- records that wait for a layout that can be used: every event and every panel image gets 18, and no buffer is written (sections 3 and 7)
 pub record Waits (before : Records) : Type 0 where
   pub events : (k a b : ℕ) → tells before (giveEvent k a b) ≡ record { number = 18; detail = 0; buffer = [] }
   pub panels : (buffer : List ℕ) → tells before (drawPanel buffer) ≡ record { number = 18; detail = 0; buffer = buffer }

@@ -18,7 +18,7 @@ use Rattle.layout.specs.Sound.{sound}
 use Rattle.layout.specs.Load.{load}
 use Rattle.layout_facts.proofs.Loaded.{loaded-sound}
 use Rattle.fitted.specs.declared.Fitting.{Fitting}
-use Rattle.fitted.specs.Numbers.{none, numbersFrom, fromPlace, numbersOf}
+use Rattle.fitted.specs.Numbers.{noNumbers, numbersFrom, fromPlace, numbersOf}
 use Rattle.fitted.specs.Fitted.{Among, equipped, fitBy, fit}
 use Rattle.fitted.specs.InUse.{InUse}
 use Rattle.fitted.proofs.Equipped.{equipped-none, equipped-sound}
@@ -164,7 +164,7 @@ refused-prints panel layoutFile fittedFile file h = sym (if-ne _ 0 _ _ _ h refl)
 pub nothing-fitted-prints : (panel : Bool) (layoutFile file : List ℕ)
     → printed panel layoutFile [] file
     ≡ if eqb (load layoutFile .number) 0 then listOn panel (load layoutFile .layout) file else faultLine layoutWord (load layoutFile .number) (load layoutFile .detail)
-unfolding printed printedBy fit fitBy numbersOf fromPlace numbersFrom none if_then_else_
+unfolding printed printedBy fit fitBy numbersOf fromPlace numbersFrom noNumbers if_then_else_
 nothing-fitted-prints panel layoutFile file = rw (equipped-none layoutFile)
 
 module _ (layoutFile fittedFile : List ℕ) (h : load layoutFile .number ≡ 0) where

@@ -103,7 +103,8 @@ fn so_far(state: State, count: u64, at: usize, written: usize) -> Piece
 }
 
 // A run over a piece of the file from a place on, from a state that was asked for soundness with its layout before the file's first event.
-// The nine tables and the heads go apart, so that an event copies only the heads that it names, and stores them only where it is of heads (request L1).
+// The nine tables and the heads go apart, so that an event copies only the heads that it names, and stores them only from the first kind of heads on
+// (request L1): below it nothing changes them.
 pub fn run_piece(
     panel: bool,
     layout: Layout,

@@ -21,7 +21,7 @@ use Rattle.numbers.proofs.Further.{further, inside-further, number-further}
 use Rattle.layout.specs.declared.Layout.{Layout}
 use Rattle.fitted.specs.declared.Told.{Told}
 use Rattle.fitted.specs.declared.Piece.{Piece}
-use Rattle.fitted.specs.Numbers.{Numbers, none, before, numbersNext, numbersFrom, fromPlace}
+use Rattle.fitted.specs.Numbers.{Numbers, noNumbers, before, numbersNext, numbersFrom, fromPlace}
 use Rattle.fitted.specs.Fitted.{fit, noneTold, tellAll}
 use Rattle.fitted.specs.Pieces.{stopOf, ended, pieceOf, inFile, toldInReads, fitInReads}
 use Rattle.fitted.proofs.FromPlace.{more-same, from-value, from-fault}
@@ -37,17 +37,17 @@ module _ (front s : List ℕ) where
   -- a number and those that follow it, or a fault
   next-moved : (rest more : ℕ → Numbers) → ((next : ℕ) → more (length front + next) ≡ moved (length front) (rest next))
       → (x : Number) → numbersNext more (further (length front) x) ≡ moved (length front) (numbersNext rest x)
-  unfolding numbersNext before none
+  unfolding numbersNext before noNumbers
   next-moved rest more same (Value value next) = ap (before value) (same next)
   next-moved rest more same (Fault number place) = refl
 
   -- by the numbers that are allowed
   numbers-moved : (m at : ℕ) → numbersFrom m (front ++ s) (length front + at) ≡ moved (length front) (numbersFrom m s at)
-  unfolding numbersFrom none
+  unfolding numbersFrom noNumbers
   numbers-moved zero at = refl
   numbers-moved (suc m) at =
       rw (inside-further front s at, number-further front s at, next-moved (numbersFrom m s) (numbersFrom m (front ++ s)) (numbers-moved m) (numberAt s at))
-      (if-under (moved (length front)) (ltb at (length s)) (numbersNext (numbersFrom m s) (numberAt s at)) (none 0 at))
+      (if-under (moved (length front)) (ltb at (length s)) (numbersNext (numbersFrom m s) (numberAt s at)) (noNumbers 0 at))
 
   -- the numbers of a string are found behind the other bytes
   from-moved : (at : ℕ) → fromPlace (front ++ s) (length front + at) ≡ moved (length front) (fromPlace s at)
@@ -71,14 +71,14 @@ module _ (xs ys : List ℕ) where
       ⊎ ((r .fault ≡ 22 → ⊥) × (after (r .list) (fromPlace (xs ++ ys) (r .place)) ≡ fromPlace (xs ++ ys) at))
 
   -- no number, with no fault but that the prefix ends
-  goes-none : (at fault place : ℕ) → (fault ≡ 22 → ⊥) → place ≡ at → Goes at (none fault place)
-  unfolding none
+  goes-none : (at fault place : ℕ) → (fault ≡ 22 → ⊥) → place ≡ at → Goes at (noNumbers fault place)
+  unfolding noNumbers
   goes-none at fault place d e = inr (d, ap (fromPlace (xs ++ ys)) e)
 
   -- by what stands at a place inside the prefix
   next-goes : (rest : ℕ → Numbers) → ((next : ℕ) → Goes next (rest next)) → (at : ℕ) → at < length xs
       → (x : Number) → x ≡ numberAt xs at → Kept x (numberAt (xs ++ ys) at) → Goes at (numbersNext rest x)
-  unfolding numbersNext before none
+  unfolding numbersNext before noNumbers
   next-goes rest on at h x e (inl (place, f)) = rw f (goes-none at 21 place (λ z. absurd (omega arith)) (fault-place xs at e f))
   next-goes rest on at h (Value value next) e (inr f) =
       let q = from-value (xs ++ ys) at (omega (arith, length-append xs ys)) (sym f) in
@@ -102,13 +102,13 @@ module _ (s : List ℕ) where
   -- behind a number, or at a fault
   next-inside : (rest : ℕ → Numbers) → ((next : ℕ) → next ≤ length s → rest next .place ≤ length s) → (at : ℕ) → at ≤ length s
       → (x : Number) → x ≡ numberAt s at → numbersNext rest x .place ≤ length s
-  unfolding numbersNext before none
+  unfolding numbersNext before noNumbers
   next-inside rest on at h (Value value next) e = on next (number-inside s at e refl)
   next-inside rest on at h (Fault number place) e = omega (arith, fault-place s at e refl)
 
   -- by the numbers that are allowed
   place-inside : (m at : ℕ) → at ≤ length s → numbersFrom m s at .place ≤ length s
-  unfolding numbersFrom none
+  unfolding numbersFrom noNumbers
   place-inside zero at h = h
   place-inside (suc m) at h =
       if-both (λ (r : Numbers). r .place ≤ length s) (ltb at (length s)) (λ t. next-inside (numbersFrom m s) (place-inside m) at h (numberAt s at) refl) (λ t. h)

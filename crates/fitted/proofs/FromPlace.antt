@@ -13,7 +13,7 @@ use Rattle.numbers.specs.declared.Number.{Number}
 use Rattle.numbers.specs.declared.Number.the-variants.{Value, Fault}
 use Rattle.numbers.specs.Number.{numberAt}
 use Rattle.numbers.proofs.Readings.{number-after}
-use Rattle.fitted.specs.Numbers.{none, before, numbersNext, numbersFrom, fromPlace}
+use Rattle.fitted.specs.Numbers.{noNumbers, before, numbersNext, numbersFrom, fromPlace}
 
 module _ (file : List ℕ) where
   -- a number takes a byte or more, so what is left is enough for what follows it
@@ -27,7 +27,7 @@ module _ (file : List ℕ) where
   one-more : (m at : ℕ) → length file ≤ m + at → numbersFrom (suc m) file at ≡ numbersFrom m file at
   unfolding numbersFrom
   one-more zero at h = passed-over (ltb at (length file)) _ _ (le-ltb at (length file) (omega arith))
-  one-more (suc m) at h = ap (λ r. if ltb at (length file) then r else none 0 at) (next-more m at (one-more m) (numberAt file at) refl h)
+  one-more (suc m) at h = ap (λ r. if ltb at (length file) then r else noNumbers 0 at) (next-more m at (one-more m) (numberAt file at) refl h)
 
   -- so any more numbers may be allowed
   pub more-same : (k m at : ℕ) → length file ≤ m + at → numbersFrom (k + m) file at ≡ numbersFrom m file at
@@ -36,7 +36,7 @@ module _ (file : List ℕ) where
 
   module _ (at : ℕ) where
     -- at the file's end or past it there are none
-    pub from-end : length file ≤ at → none 0 at ≡ fromPlace file at
+    pub from-end : length file ≤ at → noNumbers 0 at ≡ fromPlace file at
     unfolding fromPlace numbersFrom
     from-end h = if-ge at (length file) _ _ _ h refl
 
@@ -51,6 +51,6 @@ module _ (file : List ℕ) where
     from-value h e = ap (numbersNext (fromPlace file)) (sym e) ∙ from-next h
 
     -- a fault
-    pub from-fault : {m place : ℕ} → at < length file → numberAt file at ≡ Fault m place → none m place ≡ fromPlace file at
+    pub from-fault : {m place : ℕ} → at < length file → numberAt file at ≡ Fault m place → noNumbers m place ≡ fromPlace file at
     unfolding numbersNext
     from-fault h e = ap (numbersNext (fromPlace file)) (sym e) ∙ from-next h

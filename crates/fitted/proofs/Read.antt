@@ -15,7 +15,7 @@ use Rattle.numbers.proofs.Cases.{number-same}
 use Rattle.numbers.proofs.Readings.{number-after}
 use Rattle.fitted.specs.declared.Told.{Told}
 use Rattle.fitted.specs.declared.Piece.{Piece}
-use Rattle.fitted.specs.Numbers.{Numbers, none, before}
+use Rattle.fitted.specs.Numbers.{Numbers, noNumbers, before}
 use Rattle.fitted.specs.Fitted.{withTold, lackingWith, tell, tellAll}
 use Rattle.fitted.specs.Pieces.{ended, pieceOf, answer}
 use Rattle.fitted.proofs.FromPlace.{from-end, from-value, from-fault}
@@ -44,13 +44,13 @@ module _ (sections : ℕ) (last : Bool) (bytes : List ℕ) (t : Told) (at : ℕ)
 
   -- the end of the bytes
   pub piece-end : {r : Piece} → length bytes ≤ at → r ≡ ended last t at 0 → r ≡ q
-  unfolding pieceOf none tellAll
+  unfolding pieceOf noNumbers tellAll
   piece-end h e = e ∙ ap by (from-end bytes at h) ∙ whole
 
   module _ (n : Number) (h : at < length bytes) (e : numberTold n ≡ numberTold (numberAt bytes at)) where
     -- a fault
     pub piece-fault : {m place : ℕ} {r : Piece} → n ≡ Fault m place → r ≡ ended last t place m → r ≡ q
-    unfolding pieceOf none tellAll
+    unfolding pieceOf noNumbers tellAll
     piece-fault f g = g ∙ ap by (from-fault bytes at h (sym (number-same _ _ e) ∙ f)) ∙ whole
 
     -- a number is told, and what follows it is the rest

@@ -17,7 +17,7 @@ use Rattle.layout.specs.declared.Layout.{Layout}
 use Rattle.fitted.specs.declared.Told.{Told}
 use Rattle.fitted.specs.declared.Piece.{Piece}
 use Rattle.fitted.specs.declared.Fitting.{Fitting}
-use Rattle.fitted.specs.Numbers.{Numbers, none, before, numbersNext, numbersFrom, fromPlace, numbersOf}
+use Rattle.fitted.specs.Numbers.{Numbers, noNumbers, before, numbersNext, numbersFrom, fromPlace, numbersOf}
 use Rattle.fitted.specs.Fitted.{withTold, equipped, fitBy, noneTold, tellAll, fit}
 use Rattle.fitted.specs.Pieces.{stopOf, ended, pieceOf, answer}
 use Rattle.fitted.proofs.Telling.{told-is}
@@ -29,13 +29,13 @@ Known n = (n ≡ 0) ⊎ ((n ≡ 21) ⊎ (n ≡ 22))
 module _ (file : List ℕ) where
   -- by what stands at a place
   next-known : (rest : ℕ → Numbers) → ((next : ℕ) → Known (rest next .fault)) → (at : ℕ) (x : Number) → x ≡ numberAt file at → Known (numbersNext rest x .fault)
-  unfolding numbersNext before none
+  unfolding numbersNext before noNumbers
   next-known rest known at (Value value next) e = known next
   next-known rest known at (Fault number place) e = inr (⊎-elim (λ z. inr z) (λ z. inl (z .0)) (fault-number file at e refl))
 
   -- by the numbers that are allowed
   numbers-known : (m at : ℕ) → Known (numbersFrom m file at .fault)
-  unfolding numbersFrom none
+  unfolding numbersFrom noNumbers
   numbers-known zero at = inl refl
   numbers-known (suc m) at =
       if-both (λ (r : Numbers). Known (r .fault)) (ltb at (length file)) (λ t. next-known (numbersFrom m file) (numbers-known m) at (numberAt file at) refl) (λ t. inl refl)

@@ -15,8 +15,8 @@ pub record Numbers : Type 0 where
   pub place : ℕ
 
 -- no number
-unfoldable pub none : ℕ → ℕ → Numbers
-none fault place = record { list = []; fault = fault; place = place }
+unfoldable pub noNumbers : ℕ → ℕ → Numbers
+noNumbers fault place = record { list = []; fault = fault; place = place }
 
 -- a number before others
 unfoldable pub before : ℕ → Numbers → Numbers
@@ -25,12 +25,12 @@ before n r = record { list = n ∷ r .list; fault = r .fault; place = r .place }
 -- by what stands at a place: a number and those that follow it; a fault ends them
 unfoldable pub numbersNext : (ℕ → Numbers) → Number → Numbers
 numbersNext rest (Value value next) = before value (rest next)
-numbersNext rest (Fault number place) = none number place
+numbersNext rest (Fault number place) = noNumbers number place
 
 -- the numbers from a place of the file on, so many at most
 unfoldable pub numbersFrom : ℕ → List ℕ → ℕ → Numbers
-numbersFrom zero file at = none 0 at
-numbersFrom (suc most) file at = if ltb at (length file) then numbersNext (numbersFrom most file) (numberAt file at) else none 0 at
+numbersFrom zero file at = noNumbers 0 at
+numbersFrom (suc most) file at = if ltb at (length file) then numbersNext (numbersFrom most file) (numberAt file at) else noNumbers 0 at
 
 -- all of them: a file has no more numbers than bytes, and one more place to end at
 unfoldable pub fromPlace : List ℕ → ℕ → Numbers

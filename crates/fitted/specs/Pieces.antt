@@ -12,8 +12,8 @@ use Rattle.fitted.specs.declared.Fitting.{Fitting}
 use Rattle.fitted.specs.Numbers.{Numbers, fromPlace}
 use Rattle.fitted.specs.Fitted.{withTold, noneTold, tellAll}
 
--- why reading ended, at a fault or, where it is 0, at the end of the bytes: 22 a bad number; 2 the next number lies past the end of a piece that is
--- not the file's last; 3 the file's end; 21 it ends inside a number
+-- why reading ended, by the fault that was met, 0 where the bytes ended: 22 a bad number; 2 the next number lies past the end of a piece that is not the
+-- file's last; 3 the file's end; 21 it ends inside a number
 unfoldable pub stopOf : Bool → ℕ → ℕ
 stopOf last fault = if eqb fault 22 then 22 else if last then (if eqb fault 0 then 3 else fault) else 2
 

@@ -37,15 +37,15 @@ pub fn none_told() -> Told
     Told { fitted, lacking: 0 }
 }
 
-// The table of heads with 1 at n, where it has such a place.
-fn with_head(fitted: [u8; SECTIONS], n: u64) -> [u8; SECTIONS]
+// The table of fitted sections with 1 at n, where it has such a place.
+fn with_section(fitted: [u8; SECTIONS], n: u64) -> [u8; SECTIONS]
     ensures { λ r. ⌜ r ≡ set fitted n 1 ⌝ }
 {
-    let mut heads = fitted;
+    let mut told = fitted;
     if n < SECTIONS as u64 {
-        heads[n as usize] = 1;
+        told[n as usize] = 1;
     }
-    heads
+    told
 }
 
 // Whether a section is lacking, when n is told too.
@@ -63,7 +63,7 @@ fn tell(sections: u8, t: Told, n: u64) -> Told
     ensures { λ r. ⌜ r ≡ tell sections t n ⌝ }
 {
     let before = t.fitted;
-    let fitted = with_head(before, n);
+    let fitted = with_section(before, n);
     let lacking = lacking_with(sections, t.lacking, n);
     Told { fitted, lacking }
 }

@@ -35,7 +35,7 @@ pub record Unknown (k : ℕ) : Type 0 where
   pub no-silent : k ≢ headSilent
   pub no-reset : k ≢ resetAxles
 
--- the rows, each with its kind, x and y being the heads of its section before and after; a kind that is none of these has no row
+-- the rows, each with its kind, x and y being the heads of the section that it names, before and after; a kind that is none of these has no row
 pub data RowKind (L : Layout) (s : State) (x y : Axles) (a b k : ℕ) : Row → Type 0 where
   section-row : k ≡ readSection → RowKind L s x y a b k (sectionRow L s a b)
   point-row : k ≡ readPoint → RowKind L s x y a b k (pointRow L s a b)
@@ -112,16 +112,16 @@ module _ (k a : ℕ) where
   reset-named q = chosen _ a (a / 2) (eq-eqb k resetAxles q)
 
 -- a kind that is none of the four is not of heads
-pub no-heads : {k : ℕ} → k ≢ axlesIn → k ≢ axlesOut → k ≢ headSilent → k ≢ resetAxles → (axlesIn ≤ k) × (k ≤ resetAxles) → ⊥
-no-heads p q r s h = omega arith
+pub kind-of-no-heads : {k : ℕ} → k ≢ axlesIn → k ≢ axlesOut → k ≢ headSilent → k ≢ resetAxles → (axlesIn ≤ k) × (k ≤ resetAxles) → ⊥
+kind-of-no-heads p q r s h = omega arith
 
--- a row does this with the heads of section g, and gives the section what they then say
-abbrev OfHeads : Layout → State → ℕ → Axles → Row → Type 0
-OfHeads L s g y row = (row .does ≡ ownHeads (L .line) (L .lines) s g y) × (row .gives ≡ givesReading g (axlesReading y))
+-- a row makes the heads of section g y, and gives the section what they then say
+abbrev HeadsRow : Layout → State → ℕ → Axles → Row → Type 0
+HeadsRow L s g y row = (row .does ≡ ownHeads (L .line) (L .lines) s g y) × (row .gives ≡ givesReading g (axlesReading y))
 
 -- each of the four rows does so with the section that its event names
 pub heads-row : {L : Layout} {s : State} {k a b : ℕ} {row : Row} → OfKind L s a b k row → (axlesIn ≤ k) × (k ≤ resetAxles)
-    → OfHeads L s (headSection k a) (headsBy (headsOf s k a) k a b) row
+    → HeadsRow L s (headSection k a) (headsBy (headsOf s k a) k a b) row
 unfolding headRow countRow silentRow resetRow
 heads-row {k = k} {a = a} (count-row (inl q)) h = rw (head-named k a (omega arith)) (refl, refl)
 heads-row {k = k} {a = a} (count-row (inr q)) h = rw (head-named k a (omega arith)) (refl, refl)
@@ -137,7 +137,7 @@ heads-row (manual-row q) h = absurd (omega arith)
 heads-row (bar-row q) h = absurd (omega arith)
 heads-row (unbar-row q) h = absurd (omega arith)
 heads-row (second-row q) h = absurd (omega arith)
-heads-row (no-row u) h = absurd (no-heads (u .no-in) (u .no-out) (u .no-silent) (u .no-reset) h)
+heads-row (no-row u) h = absurd (kind-of-no-heads (u .no-in) (u .no-out) (u .no-silent) (u .no-reset) h)
 
 -- ---- no row
 

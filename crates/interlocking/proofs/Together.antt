@@ -17,7 +17,7 @@ use Rattle.track.specs.Codes.{headSilent, resetAxles}
 use Rattle.track.specs.Sizes.{mostSections}
 use Rattle.track.specs.Lists.{between}
 use Rattle.axles.specs.declared.Axles.{Axles}
-use Rattle.axles.specs.Heads.{noAxles}
+use Rattle.axles.specs.Heads.{coldHeads}
 use Rattle.layout.specs.declared.Layout.{Layout}
 use Rattle.reasons.specs.declared.Refusal.{Refusal}
 use Rattle.reasons.specs.Refusal.{refused, noRefusal, refusedIf, firstOf}
@@ -30,7 +30,7 @@ use Rattle.interlocking.specs.Own.{ownSection, ownPoint, ownThrow, ownSe
 use Rattle.interlocking.specs.Rows.{Row, sectionRow, pointRow, throwRow, setRow, cancelRow, secureRow, manualRow, barRow, secondRow, headRow, countRow, silentRow, stillSilent, resetRow, noRow, rowWith, rowOf}
 use Rattle.interlocking.specs.Step.{rowRefusal, answeredBy, stepWhere}
 use Rattle.interlocking.specs.Parts.{coreOf, bare, moves, stays, tried, isOfHeads, headsThen, headPlace, followed, coreStep, together}
-use Rattle.interlocking.proofs.Rows.{OfKind, section-row, point-row, throw-row, set-row, cancel-row, secure-row, manual-row, bar-row, unbar-row, second-row, count-row, silent-row, reset-row, no-row, row-unknown, row-of, head-named, reset-named, no-heads}
+use Rattle.interlocking.proofs.Rows.{OfKind, section-row, point-row, throw-row, set-row, cancel-row, secure-row, manual-row, bar-row, unbar-row, second-row, count-row, silent-row, reset-row, no-row, row-unknown, row-of, head-named, reset-named, kind-of-no-heads}
 use Rattle.interlocking.proofs.Lifted.{settle-parts}
 
 -- ---- rows of the parts and of the whole
@@ -120,7 +120,7 @@ module _ (t : Bool) (L : Layout) (s : State) (k a b : ℕ) (x : Axles) (of : isO
   unfolding headPlace headsOf headsAt
   there h =
       let p = chosen _ (headSection k a) 0 (and-both _ _ of (lt-ltb _ _ h)) in
-      (p, at ∙ ap (λ i. getD (s .axles) i d) p ∙ read-in (s .axles) (headSection k a) mostSections d noAxles len h)
+      (p, at ∙ ap (λ i. getD (s .axles) i d) p ∙ read-in (s .axles) (headSection k a) mostSections d coldHeads len h)
 
   -- a row of the heads of section g, with f besides in the parts and h in the whole
   alike-rows : (missing wrong : Bool) (f h : Refusal) → (mostSections ≤ headSection k a → t ≡ true → missing ≡ true) → (x ≡ headsOf s k a → f ≡ h)
@@ -183,7 +183,7 @@ module _ (t : Bool) (L : Layout) (s : State) (k a b : ℕ) (x : Axles) (of : isO
   of-its-heads (bar-row q) = absurd (omega (arith, kinds .0))
   of-its-heads (unbar-row q) = absurd (omega (arith, kinds .0))
   of-its-heads (second-row q) = absurd (omega (arith, kinds .0))
-  of-its-heads (no-row u) = absurd (no-heads (u .no-in) (u .no-out) (u .no-silent) (u .no-reset) kinds)
+  of-its-heads (no-row u) = absurd (kind-of-no-heads (u .no-in) (u .no-out) (u .no-silent) (u .no-reset) kinds)
 
 -- ---- either
 

@@ -150,7 +150,7 @@ secondRow s a b = record {
   gives = aSecond;
 }
 
--- what a section's heads say after an event: they become y, and the section is given what they say (L1)
+-- an event of the heads of section g, which become y: the section is given what they then say (L1)
 unfoldable pub headRow : Layout → State → Axles → ℕ → Bool → Bool → Refusal → Row
 headRow L s y g missing wrong besides = record {
   missing = missing;

@@ -9,7 +9,7 @@ use Rattle.track.specs.Sizes.{mostSections, mostPoints, mostLines, mostPlaces, 
 use Rattle.track.specs.Lists.{between}
 use Rattle.tables.specs.Tables.{Tables}
 use Rattle.axles.specs.declared.Axles.{Axles}
-use Rattle.axles.specs.Heads.{noAxles}
+use Rattle.axles.specs.Heads.{coldHeads}
 use Rattle.interlocking.specs.declared.State.{State}
 
 -- the cold start: everything reads none, no order, no route, no line secured, every block held in stage 0, no bar, every head silent
@@ -24,12 +24,12 @@ cold = record {
   direction = replicate mostLines neutral;
   stage = replicate mostPlaces stage0;
   bar = replicate mostPlaces 0;
-  axles = replicate mostSections noAxles;
+  axles = replicate mostSections coldHeads;
 }
 
 -- the heads of section g in a table of sections; those of the cold start where there is no such section
 unfoldable pub headsAt : List Axles → ℕ → Axles
-headsAt xs g = getD xs g noAxles
+headsAt xs g = getD xs g coldHeads
 
 -- every entry of a table of n lies in low .. high
 unfoldable pub codes : ℕ → ℕ → ℕ → List ℕ → Bool

@@ -10,7 +10,7 @@ mod trial;
 
 use answering::answered;
 use axles::Axles;
-use axles::no_axles;
+use axles::cold_heads;
 use layout::Layout;
 use parts::core_of;
 use parts::head_place;
@@ -112,7 +112,7 @@ impl State {
     pub fn cold() -> State
         ensures { λ s. ⌜ s ≡ cold ⌝ }
     {
-        let heads = no_axles();
+        let heads = cold_heads();
         State {
             section: [NONE; SECTIONS],
             point: [NONE; POINTS],

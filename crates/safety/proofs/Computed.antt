@@ -30,11 +30,12 @@ use Rattle.refusals.specs.Orders.{throwRefusal, exitRefusal, routeRefusal, setR
 use Rattle.refusals.specs.Events.{numbersRefusal}
 use Rattle.interlocking.specs.State.{cold, codes, routesAndLinesInRange, inRange, headsAt, withSections, withPoints, withRoutes, withLines, withBars, withAxles}
 use Rattle.interlocking.specs.Own.{ownGiven, ownStageAt, ownSection, ownPoint, throwReading, ownThrow, ownSet, ownCancel, ownSecure, openAt, ownManual, ownBar, headSection, headsOf, headsBy, ownHeads}
+use Rattle.interlocking.specs.Parts.{isOfHeads}
 use Rattle.interlocking.specs.Settle.{fallenAt, signals, proceedsIn, farSections, lockingOf, routeAfter, unlessIdle, routesBy, routes, lineRelease, settle}
 use Rattle.interlocking.specs.Rows.{nothing, givesReading, aSecond, sectionRow, pointRow, throwRow, setRow, cancelRow, secureRow, manualRow, barRow, secondRow, headRow, countRow, silentRow, resetRow, stillSilent, noRow, rowWith, rowOf}
 use Rattle.interlocking.specs.Step.{rowRefusal, answeredBy, stepWhere, step, askedInRun, stepInRun, refusal, own, gives, after}
 use Rattle.axles.specs.Rounds.{around, signed}
-use Rattle.axles.specs.Heads.{noHead, noAxles, speaks, speaking, headAfter, net, number, readingOf, occupies, resets, sumAfter, proofAfter, withProof, proves, judged, axlesAfter, known, axlesReading}
+use Rattle.axles.specs.Heads.{silentHead, coldHeads, speaks, speaking, headAfter, net, number, readingOf, occupies, resets, sumAfter, proofAfter, withProof, proves, judged, axlesAfter, known, axlesReading}
 use Rattle.axles.specs.Heads as heads
 use Rattle.axles.specs.HeadLog.{says, hasTold, lastTold, bothSpeak, netTold, isReset, resetsIn, netAtReset, numberTold, occupiesTold, wasReset, provedTold, readingTold}
 use Rattle.panel.specs.Panel.{blocks, routeByte, blockBytes, lineBytes, image, panelLength, drawnWhere, drawn}
@@ -72,8 +73,8 @@ runComputed = 0
 -- whoever unfolds this besides unfolds all that fitted sections, heads and the logs of them are made of (L1)
 unfoldable pub headsComputed : ℕ
 unfolding equipped withTold toldBy isTold lacks anyOf bit around signed
-    noHead noAxles speaks speaking headAfter net number readingOf occupies resets sumAfter proofAfter heads.told withProof proves judged axlesAfter known axlesReading
+    silentHead coldHeads speaks speaking headAfter net number readingOf occupies resets sumAfter proofAfter heads.told withProof proves judged axlesAfter known axlesReading
     says hasTold lastTold bothSpeak netTold isReset resetsIn netAtReset numberTold occupiesTold wasReset provedTold readingTold
-    headsAt withAxles headSection headsOf headsBy ownHeads noHeads headRow countRow silentRow resetRow stillSilent
+    headsAt withAxles isOfHeads headSection headsOf headsBy ownHeads noHeads headRow countRow silentRow resetRow stillSilent
     named ofHeads saidOf takesEffect gaveByHeads headLog
 headsComputed = 0

@@ -14,7 +14,7 @@ use Rattle.laws.proofs.Choice.{if-both, chosen, passed-over}
 use Rattle.laws.proofs.Tests.{and-left, and-right, and-both, or-cases, implies-from}
 use Rattle.track.specs.Sizes.{mostSections}
 use Rattle.axles.specs.declared.Axles.{Axles}
-use Rattle.axles.specs.Heads.{noAxles, speaking, axlesAfter, axlesReading, headsAfter}
+use Rattle.axles.specs.Heads.{coldHeads, speaking, axlesAfter, axlesReading, headsAfterLog}
 use Rattle.axles.specs.HeadLog.{HeadLog, said, bothSpeak, readingTold}
 use Rattle.axles.proofs.HeadLog.{log-reads, log-speaks}
 use Rattle.axles.proofs.GivesNone.{refused-leaves}
@@ -125,24 +125,24 @@ module _ (g : ℕ) (m : Moment) (h : History) where
 
 -- what a log reads is free, occupied or none
 pub told-in : (es : HeadLog) → (1 ≤ readingTold es) × (readingTold es ≤ 3)
-told-in es = let q = log-reads es in omega (arith, heads-say-in (headsAfter es))
+told-in es = let q = log-reads es in omega (arith, heads-say-in (headsAfterLog es))
 
 -- a reset while a head is silent counts for nothing
-pub reset-lost : (e : Event) (es : HeadLog) → e .kind ≡ 14 → bothSpeak es ≡ false → headsAfter (saying e ∷ es) ≡ headsAfter es
-unfolding headsAfter
-reset-lost e es k f = refused-leaves (headsAfter es) (saying e) k (log-speaks es ∙ f)
+pub reset-lost : (e : Event) (es : HeadLog) → e .kind ≡ 14 → bothSpeak es ≡ false → headsAfterLog (saying e ∷ es) ≡ headsAfterLog es
+unfolding headsAfterLog
+reset-lost e es k f = refused-leaves (headsAfterLog es) (saying e) k (log-speaks es ∙ f)
 
 -- ---- what is held of heads
 
 -- each section of the tables has heads, and those of a fitted section that there is are as the log of them tells
 pub record HeadsHeld (L : Layout) (xs : List Axles) (h : History) : Type 0 where
   pub room : length xs ≡ mostSections
-  pub told : (g : ℕ) → g < L .sections → isFitted L g ≡ true → headsAt xs g ≡ headsAfter (headLog g h)
+  pub told : (g : ℕ) → g < L .sections → isFitted L g ≡ true → headsAt xs g ≡ headsAfterLog (headLog g h)
 
 -- at the cold start nothing was said
 pub cold-heads : (L : Layout) → L .sections ≤ mostSections → HeadsHeld L (cold .axles) []
-unfolding cold headsAt headLog headsAfter
-cold-heads L few = record { room = length-replicate mostSections noAxles; told = λ g b f. getD-replicate mostSections g noAxles noAxles (omega arith) }
+unfolding cold headsAt headLog headsAfterLog
+cold-heads L few = record { room = length-replicate mostSections coldHeads; told = λ g b f. getD-replicate mostSections g coldHeads coldHeads (omega arith) }
 
 module _ {L : Layout} {xs : List Axles} {h : History} (H : HeadsHeld L xs h) {g : ℕ} (there : g < L .sections) (fitted : isFitted L g ≡ true) where
   -- both heads speak where the log says so
@@ -150,8 +150,8 @@ module _ {L : Layout} {xs : List Axles} {h : History} (H : HeadsHeld L xs h) {g 
   speaks-told = ap speaking (H .told g there fitted) ∙ log-speaks (headLog g h)
 
   -- what becomes of them by an event that says something of them is what the log then tells: its count has 16 bits
-  pub heads-then : {e : Event} → SaidOf g e → headsBy (headsAt xs g) (e .kind) (e .first) (e .second) ≡ headsAfter (saying e ∷ headLog g h)
-  unfolding headsBy headsAfter
+  pub heads-then : {e : Event} → SaidOf g e → headsBy (headsAt xs g) (e .kind) (e .first) (e .second) ≡ headsAfterLog (saying e ∷ headLog g h)
+  unfolding headsBy headsAfterLog
   heads-then {e} x =
       let n : e .second % 65536 ≡ e .second = omega (arith, said-few x) in
       ap (λ k. axlesAfter (headsAt xs g) (said (e .kind) (e .first % 2) k)) n ∙ ap (λ y. axlesAfter y (saying e)) (H .told g there fitted)

@@ -10,7 +10,7 @@ use Rattle.laws.specs.Tests.{_and_}
 use Rattle.laws.proofs.Choice.{Is, holds, fails, which}
 use Rattle.laws.proofs.Tests.{not-both}
 use Rattle.track.specs.Sizes.{mostSections}
-use Rattle.axles.specs.Heads.{headsAfter}
+use Rattle.axles.specs.Heads.{headsAfterLog}
 use Rattle.layout.specs.declared.Layout.{Layout}
 use Rattle.layout.specs.Layout.{isFitted}
 use Rattle.layout.specs.Sound.{sound}
@@ -31,7 +31,7 @@ pub heads-accepted : (L : Layout) → L .sections ≤ mostSections → (s : Stat
     → refusal (sound L and inRange s) L s (e .kind) (e .first) (e .second) .number ≡ 0 → HeadsHeld L (end L s e .axles) (granted L s e ∷ h)
 heads-accepted L few s h H e pass = record { room = heads-many L s e ∙ H .room; told = λ g b f. go g b f (which (saidOf g e)) }
   where
-    go : (g : ℕ) → g < L .sections → isFitted L g ≡ true → Is (saidOf g e) → headsAt (end L s e .axles) g ≡ headsAfter (headLog g (granted L s e ∷ h))
+    go : (g : ℕ) → g < L .sections → isFitted L g ≡ true → Is (saidOf g e) → headsAt (end L s e .axles) g ≡ headsAfterLog (headLog g (granted L s e ∷ h))
     go g b f (holds t) =
         let x : SaidOf g e = said-is t in
         let here : g ≡ headSection (e .kind) (e .first) = said-one x (said-passed L s e pass (said-kinds x)) in
@@ -46,9 +46,9 @@ pub heads-refused : (L : Layout) → sound L ≡ true → (s : State) → inRang
     → refusal (sound L and inRange s) L s (m .event .kind) (m .event .first) (m .event .second) .number ≢ 0 → HeadsHeld L (s .axles) (m ∷ h)
 heads-refused L ok s ranged m h H d = record { room = H .room; told = λ g b f. go g b f (which (saidOf g (m .event))) }
   where
-    go : (g : ℕ) → g < L .sections → isFitted L g ≡ true → Is (saidOf g (m .event)) → headsAt (s .axles) g ≡ headsAfter (headLog g (m ∷ h))
+    go : (g : ℕ) → g < L .sections → isFitted L g ≡ true → Is (saidOf g (m .event)) → headsAt (s .axles) g ≡ headsAfterLog (headLog g (m ∷ h))
     go g b f (holds t) =
         let x : SaidOf g (m .event) = said-is t in
         let (k, silent) = refused-said L ok s ranged (m .event) d g b f x in
-        H .told g b f ∙ sym (ap headsAfter (log-said g m h x) ∙ reset-lost (m .event) (headLog g h) k (sym (speaks-told H b f) ∙ silent))
-    go g b f (fails t) = H .told g b f ∙ ap headsAfter (sym (log-unsaid g m h t))
+        H .told g b f ∙ sym (ap headsAfterLog (log-said g m h x) ∙ reset-lost (m .event) (headLog g h) k (sym (speaks-told H b f) ∙ silent))
+    go g b f (fails t) = H .told g b f ∙ ap headsAfterLog (sym (log-unsaid g m h t))

@@ -10,7 +10,7 @@ use Rattle.laws.specs.Choice.{if_then_else_}
 use Rattle.laws.specs.Tests.{_and_, every}
 use Rattle.laws.proofs.Choice.{Is, holds, fails, which}
 use Rattle.laws.proofs.Tests.{not-both}
-use Rattle.axles.specs.Heads.{speaking, number, axlesReading, headsAfter}
+use Rattle.axles.specs.Heads.{speaking, number, axlesReading, headsAfterLog}
 use Rattle.axles.specs.HeadLog.{HeadLog, hasTold, bothSpeak, readingTold}
 use Rattle.axles.proofs.HeadLog.{log-reads, log-speaks, log-number}
 use Rattle.layout.specs.declared.Layout.{Layout}
@@ -76,7 +76,7 @@ reads-by-heads L g b f (m ∷ h) = reads-on L g b f m h (reads-by-heads L g b f 
 pub heads-told : HeadsTold
 heads-told L ok es g b f =
     let log : HeadLog = headLog g (history L es) in
-    let held : headsAt (fromCold L es .axles) g ≡ headsAfter log = run-has L ok es .heads .told g b f in
+    let held : headsAt (fromCold L es .axles) g ≡ headsAfterLog log = run-has L ok es .heads .told g b f in
     record {
       speaks = ap speaking held ∙ log-speaks log;
       counts = ap number held ∙ log-number log;

@@ -9,7 +9,6 @@ use lib.ListN.{getD}
 use Rattle.laws.specs.Choice.{if_then_else_}
 use Rattle.laws.proofs.Choice.{if-both, passed-over}
 use Rattle.laws.proofs.Tests.{not-both}
-use Rattle.track.specs.Lists.{between}
 use Rattle.tables.specs.declared.Gives.{Gives}
 use Rattle.layout.specs.declared.Layout.{Layout}
 use Rattle.layout_facts.specs.BranchT.{branchT}
@@ -18,6 +17,7 @@ use Rattle.layout_facts.proofs.Lists.{between-means}
 use Rattle.fitted.specs.InUse.{InUse}
 use Rattle.interlocking.specs.declared.State.{State}
 use Rattle.interlocking.specs.Own.{headsOf, headsBy, ownHeads}
+use Rattle.interlocking.specs.Parts.{isOfHeads}
 use Rattle.interlocking.specs.Step.{own, gives}
 use Rattle.interlocking.proofs.Rows.{row-of, heads-row}
 use Rattle.step_facts.specs.Run.{Event, boxInRun}
@@ -27,7 +27,7 @@ use Rattle.safety.specs.LateBoxes.{aSection, Inexact}
 use Rattle.safety.specs.WrongGrants.{MisjudgedLast}
 use Rattle.safety.specs.WrongBoxes.{does}
 use Rattle.safety.specs.WrongRuns.{told, Each}
-use Rattle.safety.specs.WrongHeads.{ownWays, headsThen, sayThen, doesBy, givesBy, givesOwn, headsGo, minusOne, most256, fittedT, letInUnfree, letInUncleared, untoldHeads, readOfFitted, countOfUnfitted, resetInSilence}
+use Rattle.safety.specs.WrongHeads.{ownWays, headsBecome, theySay, doesBy, givesBy, givesOwn, headsGo, minusOneAsZero, take256As255, fittedT, letInUnfree, letInUncleared, untoldHeads, readOfFitted, countOfUnfitted, resetInSilence}
 use Rattle.safety.proofs.Computed.{runComputed, headsComputed}
 use Rattle.safety.proofs.WrongBoxes.{own-answer}
 use Rattle.safety.proofs.WrongGrants.{granted-asks}
@@ -48,18 +48,18 @@ fitted-in-use = record { file = branchT; told = 1 ∷ []; done = branchT-number;
 module _ (L : Layout) (s : State) (e : Event) where
   -- what an event does itself
   own-does : doesBy ownWays L s e ≡ does L s e
-  unfolding own ownHeads headsOf headsBy
+  unfolding own ownHeads headsOf headsBy isOfHeads
   own-does =
-      if-both (λ (t : State). t ≡ does L s e) (between 11 14 (e .kind))
-      (λ t. passed-over _ _ _ (ne-eqb (sayThen ownWays s e) 0 (λ z. omega (arith, heads-say-in (headsThen ownWays s e))))
+      if-both (λ (t : State). t ≡ does L s e) (isOfHeads (e .kind))
+      (λ t. passed-over _ _ _ (ne-eqb (theySay ownWays s e) 0 (λ z. omega (arith, heads-say-in (headsBecome ownWays s e))))
       ∙ sym (heads-row (row-of L s (e .kind) (e .first) (e .second)) (between-means 11 14 (e .kind) .0 t) .0))
       (λ f. refl)
 
   -- what it gives
   own-gives : givesBy ownWays L s e ≡ givesOwn L s e
-  unfolding gives headsOf headsBy
+  unfolding gives headsOf headsBy isOfHeads
   own-gives =
-      if-both (λ (g : Gives). g ≡ givesOwn L s e) (between 11 14 (e .kind))
+      if-both (λ (g : Gives). g ≡ givesOwn L s e) (isOfHeads (e .kind))
       (λ t. sym (heads-row (row-of L s (e .kind) (e .first) (e .second)) (between-means 11 14 (e .kind) .0 t) .1)) (λ f. refl)
 
   -- so the box whose heads go its own way is the box
@@ -70,12 +70,12 @@ module _ (L : Layout) (s : State) (e : Event) where
 
 -- the test of a clause, computed
 unfree-tested : passes (λ r. brokenTest isFree (r .layout) (told r)) letInUnfree ≡ true
-unfolding runComputed headsComputed minusOne most256 sameSignal
+unfolding runComputed headsComputed minusOneAsZero take256As255 sameSignal
 unfree-tested = refl
 
 -- and of another
 uncleared-tested : passes (λ r. brokenTest cleared (r .layout) (told r)) letInUncleared ≡ true
-unfolding runComputed headsComputed minusOne most256 sameSignal
+unfolding runComputed headsComputed minusOneAsZero take256As255 sameSignal
 uncleared-tested = refl
 
 -- after each run a signal shows proceed into a block that does not read free
@@ -90,7 +90,7 @@ wrong-heads-uncleared = each-passes _ (λ r. is-broken (r .layout) (told r) clea
 
 -- computed
 untold-tested : passes (λ r. inexactTest (r .layout) (told r) aSection) untoldHeads ≡ true
-unfolding runComputed headsComputed most256 differ
+unfolding runComputed headsComputed take256As255 differ
 untold-tested = refl
 
 -- after every run of the list a section does not show what the history tells

@@ -1,5 +1,5 @@
 -- Demand 3 the other way round: all that shows is told from the events and the numbers of their answers, so that a box that never opens a block, opens one
--- late, never lets a route go or never clears a signal is refused as one that is too early is. After each event of any run on any accepted layout each
+-- late, never lets a route go or never clears a signal is refused as one that is too early is. After each event of any run on any layout in use each
 -- byte of the panel image is what the history tells (sections 1 and 4 to 7). Of the bytes that showed only the drop of a passage asks, and those are told
 -- in the same way: `Only` proves that no second log is exact.
 --

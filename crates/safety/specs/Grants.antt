@@ -1,5 +1,5 @@
 -- Which events are accepted (section 3), told from the history: of each kind all that there must be. The number of the refusal that each line lifts
--- stands above it. On an accepted layout, in a run, nothing is refused by 18.
+-- stands above it. On a layout in use, in a run, nothing is refused by 18.
 --
 -- Read as `Demand3` says; h is what was before the event, a and b are its two numbers.
 use Prim.Native.Nat.{ℕ, _*_, _/_, _<_, _≤_}

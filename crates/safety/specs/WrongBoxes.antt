@@ -1,6 +1,7 @@
 -- Boxes that are wrong in one thing, for demand 3 to refuse: the step of a run with one of its parts done another way, as an error that looks reasonable
 -- would (section 9), or with one guard left out. `proofs/WrongBoxes` proves that with the step's own parts they are the step of a run, so each differs from
--- it in that alone; `WrongRuns` has a run of each that shows it. `WrongOrders` has the boxes that are wrong in what they refuse of an order.
+-- it in that alone; `WrongRuns` has a run of each that shows it. `WrongOrders` has the boxes that are wrong in what they refuse of an order, `WrongHeads` those
+-- that are wrong in axle counters.
 use Prim.Native.Nat.{ℕ, _*_, _/_, _%_}
 use mathlib.Core.Bool.{Bool, true, false, not}
 use mathlib.Core.List.{[], _∷_}

@@ -8,7 +8,6 @@ use lib.ListN.{set}
 use Rattle.laws.specs.Choice.{if_then_else_}
 use Rattle.laws.specs.Tests.{_and_, _or_}
 use Rattle.track.specs.Codes.{occupied, readsNone, readSection, axlesIn, headSilent, resetAxles}
-use Rattle.track.specs.Lists.{between}
 use Rattle.tables.specs.declared.Gives.{Gives}
 use Rattle.axles.specs.declared.Head.{Head}
 use Rattle.axles.specs.declared.Axles.{Axles}
@@ -23,6 +22,7 @@ use Rattle.reasons.specs.Refusal.{noRefusal}
 use Rattle.interlocking.specs.declared.State.{State}
 use Rattle.interlocking.specs.State.{headsAt, withAxles}
 use Rattle.interlocking.specs.Own.{headSection, ownSection}
+use Rattle.interlocking.specs.Parts.{isOfHeads}
 use Rattle.interlocking.specs.Settle.{settle}
 use Rattle.interlocking.specs.Rows.{givesReading}
 use Rattle.interlocking.specs.Step.{gives}
@@ -57,29 +57,29 @@ sectionOf e = headSection (e .kind) (e .first)
 abbrev sayingOf : Event → Said
 sayingOf e = said (e .kind) (e .first % 2) (e .second % 65536)
 
-abbrev pub headsThen : Ways → State → Event → Axles
-headsThen way s e = way .after (headsAt (s .axles) (sectionOf e)) (sayingOf e)
+abbrev pub headsBecome : Ways → State → Event → Axles
+headsBecome way s e = way .after (headsAt (s .axles) (sectionOf e)) (sayingOf e)
 
-abbrev pub sayThen : Ways → State → Event → ℕ
-sayThen way s e = way .says (headsThen way s e) (sayingOf e)
+abbrev pub theySay : Ways → State → Event → ℕ
+theySay way s e = way .says (headsBecome way s e) (sayingOf e)
 
 -- what an event does itself, its heads going this way
 abbrev pub doesBy : Ways → Layout → State → Event → State
 doesBy way L s e =
-    if between axlesIn resetAxles (e .kind) then
-    (if eqb (sayThen way s e) nothing then withAxles s (set (s .axles) (sectionOf e) (headsThen way s e))
-    else ownSection (L .line) (L .lines) (withAxles s (set (s .axles) (sectionOf e) (headsThen way s e))) (sectionOf e) (sayThen way s e))
+    if isOfHeads (e .kind) then
+    (if eqb (theySay way s e) nothing then withAxles s (set (s .axles) (sectionOf e) (headsBecome way s e))
+    else ownSection (L .line) (L .lines) (withAxles s (set (s .axles) (sectionOf e) (headsBecome way s e))) (sectionOf e) (theySay way s e))
     else does L s e
 
 -- and what it gives
 abbrev pub givesBy : Ways → Layout → State → Event → Gives
-givesBy way L s e = if between axlesIn resetAxles (e .kind) then givesReading (sectionOf e) (sayThen way s e) else givesOwn L s e
+givesBy way L s e = if isOfHeads (e .kind) then givesReading (sectionOf e) (theySay way s e) else givesOwn L s e
 
 -- the box whose heads go this way
 abbrev pub headsGo : Ways → Box
 headsGo way = settlesBy refuses (doesBy way) (givesBy way)
 
--- where only what heads say is another: the number by this
+-- where only what the heads say is another: their number is got in this way
 abbrev pub countsBy : (Axles → ℤ) → Box
 countsBy count = headsGo (record { after = axlesAfter; says = λ y e. if known y then readingOf (count y) else readsNone })
 
@@ -124,32 +124,36 @@ abbrev pub keepsReading : Box
 keepsReading = headsGo (record { after = axlesAfter; says = λ y e. if eqb (e .kind) headSilent then nothing else axlesReading y })
 
 -- -1 is taken as 0
-unfoldable pub minusOne : ℤ → ℤ
-minusOne (pos n) = pos n
-minusOne (negsuc n) = if eqb n 0 then pos 0 else negsuc n
+unfoldable pub minusOneAsZero : ℤ → ℤ
+minusOneAsZero (pos n) = pos n
+minusOneAsZero (negsuc n) = if eqb n 0 then pos 0 else negsuc n
 
 abbrev pub takesMinusOne : Box
-takesMinusOne = countsBy (λ y. minusOne (number y))
+takesMinusOne = countsBy (λ y. minusOneAsZero (number y))
 
 -- 256 is taken as 255
-unfoldable pub most256 : ℤ → ℤ
-most256 (pos n) = if eqb n 256 then pos 255 else pos n
-most256 (negsuc n) = negsuc n
+unfoldable pub take256As255 : ℤ → ℤ
+take256As255 (pos n) = if eqb n 256 then pos 255 else pos n
+take256As255 (negsuc n) = negsuc n
 
 abbrev pub takes256 : Box
-takes256 = countsBy (λ y. most256 (number y))
+takes256 = countsBy (λ y. take256As255 (number y))
 
 -- the number is not taken round 65,536
 abbrev pub neverRolls : Box
 neverRolls = countsBy (λ y. net y -ℤ pos (y .sum))
 
--- nor below 0: a difference that would be is 0
+-- the number stops at 0: a difference that would be below 0 is taken as 0, and none is taken round 65,536
 abbrev pub stopsAtZero : Box
 stopsAtZero = countsBy (λ y. pos (y .head0 .inward + y .head1 .inward - (y .head0 .outward + y .head1 .outward) - y .sum))
 
 -- 34 is not asked: a section with heads takes a reading of kind 1
 abbrev pub readsFitted : Box
 readsFitted = settlesBy (asksBy readSection (λ row. noRefusal) (λ row. row .besides)) does givesOwn
+
+-- 34 is answered, and the reading is stored all the same
+abbrev pub storesRefused : Box
+storesRefused L s e = let own = settlesBy refuses does givesOwn L s e in record { number = own .number; detail = own .detail; next = readsFitted L s e .next }
 
 -- 30 is not asked: a section without heads takes counts
 abbrev pub countsUnfitted : Box
@@ -214,6 +218,8 @@ letInUnfree =
     ∷ onFitted stopsAtZero (letOutAt 65534 ++ (event 11 2 0 ∷ []))
     -- 34 is not asked. The block is told free by a reading, its heads having told nothing
     ∷ onFitted readsFitted (others ++ (event 1 1 1 ∷ ordered))
+    -- 34 is answered, and the reading stored
+    ∷ onFitted storesRefused (others ++ (event 1 1 1 ∷ ordered))
     ∷ []
 
 -- and into one that was not cleared
@@ -232,7 +238,9 @@ untoldHeads =
     ∷ onFitted takes256 (provedAt 0 ++ (event 11 2 257 ∷ []))
     ∷ []
 
--- the runs whose last event is accepted and should not have been: 34 is not asked of a reading of the block
+-- ---- runs whose last event is accepted and should not have been
+
+-- 34 is not asked of a reading of the block
 abbrev pub readOfFitted : Run
 readOfFitted = onFitted readsFitted (event 1 1 1 ∷ [])
 

@@ -27,7 +27,7 @@ use Rattle.interlocking.specs.Step.{askedInRun}
 use Rattle.step_facts.specs.Run.{Event}
 use Rattle.safety.specs.WrongBoxes.{Box, stepBy, refuses, does}
 
--- what is refused, where an event of kind k is refused by this in place of 30 and 34 (L1), and by that besides
+-- what is refused, where of an event of kind k the first is asked in place of its row's 30 or 34 (L1), the second in place of what its row refuses besides
 abbrev pub asksBy : ℕ → (Row → Refusal) → (Row → Refusal) → Layout → State → Event → Refusal
 asksBy k misfit besides L s e =
     let row : Row = rowOf L s k (e .first) (e .second) in

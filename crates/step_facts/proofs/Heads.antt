@@ -24,8 +24,8 @@ use Rattle.step_facts.proofs.Within.{end, Done, reads, sets, cancels, s
 
 module _ (L : Layout) (s : State) (e : Event) where
   -- an event of heads
-  abbrev OfHeads : Type 0
-  OfHeads = (11 ≤ e .kind) × (e .kind ≤ 14)
+  abbrev KindOfHeads : Type 0
+  KindOfHeads = (11 ≤ e .kind) × (e .kind ≤ 14)
 
   -- the section that it names
   abbrev named : ℕ
@@ -37,7 +37,7 @@ module _ (L : Layout) (s : State) (e : Event) where
   end-axles = refl
 
   -- after an event of heads those of its section are what becomes of them
-  pub heads-here : OfHeads → named < length (s .axles) → headsAt (end L s e .axles) named ≡ headsBy (headsAt (s .axles) named) (e .kind) (e .first) (e .second)
+  pub heads-here : KindOfHeads → named < length (s .axles) → headsAt (end L s e .axles) named ≡ headsBy (headsAt (s .axles) named) (e .kind) (e .first) (e .second)
   unfolding ownSection withSections withAxles headsAt
   heads-here h b = rw end-axles (go (is-done L s e))
     where
@@ -51,7 +51,7 @@ module _ (L : Layout) (s : State) (e : Event) where
       go (leaves f u) = absurd (of-no-heads (f .4) h)
 
   -- those of any other section stay, and after any other event all do
-  pub heads-elsewhere : (g : ℕ) → (OfHeads → g ≢ named) → headsAt (end L s e .axles) g ≡ headsAt (s .axles) g
+  pub heads-elsewhere : (g : ℕ) → (KindOfHeads → g ≢ named) → headsAt (end L s e .axles) g ≡ headsAt (s .axles) g
   unfolding ownSection ownSet ownCancel ownSecure ownManual withSections withRoutes withLines withAxles headsAt
   heads-elsewhere g d = rw end-axles (go (is-done L s e))
     where

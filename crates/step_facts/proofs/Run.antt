@@ -32,8 +32,8 @@ cold-run-in-range L es = run-in-range L cold es cold-in-range
 
 -- ---- no 18
 
--- so on a sound layout no event after any run from the cold start gets 18
-no-18 : (L : Layout) (es : List Event) (k a b : ℕ) → sound L ≡ true → step L (fromCold L es) k a b .number ≡ 18 → ⊥
+-- so on a sound layout, also one with fitted sections, no event after any run from the cold start gets 18
+pub no-18 : (L : Layout) (es : List Event) (k a b : ℕ) → sound L ≡ true → step L (fromCold L es) k a b .number ≡ 18 → ⊥
 no-18 L es k a b h = not-18 (sound-numbers L (fromCold L es) k a b h (cold-run-in-range L es))
 
 -- nor on a layout that was loaded

@@ -11,7 +11,7 @@ use Rattle.axles.specs.Heads.{axlesReading}
 use Rattle.interlocking.specs.declared.State.{State}
 use Rattle.interlocking.specs.State.{headsAt}
 use Rattle.interlocking.specs.Own.{headSection, headsBy}
-use Rattle.interlocking.proofs.Rows.{no-heads}
+use Rattle.interlocking.proofs.Rows.{kind-of-no-heads}
 use Rattle.step_facts.specs.Run.{Event}
 
 -- event e gives section g the reading v, and the sections then have the heads xs: a reading of kind 1 leaves heads as they were; where an event is of heads,
@@ -27,7 +27,7 @@ Untold k = (k ≢ 1) × (k ≢ 11) × (k ≢ 12) × (k ≢ 13) × (k ≢ 14)
 
 -- it is not of heads
 pub of-no-heads : {k : ℕ} → Untold k → (11 ≤ k) × (k ≤ 14) → ⊥
-of-no-heads u h = no-heads (u .1) (u .2) (u .3) (u .4) h
+of-no-heads u h = kind-of-no-heads (u .1) (u .2) (u .3) (u .4) h
 
 module _ {s : State} {e : Event} {g v : ℕ} {xs : List Axles} (t : Tells s e g v xs) where
   -- an event of such a kind gives none

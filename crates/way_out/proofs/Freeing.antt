@@ -14,6 +14,7 @@ use Rattle.track.specs.Sizes.{mostSections}
 use Rattle.tables.specs.Readings.{recorded, reading}
 use Rattle.axles.specs.declared.Axles.{Axles}
 use Rattle.axles.specs.Heads.{axlesReading}
+use Rattle.axles.specs.Since.{rolled}
 use Rattle.layout.specs.declared.Layout.{Layout}
 use Rattle.layout.specs.Layout.{isFitted}
 use Rattle.layout.specs.Sound.{sound}
@@ -30,7 +31,7 @@ use Rattle.step_facts.proofs.Tells.{Tells, by-code, by-heads}
 use Rattle.step_facts.proofs.Within.{end, tells-done, tells-readings}
 use Rattle.step_facts.proofs.Heads.{heads-here}
 use Rattle.step_facts.proofs.Granted.{reading-granted, count-granted, reset-granted}
-use Rattle.way_out.specs.Freeing.{CountsOf, rolled, counted, freeing}
+use Rattle.way_out.specs.Freeing.{CountsOf, axlePasses, freeing}
 use Rattle.way_out.proofs.Proving.{spoken-speak, passed-free}
 use Rattle.way_out.proofs.Goes.{Whole, Goes, stop, goes}
 
@@ -118,8 +119,8 @@ module _ (L : Layout) (ok : sound L ≡ true) (S : Sound L) (cs : CountsOf) (g :
       told = by-heads k (sym named) (ap (λ y. headsBy y (e .kind) (e .first) (e .second)) (sym heads))
 
   -- the seven events, where it has heads
-  by-counts : isFitted L g ≡ true → Whole s → Q s → Goes L s (counted g (cs g)) (Frees g Q s)
-  unfolding counted rolled
+  by-counts : isFitted L g ≡ true → Whole s → Q s → Goes L s (axlePasses g (cs g)) (Frees g Q s)
+  unfolding axlePasses rolled
   by-counts f w q =
       count 11 (2 * g) _ _ _ _ (inl refl) (omega arith) (omega arith)
       (count 12 (2 * g) _ _ _ _ (inr refl) (omega arith) (omega arith)

@@ -29,7 +29,7 @@ use Rattle.fitted.proofs.InUse.{in-use-sound}
 use Rattle.interlocking.specs.declared.State.{State}
 use Rattle.interlocking.specs.Step.{step}
 use Rattle.step_facts.specs.Run.{Event, event, fromCold}
-use Rattle.way_out.specs.Freeing.{CountsOf, counted, freeing, fittedAmong, fittedBlocks}
+use Rattle.way_out.specs.Freeing.{CountsOf, axlePasses, freeing, fittedAmong, fittedBlocks}
 use Rattle.way_out.specs.WayOut.{standing, cancels, ninetySeconds, readFree, allReadFree, releases, wayOut, AtRest, WayOut, NoDeadEnd}
 use Rattle.way_out.proofs.Goes.{Whole, run-whole, Goes, after-that, ending-so}
 use Rattle.way_out.proofs.WayOut.{cancel-all, wait-all, read-all, release-all}
@@ -46,10 +46,10 @@ cancels-short L (suc n) s =
 
 -- one reading for a section that has no heads, six events more for one that has
 pub freeing-length : (L : Layout) (cs : CountsOf) (g : ℕ) → length (freeing L cs g) ≡ 1 + 6 * bit (isFitted L g)
-unfolding freeing counted bit if_then_else_
+unfolding freeing axlePasses bit if_then_else_
 freeing-length L cs g = go (isFitted L g)
   where
-    go : (t : Bool) → length (if t then counted g (cs g) else (event 1 g 1 ∷ [])) ≡ 1 + 6 * (if t then 1 else 0)
+    go : (t : Bool) → length (if t then axlePasses g (cs g) else (event 1 g 1 ∷ [])) ≡ 1 + 6 * (if t then 1 else 0)
     go true = refl
     go false = refl
 

@@ -12,18 +12,19 @@ use Rattle.axles.specs.declared.Said.{Said}
 use Rattle.axles.specs.Rounds.{around}
 use Rattle.axles.specs.Heads.{speaks, speaking, headAfter, net, number, readingOf, occupies, resets, sumAfter, proofAfter, told, withProof, proves, judged, axlesAfter, known, axlesReading}
 use Rattle.axles.specs.HeadLog.{said}
+use Rattle.axles.specs.Since.{rolled}
 use Rattle.axles.proofs.Rounds.{same-difference}
 use Rattle.axles.proofs.Kept.{after-same, reset-head}
 use Rattle.axles.proofs.Since.{number-small}
 use Rattle.interlocking.specs.Own.{headsBy}
-use Rattle.way_out.specs.Freeing.{Counts, rolled}
+use Rattle.way_out.specs.Freeing.{FourCounts}
 
 -- ---- what an event makes of each head
 
 -- judging the number leaves each as the event itself makes it
 after-heads : (x : Axles) (e : Said) → (axlesAfter x e .head0 ≡ headAfter (x .head0) 0 e) × (axlesAfter x e .head1 ≡ headAfter (x .head1) 1 e)
 unfolding told
-after-heads x e = let same = after-same x e in (same .first, same .second)
+after-heads x e = let same = after-same x e in (same .head0, same .head1)
 
 -- ---- the seven events
 
@@ -31,7 +32,7 @@ after-heads x e = let same = after-same x e in (same .first, same .second)
 abbrev speaking-head : ℕ → ℕ → Head
 speaking-head i o = record { inward = rolled i; outward = rolled o; hasin = 1; hasout = 1 }
 
-module _ (c : Counts) where
+module _ (c : FourCounts) where
   -- two such heads, which stand at c but for the axles in past head 0 and out past head 1
   abbrev stand : ℕ → ℕ → ℕ → ℕ → Axles
   stand i o sum proof = record { head0 = speaking-head i (c .out0); head1 = speaking-head (c .in1) o; sum = sum; proof = proof }
@@ -98,12 +99,12 @@ module _ (c : Counts) where
 -- ---- as the events of section g bring them
 
 -- after both counts of both heads
-abbrev pub spoken : ℕ → Counts → Axles → Axles
+abbrev pub spoken : ℕ → FourCounts → Axles → Axles
 spoken g c x =
     headsBy (headsBy (headsBy (headsBy x 11 (2 * g) (rolled (c .in0))) 12 (2 * g) (rolled (c .out0))) 11 (2 * g + 1) (rolled (c .in1))) 12 (2 * g + 1) (rolled (c .out1))
 
 -- then a reset, an axle in past one head and out past the other
-abbrev pub passedBy : ℕ → Counts → Axles → Axles
+abbrev pub passedBy : ℕ → FourCounts → Axles → Axles
 passedBy g c x = headsBy (headsBy (headsBy (spoken g c x) 14 g 0) 11 (2 * g) (rolled (c .in0 + 1))) 12 (2 * g + 1) (rolled (c .out1 + 1))
 
 -- a count that has rolled over fits
@@ -111,7 +112,7 @@ rolled-fits : (n : ℕ) → rolled n % 65536 ≡ rolled n
 unfolding rolled
 rolled-fits n = omega arith
 
-module _ (g : ℕ) (c : Counts) (x : Axles) where
+module _ (g : ℕ) (c : FourCounts) (x : Axles) where
   -- twice the section names head 0, and one more head 1
   first-head : (2 * g) % 2 ≡ 0
   first-head = omega arith
