@@ -140,7 +140,8 @@ impl State {
         ensures { λ r. ⌜ r ≡ (sound layout and inRange self) ⌝ }
     {
         let plan = layout.sound();
-        let codes = self.in_range();
+        let c = core_of(self);
+        let codes = range::in_range(c);
         plan & codes
     }
 

@@ -2,7 +2,7 @@
 use Prim.Native.Nat.{ℕ, _+_, _<_, _≤_}
 use mathlib.Core.Path.{_≡_, refl, sym, ap, ap₂, _∙_}
 use mathlib.Core.Bool.{Bool, true, false, not, _&&_}
-use mathlib.Core.List.{List}
+use mathlib.Core.List.{List, [], _∷_}
 use native.Mathlib.Omega.{arith}
 use borrow.Author.Tests.{eq-eqb, ne-eqb, lt-leb}
 use lib.Dec.{eqb, leb}
@@ -26,9 +26,10 @@ use Rattle.rules.specs.Sets.{blockSet, reachOf, clashing}
 use Rattle.rules.proofs.Sets.{offBlocks-is, inner-is, clashing-is}
 use Rattle.layout.specs.declared.Layout.{Layout}
 use Rattle.layout.specs.Layout.{counts, lineIn, routeIn, conflict, entryOf}
-use Rattle.layout.specs.Rules.{rule1, rule2, rule3, rule4, rule5, rule6}
+use Rattle.layout.specs.Rules.{rule1, rule2, rule3, rule4, rule5, rule6, firstFailed, broken}
 use Rattle.layout.specs.Sound.{sectionsFit, fits}
-use Rattle.layout.specs.Walks.{lineKeeps, routeKeeps, blocksApart, listsDiffer, noReach, reaches, pairKeeps, rowKeeps}
+use Rattle.layout.specs.Walks.{lineKeeps, routeKeeps, blocksApart, listsDiffer, noReach, reaches, pairKeeps, rowKeeps, brokenEarly, brokenLate}
+use Rattle.layout.proofs.Laws.{broken-first, broken-last}
 
 -- ---- an entry of an array of routes, as the code reads it
 
@@ -81,7 +82,7 @@ module _ (m : List ℕ) (t : List Reach) (n r q : ℕ) (h : SoFar n (λ k. allBe
 
 -- ---- each rule, by the walk that tests it
 
-module _ (L : Layout) (v : Bool) (c : Counts) (same : c ≡ counts L) where
+module _ (L : Layout) where
   -- the walk of rule 1 over the lines asks of each line just what the rule does
   once-is : allBelow (L .lines) (lineKeeps 1 (counts L) (L .line)) ≡ allBelow (L .lines) (once (L .line))
   unfolding lineKeeps if_then_else_
@@ -94,38 +95,58 @@ module _ (L : Layout) (v : Bool) (c : Counts) (same : c ≡ counts L) where
   paths-is = all-same _ _ _ (λ r h. offBlocks-is (L .lines) (L .line) (routeIn L r))
 
   -- rule 1: the lines, the routes and the inner sections
-  pub rule1-by : v ≡ blocksApart c (L .line) (L .routes) (L .route) → v ≡ rule1 L
+  rule1-is : blocksApart (counts L) (L .line) (L .routes) (L .route) ≡ rule1 L
   unfolding rule1 blocksApart counts routeIn
-  rule1-by e = (rw same at e) ∙ rw (once-is, paths-is, inner-is (L .lines) (L .line))
+  rule1-is = rw (once-is, paths-is, inner-is (L .lines) (L .line))
 
   -- rule 2: the lines
-  pub rule2-by : v ≡ allBelow (c .lines) (lineKeeps 2 c (L .line)) → v ≡ rule2 L
-  unfolding rule2 lineKeeps counts if_then_else_
-  rule2-by e = (rw same at e) ∙ all-same _ _ _ (λ l h. refl)
+  rule2-is : allBelow (L .lines) (lineKeeps 2 (counts L) (L .line)) ≡ rule2 L
+  unfolding rule2 lineKeeps if_then_else_
+  rule2-is = all-same _ _ _ (λ l h. refl)
 
   -- rule 3: the routes, then the lines
-  pub rule3-by : v ≡ listsDiffer c (L .line) (L .routes) (L .route) → v ≡ rule3 L
+  rule3-is : listsDiffer (counts L) (L .line) (L .routes) (L .route) ≡ rule3 L
   unfolding rule3 listsDiffer routeIn counts lineKeeps routeKeeps if_then_else_
-  rule3-by e = (rw same at e) ∙ ap₂ _and_ (all-same (L .routes) _ _ (λ r h. refl)) (all-same (L .lines) _ _ (λ l h. refl))
+  rule3-is = ap₂ _and_ (all-same (L .routes) _ _ (λ r h. refl)) (all-same (L .lines) _ _ (λ l h. refl))
 
   -- rule 4: the routes
-  pub rule4-by : v ≡ allBelow (L .routes) (λ r. routeKeeps 4 c (L .line) 0 (route (L .route) r)) → v ≡ rule4 L
+  rule4-is : allBelow (L .routes) (λ r. routeKeeps 4 (counts L) (L .line) 0 (route (L .route) r)) ≡ rule4 L
   unfolding rule4 routeIn routeKeeps if_then_else_
-  rule4-by e = e ∙ all-same _ _ _ (λ r h. refl)
+  rule4-is = all-same _ _ _ (λ r h. refl)
 
   -- rule 5: the routes
-  pub rule5-by : v ≡ allBelow (L .routes) (λ r. routeKeeps 5 c (L .line) 0 (route (L .route) r)) → v ≡ rule5 L
+  rule5-is : allBelow (L .routes) (λ r. routeKeeps 5 (counts L) (L .line) 0 (route (L .route) r)) ≡ rule5 L
   unfolding rule5 routeIn counts routeKeeps if_then_else_
-  rule5-by e = (rw same at e) ∙ all-same _ _ _ (λ r h. refl)
+  rule5-is = all-same _ _ _ (λ r h. refl)
 
-module _ (L : Layout) (v : Bool) where
   -- rule 6: each route with each before it, by the table of what it asks of each
-  pub rule6-by : L .routes ≤ mostTrainRoutes → v ≡ allBelow (L .routes) (λ r. allBelow r (rowKeeps (L .conflict) (reaches (L .route)) r)) → v ≡ rule6 L
+  rule6-is : L .routes ≤ mostTrainRoutes → allBelow (L .routes) (λ r. allBelow r (rowKeeps (L .conflict) (reaches (L .route)) r)) ≡ rule6 L
   unfolding rule6 rowKeeps pairKeeps reaches routeIn conflict
-  rule6-by few e =
-      e ∙ all-same _ _ _ (λ r h. all-same _ _ _ (λ q l.
+  rule6-is few =
+      all-same _ _ _ (λ r h. all-same _ _ _ (λ q l.
       ap (λ t. implies t (eqb (entryOf (L .conflict) r q) 1))
       (ap₂ clashing (table-at mostTrainRoutes _ noReach r (omega arith)) (table-at mostTrainRoutes _ noReach q (omega arith)) ∙ clashing-is (routeIn L r) (routeIn L q))))
+
+  -- ---- the first broken rule, by these walks
+
+  -- the first broken one of the rules 1 to 3
+  early-is : brokenEarly (counts L) (L .line) (L .routes) (L .route) ≡ firstFailed 1 (rule1 L ∷ rule2 L ∷ rule3 L ∷ [])
+  unfolding brokenEarly counts
+  early-is = rw (rule1-is, rule2-is, rule3-is)
+
+  -- the first broken one of the rules 4 to 6
+  late-is : L .routes ≤ mostTrainRoutes → brokenLate (counts L) (L .line) (L .routes) (L .route) (L .conflict) ≡ firstFailed 4 (rule4 L ∷ rule5 L ∷ rule6 L ∷ [])
+  unfolding brokenLate
+  late-is few = rw (rule4-is, rule5-is, rule6-is few)
+
+  module _ (k : ℕ) (early : k ≡ brokenEarly (counts L) (L .line) (L .routes) (L .route)) where
+    -- one of the first three is broken
+    pub first-early : (k ≡ 0 → ⊥) → k ≡ broken L
+    first-early d = broken-first L k (early ∙ early-is) d
+
+    -- none of them is
+    pub first-late : L .routes ≤ mostTrainRoutes → k ≡ 0 → (r : ℕ) → r ≡ brokenLate (counts L) (L .line) (L .routes) (L .route) (L .conflict) → r ≡ broken L
+    first-late few z r late = broken-last L k r (early ∙ early-is) z (late ∙ late-is few)
 
 -- ---- the ranges, by the walks that test them
 
@@ -146,9 +167,9 @@ module _ (L : Layout) where
   sections-many h = every-fails _ 0 (fails-from _ (λ t. not-both (and-right _ _ t) (lt-leb _ mostSections h)))
 
   -- the walks over lines and routes, with the other tests, are the whole test
-  pub fits-made : (c : Counts) (a b d e f : Bool) → c ≡ counts L → a ≡ between 1 mostSections (L .sections) → b ≡ sectionsFit (L .points) (L .sections) (L .pointsection)
-      → d ≡ allBelow (c .lines) (lineKeeps 0 c (L .line)) → e ≡ allBelow (L .routes) (λ r. routeKeeps 0 c (L .line) 0 (route (L .route) r))
+  pub fits-made : (a b d e f : Bool) → a ≡ between 1 mostSections (L .sections) → b ≡ sectionsFit (L .points) (L .sections) (L .pointsection)
+      → d ≡ allBelow (L .lines) (lineKeeps 0 (counts L) (L .line)) → e ≡ allBelow (L .routes) (λ r. routeKeeps 0 (counts L) (L .line) 0 (route (L .route) r))
       → f ≡ allBelow (L .sections) (λ g. leb (getD (L .fitted) g 0) 1)
       → a && (leb (L .points) mostPoints && (b && (leb (L .signals) mostSignals && (leb (L .lines) mostLines && (d && (leb (L .routes) mostTrainRoutes && (e && (f && eqb (L .lacking) 0)))))))) ≡ fits L
-  unfolding fits every counts
-  fits-made c a b d e f same p q x y z = rw (p, q, (rw same at x) ∙ lines-fit-is, (rw same at y) ∙ routes-fit-is, z)
+  unfolding fits every
+  fits-made a b d e f p q x y z = rw (p, q, x ∙ lines-fit-is, y ∙ routes-fit-is, z)

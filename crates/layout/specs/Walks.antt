@@ -18,6 +18,7 @@ use Rattle.rules.specs.declared.Reach.{Reach}
 use Rattle.rules.specs.Rules.{once, lineEnds, linePoints, routeLists, routeLength, routeEnds}
 use Rattle.rules.specs.Sets.{blockSet, innerSet, offBlocks, reachOf, clashing}
 use Rattle.layout.specs.Layout.{entryOf}
+use Rattle.layout.specs.Rules.{firstFailed}
 
 -- line l keeps rule k, 1 to 3; 0 asks that its numbers are in range
 unfoldable pub lineKeeps : ℕ → Counts → List Line → ℕ → Bool
@@ -60,3 +61,15 @@ pairKeeps m r q a b = implies (clashing a b) (eqb (entryOf m r q) 1)
 -- and by the table
 unfoldable pub rowKeeps : List ℕ → List Reach → ℕ → ℕ → Bool
 rowKeeps m t r q = pairKeeps m r q (getD t r noReach) (getD t q noReach)
+
+-- the first broken one of the rules 1 to 3, or 0
+unfoldable pub brokenEarly : Counts → List Line → ℕ → List Route → ℕ
+brokenEarly c ls n rs = firstFailed 1 (blocksApart c ls n rs ∷ allBelow (c .lines) (lineKeeps 2 c ls) ∷ listsDiffer c ls n rs ∷ [])
+
+-- the first broken one of the rules 4 to 6, or 0
+unfoldable pub brokenLate : Counts → List Line → ℕ → List Route → List ℕ → ℕ
+brokenLate c ls n rs m = firstFailed 4 (
+    allBelow n (λ r. routeKeeps 4 c ls 0 (route rs r))
+    ∷ allBelow n (λ r. routeKeeps 5 c ls 0 (route rs r))
+    ∷ allBelow n (λ r. allBelow r (rowKeeps m (reaches rs) r))
+    ∷ [])

@@ -17,12 +17,12 @@ use track::sizes::POINTS;
 use track::sizes::SECTIONS;
 use track::sizes::TRAIN_ROUTES;
 ghost use mathlib.Core.Path.{_≡_};
-ghost use mathlib.Core.List.{[], _∷_};
 ghost use Prim.Native.Nat.{_≤_};
 ghost use Rattle.track.specs.Sizes.{mostTrainRoutes};
-ghost use Rattle.layout.specs.Layout.{noneFitted, noLayout, counts};
-ghost use Rattle.layout.specs.Rules.{rule1, rule2, rule3, rule4, rule5, rule6, firstFailed, broken};
+ghost use Rattle.layout.specs.Layout.{noneFitted, noLayout};
+ghost use Rattle.layout.specs.Rules.{broken};
 ghost use Rattle.layout.specs.Sound.{fits, sound};
+ghost use Rattle.layout.specs.Walks.{brokenEarly, brokenLate};
 ghost use Rattle.layout.specs.Load.{refused, finished, load};
 
 // conflict: 1 at 48 * i + j where the routes i and j conflict, else 0.
@@ -81,27 +81,11 @@ pub fn no_layout() -> Layout
     }
 }
 
-// How many objects of each kind there are to refer to.
-fn counts_of(l: Layout) -> Counts
-    ensures { λ r. ⌜ r ≡ counts l ⌝ }
-{
-    Counts {
-        sections: l.sections,
-        points: l.points,
-        signals: l.signals,
-        lines: l.lines,
-    }
-}
-
 // The first broken one of the rules 1 to 3, or 0.
-fn broken_early(l: Layout) -> u8
-    requires { ⌜ l .routes ≤ mostTrainRoutes ⌝ }
-    ensures { λ r. ⌜ r ≡ firstFailed 1 (rule1 l ∷ rule2 l ∷ rule3 l ∷ []) ⌝ }
+fn broken_early(c: Counts, ls: [Line; LINES], n: u8, rs: [Route; TRAIN_ROUTES]) -> u8
+    requires { ⌜ n ≤ mostTrainRoutes ⌝ }
+    ensures { λ r. ⌜ r ≡ brokenEarly c ls n rs ⌝ }
 {
-    let c = counts_of(l);
-    let ls = l.line;
-    let rs = l.route;
-    let n = l.routes;
     if !walks::rule_1(c, ls, n, rs) {
         return 1;
     }
@@ -115,21 +99,23 @@ fn broken_early(l: Layout) -> u8
 }
 
 // The first broken one of the rules 4 to 6, or 0.
-fn broken_late(l: Layout) -> u8
-    requires { ⌜ l .routes ≤ mostTrainRoutes ⌝ }
-    ensures { λ r. ⌜ r ≡ firstFailed 4 (rule4 l ∷ rule5 l ∷ rule6 l ∷ []) ⌝ }
+fn broken_late(
+    c: Counts,
+    ls: [Line; LINES],
+    n: u8,
+    rs: [Route; TRAIN_ROUTES],
+    m: &[u8; PAIRS],
+) -> u8
+    requires { ⌜ n ≤ mostTrainRoutes ⌝ }
+    ensures { λ r. ⌜ r ≡ brokenLate c ls n rs (now (m .entry)) ⌝ }
 {
-    let c = counts_of(l);
-    let ls = l.line;
-    let rs = l.route;
-    let n = l.routes;
     if !walks::routes_keep(4, c, ls, 0, n, rs) {
         return 4;
     }
     if !walks::routes_keep(5, c, ls, 0, n, rs) {
         return 5;
     }
-    if !pairs_of_routes::rule_6(&l.conflict, n, rs) {
+    if !pairs_of_routes::rule_6(m, n, rs) {
         return 6;
     }
     0
@@ -140,11 +126,20 @@ fn first_broken(l: Layout) -> u8
     requires { ⌜ l .routes ≤ mostTrainRoutes ⌝ }
     ensures { λ r. ⌜ r ≡ broken l ⌝ }
 {
-    let early = broken_early(l);
+    let c = Counts {
+        sections: l.sections,
+        points: l.points,
+        signals: l.signals,
+        lines: l.lines,
+    };
+    let ls = l.line;
+    let rs = l.route;
+    let n = l.routes;
+    let early = broken_early(c, ls, n, rs);
     if early != 0 {
         return early;
     }
-    broken_late(l)
+    broken_late(c, ls, n, rs, &l.conflict)
 }
 
 // Every count, code and reference is in its range.
@@ -161,7 +156,12 @@ fn in_range(l: Layout) -> bool
     if MOST_TRAIN_ROUTES < n {
         return false;
     }
-    let c = counts_of(l);
+    let c = Counts {
+        sections: l.sections,
+        points: l.points,
+        signals: l.signals,
+        lines: l.lines,
+    };
     let own = l.pointsection;
     let ls = l.line;
     let rs = l.route;

@@ -3,10 +3,11 @@ use borrow.Author.Needs.{needs}
 use borrow.Author.Tests.{lt-leb}
 use Rattle.laws.proofs.Tests.{every-fails}
 use Rattle.layout.proofs.Tested.{sections-many, fits-made}
+use Rattle.layout.specs.Layout.{counts}
 use Rattle.layout.specs.Sound.{fits}
 use Rattle.layout.proofs.in_range.Statement.{statement}
 use Rattle.layout.proofs.in_range.Tie as tie
 
 pub in-range-spec : {M : Type 1} → statement M
-unfolding fits
-in-range-spec = tie.close (tie.spec (λ c. search sections-many) (λ c. every-fails _ 1 (lt-leb _ _ (c .if2 .taken))) (λ c. every-fails _ 6 (lt-leb _ _ (c .if3 .taken))) (λ c κs. search needs) (λ c κs. search needs) (λ c κs. search needs) (λ c κs. search needs) (λ c κs. search needs) (λ c κs. search needs) (λ c. search (needs, fits-made)))
+unfolding fits counts
+in-range-spec = tie.close (tie.spec (λ c. search sections-many) (λ c. every-fails _ 1 (lt-leb _ _ (c .if2 .taken))) (λ c. every-fails _ 6 (lt-leb _ _ (c .if3 .taken))) (λ c κs. search needs) (λ c κs. search needs) (λ c κs. search needs) (λ c κs. search needs) (λ c κs. search needs) (λ c. search (needs, fits-made)))
