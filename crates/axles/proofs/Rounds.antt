@@ -102,7 +102,7 @@ parts-whole a b =
     ∙ sym (add-mod a (65535 * b) 65536)
 
 -- so the difference goes by the numbers as they are
-around-whole : (a b : ℕ) → around (pos a -ℤ pos b) ≡ (a + 65535 * b) % 65536
+pub around-whole : (a b : ℕ) → around (pos a -ℤ pos b) ≡ (a + 65535 * b) % 65536
 around-whole a b = around-parts a b ∙ parts-whole a b
 
 -- what two numbers are round 65,536, whatever is added to both, is all that their difference asks: n is added once and 65,535 times, a whole round

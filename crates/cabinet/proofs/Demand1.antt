@@ -12,6 +12,7 @@ use Rattle.laws.proofs.Tests.{and-left, and-right}
 use Rattle.layout.specs.declared.Layout.{Layout}
 use Rattle.layout.specs.Sound.{sound}
 use Rattle.layout_facts.proofs.Loaded.{load-numbers}
+use Rattle.fitted.proofs.Answers.{fit-numbers}
 use Rattle.interlocking.specs.declared.State.{State}
 use Rattle.interlocking.specs.declared.Answer.{Answer}
 use Rattle.interlocking.specs.State.{inRange}
@@ -22,7 +23,6 @@ use Rattle.step_facts.specs.Numbers.{OfEvents}
 use Rattle.step_facts.proofs.Step.{refusal-keeps, unsound-18, sound-numbers}
 use Rattle.cabinet.specs.Calls.{Records, records, Call, powerOn, loadFile, fitSections, giveEvent, drawPanel, afterFile, afterLoad, afterFit, afterCall, ofLoad, ofFit, ofEvent, ofPanel, tells, lent}
 use Rattle.cabinet.specs.Demand1.{Numbered, Demand1}
-use Rattle.cabinet.proofs.Fit.{fit-numbers}
 
 -- one of three numbers, by two tests
 one-of-three : (t u : Bool) (n : ℕ) (r : Drawn) → r ≡ (if t then refused 18 else if u then refused 27 else record { number = 0; length = n })

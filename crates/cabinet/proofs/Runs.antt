@@ -26,6 +26,7 @@ use Rattle.fitted.specs.Fitted.{Among, anyOf, isTold, lacks, toldBy, withTold, 
 use Rattle.fitted.specs.InUse.{InUse}
 use Rattle.fitted.proofs.Equipped.{equipped-none, equipped-sound}
 use Rattle.fitted.proofs.InUse.{in-use-sound}
+use Rattle.fitted.proofs.Answers.{fit-number, fit-layout}
 use Rattle.interlocking.specs.declared.State.{State}
 use Rattle.interlocking.specs.declared.Answer.{Answer}
 use Rattle.interlocking.specs.State.{inRange}
@@ -37,7 +38,6 @@ use Rattle.step_facts.proofs.Step.{unsound-18, sound-numbers}
 use Rattle.step_facts.proofs.Run.{cold-run-in-range}
 use Rattle.cabinet.specs.Calls.{Records, records, Call, powerOn, loadFile, fitSections, giveEvent, drawPanel, atPowerOn, afterFile, afterLoad, afterFit, afterCall, recordsAfter, Told, ofEvent, ofPanel, tells}
 use Rattle.cabinet.specs.Runs.{eventsSince, loadedAfter, toldAfter, layoutAfter, Lacking, InRun, Waits, Serves}
-use Rattle.cabinet.proofs.Fit.{fit-number, fit-layout}
 
 -- one event more at the end of a run: from the state that the others leave
 one-more : (f : State → Event → Answer) (s : State) (es : List Event) (e : Event) → stateAfter f s (es ++ (e ∷ [])) ≡ f (stateAfter f s es) e .next

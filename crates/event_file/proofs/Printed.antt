@@ -6,12 +6,11 @@ use mathlib.Core.Bool.{Bool, true, false}
 use mathlib.Core.List.{List, [], _∷_, _++_, flatMap, append-assoc}
 use native.Mathlib.Omega.{arith}
 use native.Mathlib.Numerals.{add-one}
-use borrow.Author.Tests.{eqb-false}
 use lib.Dec.{eqb}
 use lib.ListN.{length, getD}
 use Rattle.laws.specs.Choice.{if_then_else_}
 use Rattle.laws.specs.Tests.{_and_}
-use Rattle.laws.proofs.Choice.{if-lt, if-eq, if-ne, if-both}
+use Rattle.laws.proofs.Choice.{if-lt, if-eq, if-ne}
 use Rattle.laws.proofs.Tests.{fails-from}
 use Rattle.layout.specs.declared.Layout.{Layout}
 use Rattle.layout.specs.Sound.{sound}
@@ -19,10 +18,11 @@ use Rattle.layout.specs.Load.{load}
 use Rattle.layout_facts.proofs.Loaded.{loaded-sound}
 use Rattle.fitted.specs.declared.Fitting.{Fitting}
 use Rattle.fitted.specs.Numbers.{noNumbers, numbersFrom, fromPlace, numbersOf}
-use Rattle.fitted.specs.Fitted.{Among, equipped, fitBy, fit}
+use Rattle.fitted.specs.Fitted.{Among, fitBy, fit}
 use Rattle.fitted.specs.InUse.{InUse}
 use Rattle.fitted.proofs.Equipped.{equipped-none, equipped-sound}
 use Rattle.fitted.proofs.InUse.{in-use-sound}
+use Rattle.fitted.proofs.Answers.{fit-done}
 use Rattle.interlocking.specs.declared.State.{State}
 use Rattle.interlocking.specs.declared.Answer.{Answer}
 use Rattle.interlocking.specs.State.{cold, inRange}
@@ -168,23 +168,15 @@ unfolding printed printedBy fit fitBy numbersOf fromPlace numbersFrom noNumbers 
 nothing-fitted-prints panel layoutFile file = rw (equipped-none layoutFile)
 
 module _ (layoutFile fittedFile : List ℕ) (h : load layoutFile .number ≡ 0) where
-  -- a file of fitted sections that has no fault makes of the loaded layout the one with the sections that it tells
-  told-layout : fit (load layoutFile .layout) fittedFile .number ≡ 0
-      → equipped (numbersOf fittedFile .list) (load layoutFile .layout) ≡ fit (load layoutFile .layout) fittedFile .layout
-  unfolding fit fitBy
-  told-layout k =
-      if-both (λ (r : Fitting). r .number ≡ 0 → equipped (numbersOf fittedFile .list) (load layoutFile .layout) ≡ r .layout) (eqb (numbersOf fittedFile .fault) 0)
-      (λ t z. refl) (λ t z. absurd (eqb-false _ 0 t z)) k
-
-  -- where each section told is there, that is a layout in use
+  -- where each section told is there, the layout with them is one in use
   pub fitted-in-use : WellFitted (load layoutFile .layout) fittedFile → InUse (fit (load layoutFile .layout) fittedFile .layout)
-  fitted-in-use w = record { file = layoutFile; told = numbersOf fittedFile .list; done = h; there = w .there; its = told-layout (w .whole) }
+  fitted-in-use w = record { file = layoutFile; told = numbersOf fittedFile .list; done = h; there = w .there; its = sym (fit-done _ fittedFile (w .whole)) }
 
   -- where one is told that is not there, it is not sound
   lacks-unsound : fit (load layoutFile .layout) fittedFile .number ≡ 0 → (g : ℕ) → Among (numbersOf fittedFile .list) g → load layoutFile .layout .sections ≤ g
       → sound (fit (load layoutFile .layout) fittedFile .layout) ≡ false
   lacks-unsound k g a past =
-      rw (← told-layout k) (fails-from _ (λ e.
+      rw (fit-done _ fittedFile k) (fails-from _ (λ e.
       let b = equipped-sound (load layoutFile .layout) (numbersOf fittedFile .list) (loaded-sound layoutFile h) .0 e g a in omega arith))
 
 module _ (panel : Bool) (layoutFile fittedFile file : List ℕ) (h : load layoutFile .number ≡ 0) where

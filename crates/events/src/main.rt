@@ -117,24 +117,13 @@ fn with_heads(
     held: files::Held,
     buf: &mut [u8],
 ) {
-    if !fits {
-        run(
-            file,
-            layout_path,
-            -1,
-            heads_path,
-            fd,
-            path,
-            panel,
-            held,
-            buf,
-        );
-        return;
-    }
-    let heads = os::open_read(heads_path);
-    if heads < 0 {
-        os::fail(heads_path);
-        return;
+    let mut heads: i32 = -1;
+    if fits {
+        heads = os::open_read(heads_path);
+        if heads < 0 {
+            os::fail(heads_path);
+            return;
+        }
     }
     run(
         file,
@@ -147,7 +136,9 @@ fn with_heads(
         held,
         buf,
     );
-    libc::close(heads);
+    if fits {
+        libc::close(heads);
+    }
 }
 
 // The event file is opened, and its first bytes are read before anything is printed.

@@ -2,6 +2,7 @@ pub mod FromPlace
 pub mod Read
 pub mod Telling
 pub mod Whole
+pub mod Answers
 pub mod Equipped
 pub mod Cut
 pub mod Unique

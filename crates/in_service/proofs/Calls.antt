@@ -16,6 +16,7 @@ use Rattle.fitted.specs.Numbers.{numbersOf}
 use Rattle.fitted.specs.Fitted.{equipped, fit}
 use Rattle.fitted.specs.InUse.{InUse}
 use Rattle.fitted.proofs.InUse.{in-use-sound}
+use Rattle.fitted.proofs.Answers.{fit-number}
 use Rattle.interlocking.specs.declared.State.{State}
 use Rattle.interlocking.specs.State.{cold, inRange}
 use Rattle.interlocking.specs.Step.{step}
@@ -27,7 +28,6 @@ use Rattle.step_facts.proofs.Run.{cold-run-in-range}
 use Rattle.event_file.proofs.Shown.{drawn-whole}
 use Rattle.cabinet.specs.Calls.{Records, records, Call, powerOn, loadFile, fitSections, giveEvent, drawPanel, afterFile, afterLoad, afterFit, afterCall, recordsAfter, Told, ofEvent, ofPanel, tells}
 use Rattle.cabinet.specs.Runs.{eventsSince, loadedAfter, toldAfter, layoutAfter, Lacking, Waits}
-use Rattle.cabinet.proofs.Fit.{fit-number}
 use Rattle.cabinet.proofs.Runs.{in-run, waits}
 use Rattle.safety.specs.History.{Moment, History, Throughout, moment, goesOn, history}
 use Rattle.safety.specs.Grants.{AcceptedJust}

@@ -1,5 +1,5 @@
 -- Axles more that are counted in or out past a head (L1): what they make of a section's number, and what it then reads.
-use Prim.Native.Nat.{ℕ, _+_, _*_, _%_, _<_, _≤_}
+use Prim.Native.Nat.{ℕ, _+_, _%_, _<_, _≤_}
 use mathlib.Core.Path.{_≡_, refl, sym, ap, _∙_}
 use mathlib.Core.Logic.{_≢_}
 use mathlib.Core.Bool.{true}
@@ -16,37 +16,25 @@ use Rattle.laws.proofs.Choice.{if-both, chosen, passed-over}
 use Rattle.laws.proofs.Tests.{and-left, and-right, or-right, every-at}
 use Rattle.axles.specs.Rounds.{around, signed}
 use Rattle.axles.specs.Heads.{readingOf}
+use Rattle.axles.specs.Since.{rolled}
 use Rattle.axles.specs.HeadLog.{HeadLog, said, says, hasTold, lastTold, bothSpeak, netTold, isReset, resetsIn, netAtReset, numberTold, occupiesTold, wasReset, provedTold, readingTold}
 use Rattle.axles.proofs.HeadLog.{log-reads}
 use Rattle.axles.proofs.FreeNeeds.{free-needs}
-use Rattle.axles.proofs.Rounds.{around-below, around-sub, minus-round}
+use Rattle.axles.proofs.Rounds.{around-below, around-sub, around-whole, minus-round}
 
 -- ---- numbers round 65,536
-
--- a difference, by its two numbers
-parts : (a b : ℕ) → around (pos a -ℤ pos b) ≡ (a % 65536 + 65535 * (b % 65536)) % 65536
-unfolding around
-parts a b = around-sub (pos a) (pos b)
 
 -- either first
 swap : (a b : ℕ) → a + b ≡ b + a
 swap a b = omega arith
 
--- what is added to may be taken round first
-whole : (x y : ℕ) → (x % 65536 + y) % 65536 ≡ (x + y) % 65536
-whole x y = omega arith
-
 -- n more in
 more-in : (a b q n : ℕ) → around (pos ((a + n) % 65536 + b) -ℤ pos q) ≡ (around (pos (a + b) -ℤ pos q) + n) % 65536
-more-in a b q n =
-    let o : ℕ = 65535 * (q % 65536) in
-    rw (parts ((a + n) % 65536 + b) q, parts (a + b) q)
-    (whole ((a + n) % 65536 + b) o ∙ ap (λ k. k % 65536) (omega arith) ∙ whole (a + n) (b + o) ∙ ap (λ k. k % 65536) (omega arith) ∙ sym (whole (a + b + o) n)
-    ∙ ap (λ k. (k + n) % 65536) (sym (whole (a + b) o)))
+more-in a b q n = rw (around-whole ((a + n) % 65536 + b) q, around-whole (a + b) q) (omega arith)
 
 -- n more out
 more-out : (a b q n : ℕ) → around (pos q -ℤ pos (a + b)) ≡ (around (pos q -ℤ pos ((a + n) % 65536 + b)) + n) % 65536
-more-out a b q n = rw (parts q ((a + n) % 65536 + b), parts q (a + b)) (omega arith)
+more-out a b q n = rw (around-whole q ((a + n) % 65536 + b), around-whole q (a + b)) (omega arith)
 
 -- one of 0 .. 65,535 whose signed number is m, or above, is m
 signed-is : (k m : ℕ) → k < 65536 → signed k ≡ pos m → (k ≡ m) × (k < 32768)
@@ -124,11 +112,11 @@ module _ (es : HeadLog) where
   module _ (n : ℕ) where
     -- n axles more past head j: what it has told of them then
     abbrev told : ℕ → ℕ → HeadLog
-    told k j = said k j ((lastTold k j es + n) % 65536) ∷ es
+    told k j = said k j (rolled (lastTold k j es + n)) ∷ es
 
     -- in, they make the sum n more
     net-in : {j : ℕ} → Head j → around (netTold (told 11 j)) ≡ (around (netTold es) + n) % 65536
-    unfolding netTold lastTold says _and_ if_then_else_
+    unfolding netTold lastTold says rolled _and_ if_then_else_
     net-in head0 = more-in (lastTold 11 0 es) (lastTold 11 1 es) (lastTold 12 0 es + lastTold 12 1 es) n
     net-in head1 =
         ap (λ k. around (pos k -ℤ pos (lastTold 12 0 es + lastTold 12 1 es))) (swap (lastTold 11 0 es) _)
@@ -137,7 +125,7 @@ module _ (es : HeadLog) where
 
     -- out, n less
     net-out : {j : ℕ} → Head j → around (netTold es) ≡ (around (netTold (told 12 j)) + n) % 65536
-    unfolding netTold lastTold says _and_ if_then_else_
+    unfolding netTold lastTold says rolled _and_ if_then_else_
     net-out head0 = more-out (lastTold 12 0 es) (lastTold 12 1 es) (lastTold 11 0 es + lastTold 11 1 es) n
     net-out head1 =
         ap (λ k. around (pos (lastTold 11 0 es + lastTold 11 1 es) -ℤ pos k)) (swap (lastTold 12 0 es) (lastTold 12 1 es))

@@ -11,6 +11,7 @@ use lib.Signed.{mag}
 use Rattle.laws.specs.Choice.{if_then_else_}
 use Rattle.laws.specs.Tests.{_and_}
 use Rattle.tables.specs.Readings.{recorded}
+use Rattle.axles.specs.Since.{rolled}
 use Rattle.axles.specs.HeadLog.{said, lastTold, numberTold, readingTold}
 use Rattle.passage.specs.Passage.{beyond}
 use Rattle.passage.specs.Passage as passage
@@ -29,7 +30,7 @@ use Rattle.step_facts.specs.Run.{Event, event, box, stateAfter, fromCold}
 use Rattle.panel.specs.Shown.{Panel, panel}
 use Rattle.safety.specs.History.{Moment, History, gaveSection, gaveBlock, sectionReads, blockReads, shown, Since, moment, goesOn, history}
 use Rattle.safety.specs.Cleared.{farSection, farSignal, Proceeds, Passage}
-use Rattle.safety.specs.Passing.{MayGoOn, next, GivesNext, GoingOut, PassesOn, TrainsPass, logOf, Arrives, Leaves, byReading, byCount, PassByCounts, PassByReadings}
+use Rattle.safety.specs.Passing.{MayGoOn, next, GivesNext, GoingOut, PassesOn, TrainsPass, headLogOf, Arrives, Leaves, byReading, byCount, PassByCounts, PassByReadings}
 use Rattle.step_facts.proofs.Entries.{direction, stage, block, block-there}
 use Rattle.step_facts.proofs.Within.{On, done, end, direction-same, direction-held}
 use Rattle.step_facts.proofs.Granted.{step-granted}
@@ -196,29 +197,29 @@ trains-pass L u = passes-on L (in-use-sound u)
 
 -- a count of head j gives its section what the log of its heads then tells
 count-gives : (L : Layout) (es : List Event) (g j k c : ℕ) → g < L .sections → isFitted L g ≡ true → j < 2 → (k ≡ 11) ⊎ (k ≡ 12) → c ≤ 65535
-    → GivesNext L es (event k (2 * g + j) c) g (readingTold (said k j c ∷ logOf L es g))
+    → GivesNext L es (event k (2 * g + j) c) g (readingTold (said k j c ∷ headLogOf L es g))
 unfolding moment
 count-gives L es g j k c b f x q few =
     let head : (2 * g + j) % 2 ≡ j = omega arith in
     gives-said L g (next L es (event k (2 * g + j) c)) (history L es) b f (counted q (omega arith) few)
     (λ z. absurd (⊎-elim (λ (u : k ≡ 11). omega arith) (λ (u : k ≡ 12). omega arith) q))
-    ∙ ap (λ n. readingTold (said k n c ∷ logOf L es g)) head
+    ∙ ap (λ n. readingTold (said k n c ∷ headLogOf L es g)) head
 
 -- the train's arrival gives the far section occupied: it read free
 arrival-gives : (L : Layout) (es : List Event) (g : ℕ) {e : Event} → g < L .sections → sectionReads L g (history L es) ≡ 1 → Arrives L es g e → GivesNext L es e g 2
-unfolding recorded if_then_else_ moment
+unfolding recorded if_then_else_ moment rolled
 arrival-gives L es g b r (byReading f) = gives-recorded L _ _ _ b f refl refl
 arrival-gives L es g b r (byCount f j n x low high) =
-    count-gives L es g j 11 ((lastTold 11 j (logOf L es g) + n) % 65536) b f x (inl refl) (omega arith)
-    ∙ in-reads (logOf L es g) n (head-of j x) (sym (reads-by-heads L g b f (history L es)) ∙ r) low high
+    count-gives L es g j 11 (rolled (lastTold 11 j (headLogOf L es g) + n)) b f x (inl refl) (omega arith)
+    ∙ in-reads (headLogOf L es g) n (head-of j x) (sym (reads-by-heads L g b f (history L es)) ∙ r) low high
 
 -- its leaving gives the block free: it read occupied
 leaving-gives : (L : Layout) (es : List Event) (g : ℕ) {e : Event} → g < L .sections → sectionReads L g (history L es) ≡ 2 → Leaves L es g e → GivesNext L es e g 1
-unfolding recorded if_then_else_ moment
+unfolding recorded if_then_else_ moment rolled
 leaving-gives L es g b r (byReading f) = gives-recorded L _ _ _ b f refl refl
 leaving-gives L es g b r (byCount f j x) =
-    count-gives L es g j 12 ((lastTold 12 j (logOf L es g) + mag (numberTold (logOf L es g))) % 65536) b f x (inr refl) (omega arith)
-    ∙ out-reads (logOf L es g) (head-of j x) (sym (reads-by-heads L g b f (history L es)) ∙ r)
+    count-gives L es g j 12 (rolled (lastTold 12 j (headLogOf L es g) + mag (numberTold (headLogOf L es g)))) b f x (inr refl) (omega arith)
+    ∙ out-reads (headLogOf L es g) (head-of j x) (sym (reads-by-heads L g b f (history L es)) ∙ r)
 
 -- by readings and counts
 pub pass-by-counts : PassByCounts

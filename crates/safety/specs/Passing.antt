@@ -2,7 +2,7 @@
 -- proceed clears the block by going on: its far section is given occupied, and later the block free. Beside the demands of document 01.
 --
 -- Read as `Demand3` says.
-use Prim.Native.Nat.{ℕ, _+_, _*_, _%_, _<_, _≤_}
+use Prim.Native.Nat.{ℕ, _+_, _*_, _<_, _≤_}
 use mathlib.Core.Path.{_≡_}
 use mathlib.Core.Logic.{_≢_}
 use mathlib.Core.Bool.{true, false}
@@ -11,6 +11,7 @@ use lib.Signed.{mag}
 use Rattle.track.specs.Codes.{free, occupied, readsNone, neutral, openBlock, stage1, readSection, axlesIn, axlesOut}
 use Rattle.track.specs.Blocks.{onlySection}
 use Rattle.axles.specs.HeadLog.{HeadLog, lastTold, numberTold}
+use Rattle.axles.specs.Since.{rolled}
 use Rattle.layout.specs.declared.Layout.{Layout}
 use Rattle.layout.specs.Layout.{isFitted, lineIn}
 use Rattle.fitted.specs.InUse.{InUse}
@@ -61,20 +62,20 @@ TrainsPass = (L : Layout) → InUse L → PassesOn L
 -- ---- by readings and counts
 
 -- what was said of the heads of section g
-abbrev pub logOf : Layout → List Event → ℕ → HeadLog
-logOf L es g = headLog g (history L es)
+abbrev pub headLogOf : Layout → List Event → ℕ → HeadLog
+headLogOf L es g = headLog g (history L es)
 
 -- after the events es a train arrives in section g: it is read occupied; or, where it has heads, 1 to 255 axles more are counted in past one of them (L1)
 pub data Arrives (L : Layout) (es : List Event) (g : ℕ) : Event → Type 0 where
   byReading : isFitted L g ≡ false → Arrives L es g (event readSection g occupied)
   byCount : isFitted L g ≡ true → (j n : ℕ) → j < 2 → 1 ≤ n → n ≤ 255
-      → Arrives L es g (event axlesIn (2 * g + j) ((lastTold axlesIn j (logOf L es g) + n) % 65536))
+      → Arrives L es g (event axlesIn (2 * g + j) (rolled (lastTold axlesIn j (headLogOf L es g) + n)))
 
 -- it leaves section g: it is read free; or, where it has heads, as many axles more as are in it are counted out past one of them (L1)
 pub data Leaves (L : Layout) (es : List Event) (g : ℕ) : Event → Type 0 where
   byReading : isFitted L g ≡ false → Leaves L es g (event readSection g free)
   byCount : isFitted L g ≡ true → (j : ℕ) → j < 2
-      → Leaves L es g (event axlesOut (2 * g + j) ((lastTold axlesOut j (logOf L es g) + mag (numberTold (logOf L es g))) % 65536))
+      → Leaves L es g (event axlesOut (2 * g + j) (rolled (lastTold axlesOut j (headLogOf L es g) + mag (numberTold (headLogOf L es g)))))
 
 -- the block opens by them, with any events between while the train goes out. Nothing else is asked of the heads: the far section reads free while its
 -- signal shows proceed, and the block occupied until it opens, so both heads of either speak, and its last reset is proved
