@@ -3,7 +3,7 @@ use crate::examples::*;
 use crate::fuzz::{damage, gen_layout, Rng};
 use crate::layout::{self, encode, Layout, Route};
 use crate::level::LEVEL;
-use crate::{number_cases, rule_cases};
+use crate::{distant_cases, number_cases, rule_cases};
 use std::collections::{BTreeMap, HashSet};
 
 /// What the peer answers to a layout file at a level.
@@ -127,10 +127,10 @@ fn largest(c: &mut Cases) {
     for n in [0, 1, 126, 127, 128, 129, 495] {
         c.sound("no pair must conflict, some are listed", &changed(&none, |l| l.conf.truncate(n)));
     }
-    c.sound("the longest file", &longest());
-    let file = encode(&longest());
+    c.sound("the longest file of version 1", &longest_1());
+    let file = encode(&longest_1());
     assert_eq!(file.len(), 4256);
-    c.made("the longest file and a byte more", &[&file[..], &[0]].concat(), 26, 4256);
+    c.made("the same and a byte more", &[&file[..], &[0]].concat(), 26, 4256);
     let file = encode(&all);
     let end = file.len();
     c.made("the last byte missing", &file[..end - 1], 21, end - 1);
@@ -173,6 +173,7 @@ pub fn all(seed: u64) -> Cases {
     pairs(&mut c);
     rule_cases::all(&mut c);
     largest(&mut c);
+    distant_cases::files(&mut c);
     random(&mut c, seed);
     c
 }
@@ -186,7 +187,7 @@ pub fn store(data: &str, expected: &str, seed: u64) {
         println!("{answer}{} {count}", if *rule > 0 { format!(" rule {rule}") } else { String::new() });
     }
     let answers = [0, 21, 22, 23, 24, 26].map(|number| (number, 0));
-    let rules = (1..=if LEVEL < 2 { 6 } else { 7 }).map(|rule| (25, rule));
+    let rules = (1..=7).map(|rule| (25, rule));
     assert!(answers.into_iter().chain(rules).all(|a| c.tally.contains_key(&a)), "every answer comes, and every rule");
     println!("{} files, {} bytes", c.tally.values().sum::<usize>(), c.archive.len());
 }

@@ -134,16 +134,26 @@ pub fn most_blocks() -> Layout {
     l
 }
 
-/// The layout whose file is the longest, 4,256 bytes: seven blocks in each line, and 48 exit routes over all eight sections that are left.
-pub fn longest() -> Layout {
+// So many lines with as many blocks each, 56 in all, and 48 exit routes over all eight sections that are left, everything else as long as it may be.
+fn long(lines: usize, blocks: usize) -> Layout {
     let points = || (0..8).map(|p| (p, 1)).collect();
     let mut l = Layout { nsec: 64, own: vec![0; 32], nsig: 32, ..version_1() };
-    for line in 0..8 {
-        let first = 8 + 7 * line;
-        l.lines.push(Line { blocks: one_section_each(first..first + 7), inner: [0, 7], ent: [2 * line, 2 * line + 1], points: points() });
+    for line in 0..lines {
+        let first = 8 + blocks * line;
+        l.lines.push(Line { blocks: one_section_each(first..first + blocks), inner: [0, 7], ent: [2 * line, 2 * line + 1], points: points() });
     }
     let route = || Route { entry: 16, kind: 2, end: 1, path: (0..8).collect(), overlap: (0..4).collect(), points: points(), ..Route::default() };
     l.routes = (0..48).map(|_| route()).collect();
     l.conf = every_pair(48);
     l
+}
+
+/// The layout whose file is the longest of version 1, 4,256 bytes: eight lines of seven blocks.
+pub fn longest_1() -> Layout {
+    long(8, 7)
+}
+
+/// The layout whose file is the longest, 4,363 bytes: seven lines of eight blocks, and so 130 signals, and 32 distants whose numbers take two bytes each.
+pub fn longest() -> Layout {
+    Layout { ver: 2, dist: vec![(130, 128); 32], ..long(7, 8) }
 }

@@ -1,9 +1,10 @@
 // Records changed by hand: each field of a state and of a layout past its range, each rule of section 2 broken, and near misses.
+use crate::distant_cases;
 use crate::examples::BRANCH_T;
 use crate::fuzz::{gen_layout, Rng};
 use crate::layout::encode;
 use crate::level::{LAST_KIND, LEVEL};
-use crate::records::{Change, CODES};
+use crate::records::{Change, Part, Part::*, CODES, PARTS};
 use crate::run_cases::BRANCH_U;
 use crate::runs::{form, Event, Runs};
 
@@ -11,13 +12,13 @@ use crate::runs::{form, Event, Runs};
 const PLACES: [u16; 9] = [64, 32, 32, 48, 48, 48, 8, 64, 64];
 
 // Changes of the layout, of the state, of line 0, and of a route.
-pub fn plan(field: u8, place: u16, byte: u8) -> Change {
-    Change { record: 0, number: 0, field, place, byte }
+pub fn plan(part: Part, place: u16, byte: u8) -> Change {
+    Change { record: 0, number: 0, field: part as u8, place, byte }
 }
 pub fn state(field: u8, place: u16, byte: u8) -> Change {
     Change { record: 1, number: 0, field, place, byte }
 }
-fn line(field: u8, place: u16, byte: u8) -> Change {
+pub fn line(field: u8, place: u16, byte: u8) -> Change {
     Change { record: 2, number: 0, field, place, byte }
 }
 fn route(number: u8, field: u8, place: u16, byte: u8) -> Change {
@@ -25,18 +26,18 @@ fn route(number: u8, field: u8, place: u16, byte: u8) -> Change {
 }
 
 // An event of every kind, and of the kinds before and after them.
-fn every_kind() -> Vec<Event> {
+pub fn every_kind() -> Vec<Event> {
     (0..=LAST_KIND + 1).map(|kind| [kind, 0, 1]).collect()
 }
 
 // Records that are not sound: 18 for every event.
-fn unsound(c: &mut Runs, label: &str, file: &[u8], changes: &[Change]) {
+pub fn unsound(c: &mut Runs, label: &str, file: &[u8], changes: &[Change]) {
     let answers = c.any(file, changes, &every_kind());
     assert!(answers.iter().all(|a| *a == (18, 0)), "{label} is not sound");
 }
 
 // Records that are sound: 1 for an event of no kind.
-fn sound(c: &mut Runs, label: &str, file: &[u8], changes: &[Change]) {
+pub fn sound(c: &mut Runs, label: &str, file: &[u8], changes: &[Change]) {
     let by_hand = changes.iter().any(|x| x.record == 1);
     let events = if by_hand { vec![[0, 0, 0], [LAST_KIND + 1, 0, 0]] } else { every_kind() };
     assert_eq!(c.any(file, changes, &events)[0], (1, 0), "{label} is sound");
@@ -59,14 +60,17 @@ fn states(c: &mut Runs) {
 
 // Counts, codes and references of a layout.
 fn ranges(c: &mut Runs) {
-    let too_many = [(0, 65), (0, 255), (0, 0), (1, 33), (1, 255), (3, 33), (3, 255), (4, 9), (4, 255), (6, 49), (6, 255)];
-    for (field, byte) in too_many {
-        unsound(c, "a count of the layout", &BRANCH_T, &[plan(field, 0, byte)]);
+    let too_many = [
+        (Sections, 65), (Sections, 255), (Sections, 0), (Points, 33), (Points, 255), (Signals, 33), (Signals, 255), (Lines, 9), (Lines, 255),
+        (Routes, 49), (Routes, 255),
+    ];
+    for (part, byte) in too_many {
+        unsound(c, "a count of the layout", &BRANCH_T, &[plan(part, 0, byte)]);
     }
-    for (field, byte) in [(0, 3), (1, 0), (3, 3), (4, 0), (4, 2), (6, 4)] {
-        unsound(c, "a count that leaves something out, or has nothing there", &BRANCH_T, &[plan(field, 0, byte)]);
+    for (part, byte) in [(Sections, 3), (Points, 0), (Signals, 3), (Lines, 0), (Lines, 2), (Routes, 4)] {
+        unsound(c, "a count that leaves something out, or has nothing there", &BRANCH_T, &[plan(part, 0, byte)]);
     }
-    unsound(c, "a point's section", &BRANCH_T, &[plan(2, 0, 4)]);
+    unsound(c, "a point's section", &BRANCH_T, &[plan(PointSection, 0, 4)]);
     for (field, place, byte) in [(0, 0, 0), (0, 0, 9), (0, 0, 255), (1, 0, 4), (2, 0, 4), (3, 0, 255), (4, 0, 4), (5, 0, 4), (6, 0, 9), (6, 0, 1)] {
         unsound(c, "a number of the line", &BRANCH_T, &[line(field, place, byte)]);
     }
@@ -100,25 +104,28 @@ fn rules(c: &mut Runs) {
     broken("5, an exit route to another section", &BRANCH_T, &[route(0, 6, 0, 3)]);
     broken("5, an exit route at an entrance signal", &BRANCH_T, &[route(0, 0, 0, 1)]);
     broken("6, the same entry signal", &BRANCH_T, &[route(2, 0, 0, 0)]);
-    broken("6, a common path section", &BRANCH_T, &[plan(8, 48 + 2, 0), plan(8, 2 * 48 + 1, 0)]);
+    broken("6, a common path section", &BRANCH_T, &[plan(Conflict, 48 + 2, 0), plan(Conflict, 2 * 48 + 1, 0)]);
     broken("6, a common point in different positions", &BRANCH_U, &[route(2, 9, 0, 1), route(2, 11, 0, 2)]);
 }
 
 // The table of conflicts: 0 or 1, the same both ways, none of a route with itself.
 fn conflicts(c: &mut Runs) {
     let (one, other) = (48 + 2, 2 * 48 + 1);
-    unsound(c, "listed one way", &BRANCH_T, &[plan(8, one, 0)]);
-    unsound(c, "listed one way", &BRANCH_T, &[plan(8, other, 0)]);
-    unsound(c, "listed one way", &BRANCH_T, &[plan(8, 1, 1)]);
-    unsound(c, "neither 0 nor 1", &BRANCH_T, &[plan(8, one, 2), plan(8, other, 2)]);
-    unsound(c, "a route with itself", &BRANCH_T, &[plan(8, 0, 1)]);
-    sound(c, "another pair", &BRANCH_T, &[plan(8, 1, 1), plan(8, 48, 1)]);
-    sound(c, "past the routes", &BRANCH_T, &[plan(8, 2303, 9), plan(8, 3, 7)]);
+    unsound(c, "listed one way", &BRANCH_T, &[plan(Conflict, one, 0)]);
+    unsound(c, "listed one way", &BRANCH_T, &[plan(Conflict, other, 0)]);
+    unsound(c, "listed one way", &BRANCH_T, &[plan(Conflict, 1, 1)]);
+    unsound(c, "neither 0 nor 1", &BRANCH_T, &[plan(Conflict, one, 2), plan(Conflict, other, 2)]);
+    unsound(c, "a route with itself", &BRANCH_T, &[plan(Conflict, 0, 1)]);
+    sound(c, "another pair", &BRANCH_T, &[plan(Conflict, 1, 1), plan(Conflict, 48, 1)]);
+    sound(c, "past the routes", &BRANCH_T, &[plan(Conflict, 2303, 9), plan(Conflict, 3, 7)]);
 }
 
 // Changes after which the layout is sound still.
 fn near_misses(c: &mut Runs) {
-    for change in [plan(0, 0, 64), plan(3, 0, 32), plan(1, 0, 32), plan(6, 0, 2), plan(2, 31, 255), plan(2, 1, 200)] {
+    let within = [
+        plan(Sections, 0, 64), plan(Signals, 0, 32), plan(Points, 0, 32), plan(Routes, 0, 2), plan(PointSection, 31, 255), plan(PointSection, 1, 200),
+    ];
+    for change in within {
         sound(c, "a count within its range, or past a count", &BRANCH_T, &[change]);
     }
     for change in [line(1, 1, 255), line(7, 0, 99), line(8, 7, 9), route(0, 6, 1, 200), route(1, 8, 0, 77), route(1, 10, 7, 50), route(40, 5, 0, 9)] {
@@ -127,7 +134,7 @@ fn near_misses(c: &mut Runs) {
     let inner = [route(2, 1, 0, 0), route(2, 5, 0, 2), route(2, 6, 1, 3), route(2, 2, 0, 9), route(2, 3, 0, 7)];
     sound(c, "what an inner route has of a line", &BRANCH_T, &inner);
     sound(c, "an overlap over a block, twice", &BRANCH_T, &[route(0, 7, 0, 2), route(0, 8, 0, 1), route(0, 8, 1, 1)]);
-    sound(c, "the layout of no objects, with a section", &[], &[plan(0, 0, 1)]);
+    unsound(c, "the layout of no objects, with a section", &[], &[plan(Sections, 0, 1)]);
 }
 
 // Random changes of random layouts and of states.
@@ -149,7 +156,7 @@ fn any_change(g: &mut Rng, routes: usize) -> Change {
     let byte = if g.pct(90) { g.below(12) } else { g.below(256) } as u8;
     let place = g.below(4) as u16;
     match g.below(5) {
-        0 => plan(g.below(11) as u8, place, byte),
+        0 => Change { record: 0, number: 0, field: g.below(PARTS) as u8, place, byte },
         1 | 2 => line(g.below(9) as u8, place, byte),
         _ => route(g.below(routes.max(1)) as u8, g.below(12) as u8, place, byte),
     }
@@ -163,5 +170,6 @@ pub fn all(c: &mut Runs, seed: u64) {
     rules(c);
     conflicts(c);
     near_misses(c);
+    distant_cases::by_hand(c);
     random(c, &mut g);
 }

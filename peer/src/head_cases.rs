@@ -4,7 +4,7 @@ use crate::examples::{most_blocks, BRANCH_T};
 use crate::hand_cases::{plan, state};
 use crate::layout::encode;
 use crate::level::LAST_KIND;
-use crate::records::Change;
+use crate::records::{Change, Part::*};
 use crate::run_cases::{events, BRANCH_U, P1};
 use crate::runs::{form, Event, Runs};
 
@@ -275,14 +275,15 @@ fn tables_by_hand(c: &mut Runs) {
         assert_eq!(c.any_fitted(&BRANCH_T, &form(&[1]), changes, &asked), last, "{label}");
     };
     let unsound = [(18, 0); 5];
-    for change in [plan(9, 0, 2), plan(9, 3, 2), plan(9, 3, 255), plan(9, 1, 2), plan(10, 0, 1), plan(10, 0, 2), plan(10, 0, 255)] {
+    let heads = [(0, 2), (3, 2), (3, 255), (1, 2)].map(|(place, byte)| plan(Fitted, place, byte));
+    for change in heads.into_iter().chain([1, 2, 255].map(|byte| plan(Lacking, 0, byte))) {
         made("neither 0 nor 1, or lacking", &[change], &unsound);
     }
-    made("fitted by hand", &[plan(9, 3, 1)], &[(1, 0), (34, 3), DONE, (2, 8), (30, 0)]);
-    made("its heads taken by hand", &[plan(9, 1, 0)], &[(1, 0), DONE, (30, 3), (2, 8), (30, 0)]);
-    made("past the sections", &[plan(9, 4, 1), plan(9, 63, 255)], &[(1, 0), DONE, (30, 3), (2, 8), (30, 0)]);
-    made("past the sections, which are then more", &[plan(9, 4, 2), plan(0, 0, 5)], &unsound);
-    made("and fitted", &[plan(9, 4, 1), plan(0, 0, 5)], &[(1, 0), DONE, (30, 3), DONE, (30, 0)]);
+    made("fitted by hand", &[plan(Fitted, 3, 1)], &[(1, 0), (34, 3), DONE, (2, 8), (30, 0)]);
+    made("its heads taken by hand", &[plan(Fitted, 1, 0)], &[(1, 0), DONE, (30, 3), (2, 8), (30, 0)]);
+    made("past the sections", &[plan(Fitted, 4, 1), plan(Fitted, 63, 255)], &[(1, 0), DONE, (30, 3), (2, 8), (30, 0)]);
+    made("past the sections, which are then more", &[plan(Fitted, 4, 2), plan(Sections, 0, 5)], &unsound);
+    made("and fitted", &[plan(Fitted, 4, 1), plan(Sections, 0, 5)], &[(1, 0), DONE, (30, 3), DONE, (30, 0)]);
 }
 
 /// All of them.

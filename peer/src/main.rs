@@ -2,6 +2,7 @@ mod bench;
 mod beside;
 mod cases;
 mod commands;
+mod distant_cases;
 mod examples;
 mod fuzz;
 mod hand_cases;

@@ -55,6 +55,15 @@ impl Fields {
         self.points(["line points", "line point", "line position"], &x.points, l.own.len());
     }
 
+    // The numbers of the distants (L2).
+    fn distants(&mut self, l: &Layout) {
+        self.code("distants", l.dist.len(), 0, 32);
+        for (carrier, announced) in &l.dist {
+            self.refer("carrier", *carrier, l.all_sigs() + 1);
+            self.refer("announced signal", *announced, l.all_sigs());
+        }
+    }
+
     // The numbers of a route.
     fn route(&mut self, l: &Layout, r: &Route) {
         self.refer("entry signal", r.entry, l.nsig);
@@ -71,12 +80,15 @@ impl Fields {
 
     fn of(l: &Layout) -> Fields {
         let mut f = Fields::default();
-        f.code("version", 1, 1, layout::max_version(LEVEL) as usize);
+        f.code("version", l.ver as usize, 1, layout::max_version(LEVEL) as usize);
         f.code("sections", l.nsec, 1, 64);
         f.sections(["points", "own section"], &l.own, 0, 32, l.nsec);
         f.code("signals", l.nsig, 0, 32);
         f.code("lines", l.lines.len(), 0, 8);
         l.lines.iter().for_each(|x| f.line(l, x));
+        if l.ver >= 2 {
+            f.distants(l);
+        }
         f.code("routes", l.routes.len(), 0, 48);
         l.routes.iter().for_each(|r| f.route(l, r));
         f.code("conflicts", l.conf.len(), 0, 1128);
@@ -124,6 +136,11 @@ fn every_kind() -> Layout {
     })
 }
 
+// The same in version 2, with three distants (L2).
+fn with_distants() -> Layout {
+    changed(&every_kind(), |l| (l.ver, l.dist) = (2, vec![(2, 3), (0, 1), (4, 2)]))
+}
+
 // One number made badly, at the end of the file and inside, or cut.
 fn bad_forms(c: &mut Cases, fields: &Fields, i: usize) {
     let (f, at) = (&fields.0[i], fields.before(i).len());
@@ -155,15 +172,15 @@ fn limits(c: &mut Cases, fields: &Fields, i: usize) {
     }
 }
 
-// Each kind of number at its first place, then the limit at its last place.
-fn each_number(c: &mut Cases) {
-    let fields = Fields::of(&every_kind());
+// Each kind of number at its first place, then the limit at its last place; of a layout that has so many kinds those that are asked for.
+fn each_number(c: &mut Cases, l: &Layout, kinds: usize, asked: impl Fn(&str) -> bool) {
+    let fields = Fields::of(l);
     let file = fields.before(fields.0.len());
-    assert_eq!(file, encode(&every_kind()));
+    assert_eq!(file, encode(l));
     let names: HashSet<&str> = fields.0.iter().map(|f| f.name).collect();
-    assert_eq!(names.len(), 31, "every kind of number");
+    assert_eq!(names.len(), kinds, "every kind of number");
     c.made("every kind of number", &file, 0, 0);
-    for i in 0..fields.0.len() {
+    for i in (0..fields.0.len()).filter(|&i| asked(fields.0[i].name)) {
         let f = &fields.0[i];
         let same = |g: &Field| g.name == f.name;
         if fields.0.iter().position(same) == Some(i) {
@@ -235,7 +252,9 @@ fn counts(c: &mut Cases) {
 }
 
 pub fn all(c: &mut Cases) {
-    each_number(c);
+    each_number(c, &every_kind(), 31, |_| true);
     two_faults(c);
     counts(c);
+    // of version 2 the numbers that it adds, with those before and after them
+    each_number(c, &with_distants(), 34, |name| ["version", "distants", "carrier", "announced signal", "routes"].contains(&name));
 }

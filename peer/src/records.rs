@@ -1,5 +1,5 @@
 // Records as the box holds them, tables of fixed size: one byte can be changed by hand to what no file and no event would bring there.
-use crate::examples::{one_section_each, version_1};
+use crate::examples::one_section_each;
 use crate::layout::{self, Layout, Line, Route};
 use crate::lbox::{self, Axle, Head, State};
 use crate::level::LEVEL;
@@ -57,6 +57,28 @@ fn route_fields(r: &Route) -> Fields {
     ]
 }
 
+/// The fields of a layout's record; 6 and 11 are its lines and its routes, records of their own.
+#[derive(Clone, Copy)]
+pub enum Part {
+    Version,
+    Sections,
+    Points,
+    PointSection,
+    Signals,
+    Lines,
+    Distants = 7,
+    Carrier,
+    Announced,
+    Routes,
+    Conflict = 12,
+    Fitted,
+    Lacking,
+}
+use Part::*;
+
+/// How many fields there are.
+pub const PARTS: usize = Lacking as usize + 1;
+
 /// A layout's record with those of its lines and routes.
 pub struct Plan {
     own: Fields,
@@ -77,28 +99,58 @@ impl Plan {
         lines.resize(8, line_fields(&Line::default()));
         routes.resize(48, route_fields(&Route::default()));
         let own = vec![
-            one(l.nsec), one(l.own.len()), table(l.own.iter().copied(), 32, 0), one(l.nsig), one(l.lines.len()), vec![], one(l.routes.len()), vec![],
+            one(l.ver as usize), one(l.nsec), one(l.own.len()), table(l.own.iter().copied(), 32, 0), one(l.nsig), one(l.lines.len()), vec![],
+            one(l.dist.len()), table(l.dist.iter().map(|d| d.0), 32, 0), table(l.dist.iter().map(|d| d.1), 32, 0), one(l.routes.len()), vec![],
             conflict, table((0..64).map(|g| l.fitted.contains(&g) as usize), 64, 0), one(!l.sound() as usize),
         ];
         Plan { own, lines, routes }
     }
 
+    // A field that is a table, and one that is a number.
+    fn table(&self, part: Part) -> &[u8] {
+        &self.own[part as usize]
+    }
+    fn number(&self, part: Part) -> usize {
+        self.own[part as usize][0] as usize
+    }
+
     pub fn sections(&self) -> usize {
-        self.own[0][0] as usize
+        self.number(Sections)
     }
     pub fn points(&self) -> usize {
-        self.own[1][0] as usize
+        self.number(Points)
     }
     pub fn line_count(&self) -> usize {
-        self.own[4][0] as usize
+        self.number(Lines)
     }
     pub fn route_count(&self) -> usize {
-        self.own[6][0] as usize
+        self.number(Routes)
     }
 
     /// The sections with heads, of those that the layout has.
     pub fn fitted(&self) -> Vec<usize> {
-        (0..self.sections().min(64)).filter(|&g| self.own[9][g] == 1).collect()
+        (0..self.sections().min(64)).filter(|&g| self.table(Fitted)[g] == 1).collect()
+    }
+
+    // The distants (L2): carrier and announced signal. Version 1 has none.
+    fn distants(&self) -> Option<Vec<(usize, usize)>> {
+        let n = self.number(Distants);
+        if self.number(Version) == 1 && n > 0 {
+            return None;
+        }
+        Some(first(self.table(Carrier), n)?.into_iter().zip(first(self.table(Announced), n)?).collect())
+    }
+
+    // Each pair of routes is listed or not, the same both ways, and no route with itself.
+    fn conflicts(&self) -> Option<Vec<(usize, usize)>> {
+        let m = self.route_count();
+        let listed = |a: usize, b: usize| self.table(Conflict)[48 * a + b];
+        for a in 0..m {
+            if listed(a, a) != 0 || (0..m).any(|b| listed(a, b) > 1 || listed(a, b) != listed(b, a)) {
+                return None;
+            }
+        }
+        Some((0..m).flat_map(|a| (a + 1..m).map(move |b| (a, b))).filter(|&(a, b)| listed(a, b) == 1).collect())
     }
 
     /// The layout, where the record is as section 2 has it, each section has heads or not, and none is lacking (L1).
@@ -107,23 +159,19 @@ impl Plan {
         if self.points() > 32 || n > 8 || m > 48 {
             return None;
         }
-        if self.own[9].iter().take(self.sections()).any(|&has| has > 1) || self.own[10][0] != 0 {
+        if self.table(Fitted).iter().take(self.sections()).any(|&has| has > 1) || self.number(Lacking) != 0 {
             return None;
         }
-        let listed = |a: usize, b: usize| self.own[8][48 * a + b];
-        for a in 0..m {
-            if listed(a, a) != 0 || (0..m).any(|b| listed(a, b) > 1 || listed(a, b) != listed(b, a)) {
-                return None;
-            }
-        }
         let l = Layout {
+            ver: self.number(Version) as u32,
             nsec: self.sections(),
-            own: first(&self.own[2], self.points())?,
-            nsig: self.own[3][0] as usize,
+            own: first(self.table(PointSection), self.points())?,
+            nsig: self.number(Signals),
             lines: self.lines[..n].iter().map(line_of).collect::<Option<_>>()?,
+            dist: self.distants()?,
             routes: self.routes[..m].iter().map(route_of).collect::<Option<_>>()?,
-            conf: (0..m).flat_map(|a| (a + 1..m).map(move |b| (a, b))).filter(|&(a, b)| listed(a, b) == 1).collect(),
-            ..version_1()
+            conf: self.conflicts()?,
+            ..Layout::default()
         };
         let sound = layout::load(&layout::encode(&l), LEVEL).ok()?;
         Some(Layout { fitted: self.fitted(), ..sound })

@@ -1,4 +1,4 @@
-// Each clause of rules 1 to 6 broken, rules broken together, and near misses that are sound.
+// Each clause of rules 1 to 7 broken, rules broken together, and near misses that are sound.
 use crate::cases::{changed, Cases};
 use crate::examples::{every_pair, needed_pairs, one_section_each, version_1};
 use crate::layout::{encode, Layout, Line, Route};
@@ -189,6 +189,35 @@ fn rule_6_places(c: &mut Cases) {
     }
 }
 
+// The two lines in version 2 with these distants. Its block signals are 16 and 17, 18 to 21, 22 and 23.
+fn with_distants(distants: &[(usize, usize)]) -> Layout {
+    changed(&two_lines(), |l| (l.ver, l.dist) = (2, distants.to_vec()))
+}
+
+fn rule_7(c: &mut Cases) {
+    for signal in 0..24 {
+        c.breaks("a distant announces its own carrier", &with_distants(&[(signal + 1, signal)]), 7);
+    }
+    let distants: Vec<(usize, usize)> = (0..32).map(|n| (n % 25, (n + 7) % 24)).collect();
+    c.sound("32 distants", &with_distants(&distants));
+    for place in [0, 1, 15, 31] {
+        c.breaks("one of 32 announces its own carrier", &changed(&with_distants(&distants), |l| l.dist[place] = (24, 23)), 7);
+    }
+    for signal in [0, 15, 16, 17, 22, 23] {
+        c.sound("a free-standing distant", &with_distants(&[(0, signal)]));
+        c.sound("the signal before the carrier", &with_distants(&[(signal + 1, (signal + 23) % 24)]));
+        c.sound("the signal after the carrier", &with_distants(&[(signal + 1, (signal + 1) % 24)]));
+    }
+    c.sound("two distants on a mast", &with_distants(&[(7, 16), (7, 18)]));
+    c.sound("the same distant twice", &with_distants(&[(7, 16), (7, 16)]));
+    c.sound("two distants of a signal, one on a mast", &with_distants(&[(0, 1), (17, 1)]));
+    c.sound("each announces the carrier of the other", &with_distants(&[(3, 7), (8, 2)]));
+    c.sound("a signal of another line", &with_distants(&[(17, 18), (20, 22), (24, 0)]));
+    c.sound("a signal for the other direction", &with_distants(&[(17, 17), (18, 16), (2, 0)]));
+    c.sound("no distant", &with_distants(&[]));
+    c.breaks("and no pair listed", &changed(&with_distants(&[(1, 0)]), |l| l.conf.clear()), 6);
+}
+
 fn near_misses(c: &mut Cases) {
     c.sound("two lines", &two_lines());
     sound(c, "a common point in the same position", |l| l.routes[9].points = vec![(0, 1), (5, 1)]);
@@ -218,14 +247,15 @@ fn break_alone(l: &mut Layout, rule: usize) {
         3 => l.lines[2].points[1].0 = l.lines[2].points[0].0,
         4 => l.routes[9].path = vec![17],
         5 => l.routes[8].entry = l.lines[2].ent[1],
-        _ => l.conf.retain(|pair| *pair != (2, 3)),
+        6 => l.conf.retain(|pair| *pair != (2, 3)),
+        _ => (l.ver, l.dist) = (2, vec![(0, 6), (7, 6)]),
     }
 }
 
 // Every choice of rules broken together: the lowest is told, but bytes left over and a missing end come before it.
 fn together(c: &mut Cases) {
-    for choice in 1..64u32 {
-        let rules: Vec<usize> = (1..7).filter(|rule| choice >> (rule - 1) & 1 == 1).collect();
+    for choice in 1..128u32 {
+        let rules: Vec<usize> = (1..8).filter(|rule| choice >> (rule - 1) & 1 == 1).collect();
         let l = changed(&two_lines(), |l| rules.iter().for_each(|rule| break_alone(l, *rule)));
         c.breaks("rules broken together", &l, rules[0]);
         let file = encode(&l);
@@ -246,4 +276,5 @@ pub fn all(c: &mut Cases) {
     rule_6(c);
     rule_6_places(c);
     together(c);
+    rule_7(c);
 }

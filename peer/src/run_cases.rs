@@ -1,6 +1,6 @@
 // Runs for the stored archive: those of section 8, one for each refusal, odd numbers, and random ones with dead inputs, cancels and bars.
 use crate::examples::*;
-use crate::fuzz::{damage, gen_events, gen_layout, Rng};
+use crate::fuzz::{damage, gen_events, gen_layout, gen_max, Rng};
 use crate::layout::{self, encode, Layout};
 use crate::lbox::{self, Var};
 use crate::level::{LAST_KIND, LEVEL};
@@ -36,9 +36,9 @@ fn times(n: usize, text: &str) -> String {
     text.repeat(n)
 }
 
-// The runs of section 8; the last event of each asks what became of route 0 or of the line.
-fn section_8(c: &mut Runs) {
-    let mut on_t = |label: &str, text: String, last: &[(u32, u32)]| c.made(label, &BRANCH_T, &events(&text), last);
+/// The runs of section 8 on a file of branch T; the last event of each asks what became of route 0 or of the line.
+pub fn section_8(c: &mut Runs, t: &[u8]) {
+    let mut on_t = |label: &str, text: String, last: &[(u32, u32)]| c.made(label, t, &events(&text), last);
     let answers = [(8, 0), (0, 0), (0, 0), (0, 0), (0, 0), (0, 0), (10, 1), (0, 0), (0, 0), (0, 0), (0, 0), (5, 1)];
     on_t("P1", P1.to_string(), &answers);
     on_t("P3", format!("{P1}{P3}(5 0 0)"), &[(13, 0)]);
@@ -62,10 +62,10 @@ fn section_8(c: &mut Runs) {
     }
 }
 
-// Each refusal of an order, by a run made for it.
-fn refusals(c: &mut Runs) {
+/// Each refusal of an order, by a run made for it, on files of the branches T and U.
+pub fn refusals(c: &mut Runs, t: &[u8], u: &[u8]) {
     let free = "(1 0 1)(1 1 1)(1 2 1)(1 3 1)";
-    let mut on_t = |text: String, last: (u32, u32)| c.made("on branch T", &BRANCH_T, &events(&text), &[last]);
+    let mut on_t = |text: String, last: (u32, u32)| c.made("on branch T", t, &events(&text), &[last]);
     on_t(format!("{P1}(4 0 0)"), (4, 0));
     on_t(format!("{P1}(5 1 0)(4 2 0)"), (5, 1));
     on_t(format!("{free}(4 1 0)"), (6, 0));
@@ -78,7 +78,7 @@ fn refusals(c: &mut Runs) {
     on_t(format!("{P1}(5 0 0)(1 1 2)(1 2 2)(1 1 1)(6 0 2)"), (12, 1));
     on_t(format!("{free}(2 0 2)(3 0 2)(4 1 0)"), (6, 0));
     on_t(format!("{free}(2 0 1)(3 0 1)(4 1 0)"), (0, 0));
-    let mut on_u = |text: String, last: (u32, u32)| c.made("on branch U", &BRANCH_U, &events(&text), &[last]);
+    let mut on_u = |text: String, last: (u32, u32)| c.made("on branch U", u, &events(&text), &[last]);
     on_u(format!("{U0}(8 0 1)(4 0 0)"), (0, 0));
     on_u(format!("{U0}(7 0 2)(4 0 0)"), (9, 0));
     on_u(format!("{U0}(4 3 0)"), (9, 0));
@@ -264,8 +264,10 @@ fn random(c: &mut Runs, g: &mut Rng) {
     for l in [all_must_conflict(), few_must_conflict(), none_must_conflict(), none_must_conflict_on_lines(), most_blocks()] {
         c.any(&encode(&l), &[], &woven(g, &l, 120, 8));
     }
-    let l = Layout { fitted: (0..64).collect(), ..most_blocks() };
-    c.any_fitted(&encode(&l), &form(&l.fitted), &[], &woven(g, &l, 120, 8));
+    let all_fitted = Layout { fitted: (0..64).collect(), ..most_blocks() };
+    for l in [all_fitted, gen_max(g, LEVEL), gen_max(g, LEVEL)] {
+        c.any_fitted(&encode(&l), &form(&l.fitted), &[], &woven(g, &l, 120, 8));
+    }
 }
 
 // Files that are refused: every event on them gets 18.
@@ -286,8 +288,8 @@ fn refused(c: &mut Runs, g: &mut Rng) {
 /// All of them; the random ones hang on the seed.
 pub fn all(c: &mut Runs, seed: u64) {
     let mut g = Rng(seed.wrapping_mul(0x2545F4914F6CDD1D));
-    section_8(c);
-    refusals(c);
+    section_8(c, &BRANCH_T);
+    refusals(c, &BRANCH_T, &BRANCH_U);
     odd(c, &mut g);
     random(c, &mut g);
     refused(c, &mut g);

@@ -4,7 +4,7 @@ use crate::lbox::{self, Var};
 use crate::level::{ADDED, LEVEL};
 use crate::num;
 use crate::records::{change, heads_of, in_range, tables, with_readings, Change, Fields, Plan, HEADS, SECTION};
-use crate::{hand_cases, head_cases, run_cases};
+use crate::{distant_cases, hand_cases, head_cases, run_cases};
 use std::collections::BTreeMap;
 
 pub type Event = [u32; 3];
@@ -245,6 +245,7 @@ pub fn all(seed: u64) -> Runs {
     run_cases::all(&mut runs, seed);
     hand_cases::all(&mut runs, seed);
     head_cases::all(&mut runs);
+    distant_cases::runs(&mut runs);
     runs
 }
 

@@ -29,3 +29,7 @@ code s c low high = field s c low (high + 1) 23
 -- a reference to one of so many objects: 24 if there is none
 unfoldable pub reference : List ℕ → Cursor → ℕ → Cursor
 reference s c objects = field s c 0 objects 24
+
+-- 0 for none, or the number of one of so many objects plus 1: 24 if there is none (L2)
+unfoldable pub noneOrReference : List ℕ → Cursor → ℕ → Cursor
+noneOrReference s c objects = reference s c (objects + 1)

@@ -7,7 +7,7 @@ ghost use mathlib.Core.Path.{_≡_};
 ghost use Prim.Native.Nat.{_≤_};
 ghost use lib.ListN.{set};
 ghost use Rattle.laws.specs.Tables.{iter};
-ghost use Rattle.fields.specs.Fields.{failed, judge, field, code, reference};
+ghost use Rattle.fields.specs.Fields.{failed, judge, field, code, reference, noneOrReference};
 ghost use Rattle.fields.specs.Lists.{itemTurn, items, pointTurn, points};
 
 // Where a reading stands. With fault 0, `at` is the next number's place and `value` the number read last.
@@ -91,6 +91,13 @@ pub fn read_reference(s: &[u8], c: Cursor, objects: u8) -> Cursor
     ensures { λ r. ⌜ r ≡ reference (now (s .entry)) c objects ⌝ }
 {
     next(s, c, 0, wide(objects), 24)
+}
+
+// The next number is 0 for none, or refers to one of so many objects, its number plus 1.
+pub fn read_none_or_reference(s: &[u8], c: Cursor, objects: u8) -> Cursor
+    ensures { λ r. ⌜ r ≡ noneOrReference (now (s .entry)) c objects ⌝ }
+{
+    next(s, c, 0, wide(objects) + 1, 24)
 }
 
 // The list with x at i; as it was where i lies past it.

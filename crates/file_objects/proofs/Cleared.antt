@@ -1,25 +1,29 @@
--- Past a count there is nothing: in the points' own sections, in lines and routes, and in the lists of each.
+-- Past a count there is nothing: in the points' own sections, in lines, distants and routes, and in the lists of each.
 use Prim.Native.Nat.{ℕ, _≤_}
 use mathlib.Core.Path.{_≡_, refl}
 use mathlib.Core.List.{List}
+use lib.Dec.{ltb}
 use lib.ListN.{getD}
+use Rattle.laws.proofs.Choice.{if-both}
 use Rattle.laws.proofs.Arrays.{nothing-at}
 use Rattle.laws.proofs.Stores.{turns-past, turns-all}
 use Rattle.fields.specs.declared.Cursor.{Cursor}
-use Rattle.fields.specs.Fields.{reference}
+use Rattle.fields.specs.Fields.{code, reference, noneOrReference}
 use Rattle.fields.proofs.Cleared.{items-past, points-past}
 use Rattle.track.specs.declared.Counts.{Counts}
 use Rattle.track.specs.declared.Line.{Line}
 use Rattle.track.specs.declared.Route.{Route}
-use Rattle.track.specs.Sizes.{mostPoints, mostLines, mostBlocks, mostTrainRoutes, mostListed, mostOverlap}
+use Rattle.track.specs.Sizes.{mostPoints, mostLines, mostBlocks, mostDistants, mostTrainRoutes, mostListed, mostOverlap}
 use Rattle.track.specs.Objects.{noLine, noRoute, line, route}
 use Rattle.file_objects.specs.declared.Owned.{Owned}
 use Rattle.file_objects.specs.declared.Lines.{Lines}
+use Rattle.file_objects.specs.declared.distants.Distants.{Distants}
 use Rattle.file_objects.specs.declared.Routes.{Routes}
 use Rattle.file_objects.specs.Sections.{sectionTurn, sections, noSections}
 use Rattle.file_objects.specs.Lines.{aLine, noLines, lineTurn, linesFrom, lines}
+use Rattle.file_objects.specs.Distants.{distantsVersion, noDistants, withoutDistants, distantTurn, distantsFrom, distants}
 use Rattle.file_objects.specs.Routes.{routeHead, aRoute, noRoutes, routeTurn, routesFrom, routes}
-use Rattle.file_objects.proofs.Ranges.{sections-count, lines-count, routes-count}
+use Rattle.file_objects.proofs.Ranges.{sections-count, lines-count, from-count, routes-count}
 
 module _ (s : List ℕ) (c : Cursor) (objects : ℕ) where
   -- the points' own sections
@@ -60,6 +64,22 @@ module _ (s : List ℕ) (n : Counts) where
   lines-cleared c =
       turns-all (λ (t : Lines). t .line) (λ t. aLine s n (t .cur) .line) noLine (lineTurn s n) (λ i t. refl) _ _
       LineCleared (λ t. line-past (t .cur)) (λ k. rw nothing-at no-line-cleared)
+
+-- ---- distants
+
+-- past their count there is none
+pub distants-past : (s : List ℕ) (version signals : ℕ) (c : Cursor) (k : ℕ) → distants s version signals c .count ≤ k
+    → (getD (distants s version signals c .carrier) k 0 ≡ 0) × (getD (distants s version signals c .announced) k 0 ≡ 0)
+unfolding distants withoutDistants distantsFrom distantTurn noDistants
+distants-past s version signals c k =
+    let d : Cursor = code s c 0 mostDistants in
+    if-both (λ (t : Distants). t .count ≤ k → (getD (t .carrier) k 0 ≡ 0) × (getD (t .announced) k 0 ≡ 0)) (ltb version distantsVersion)
+    (λ t h. (nothing-at mostDistants 0 k, nothing-at mostDistants 0 k))
+    (λ t h. let l = rw (from-count s signals d) at h in (
+      turns-past (λ (t : Distants). t .carrier) (λ t. noneOrReference s (t .cur) signals .value) 0 (distantTurn s signals) (λ i t. refl) _ _ (nothing-at mostDistants 0) k l,
+      turns-past (λ (t : Distants). t .announced) (λ t. reference s (noneOrReference s (t .cur) signals) signals .value) 0 (distantTurn s signals) (λ i t. refl) _ _
+          (nothing-at mostDistants 0) k l,
+    ))
 
 -- ---- routes
 

@@ -1,4 +1,4 @@
--- A line, and the turns that read lines and routes, put together from what was read.
+-- A line, and the turns that read lines, distants and routes, put together from what was read.
 use Prim.Native.Nat.{ℕ, _≤_}
 use mathlib.Core.Path.{_≡_}
 use mathlib.Core.List.{List}
@@ -15,9 +15,11 @@ use Rattle.track.specs.declared.Route.{Route}
 use Rattle.track.specs.Sizes.{mostBlocks}
 use Rattle.file_objects.specs.declared.OneLine.{OneLine}
 use Rattle.file_objects.specs.declared.Lines.{Lines}
+use Rattle.file_objects.specs.declared.distants.Distants.{Distants}
 use Rattle.file_objects.specs.declared.OneRoute.{OneRoute}
 use Rattle.file_objects.specs.declared.Routes.{Routes}
 use Rattle.file_objects.specs.Lines.{lineOf, aLine, lineTurn, linesFrom, noLines}
+use Rattle.file_objects.specs.Distants.{noDistants, distantTurn, distantsFrom}
 use Rattle.file_objects.specs.Routes.{aRoute, routeTurn, routesFrom, noRoutes}
 
 -- a line, from its six reads
@@ -39,6 +41,13 @@ pub lines-read : (s : List ℕ) (n : Counts) (c : Cursor) (none : List Line) (t 
     → Turned (c .value) (lineTurn s n) (record { cur = c; count = c .value; line = none }) t i → c .value ≤ i → none ≡ noLines → t ≡ linesFrom s n c
 unfolding linesFrom
 lines-read s n c none t i h l e = rw (← e) (turn-done _ _ _ t i h l)
+
+-- the last distant is read
+pub distants-read : (s : List ℕ) (signals : ℕ) (c : Cursor) (none : List ℕ) (t : Distants) (i : ℕ)
+    → Turned (c .value) (distantTurn s signals) (record { cur = c; count = c .value; carrier = none; announced = none }) t i → c .value ≤ i
+    → none ≡ noDistants → t ≡ distantsFrom s signals c
+unfolding distantsFrom
+distants-read s signals c none t i h l e = rw (← e) (turn-done _ _ _ t i h l)
 
 -- one route more
 pub route-turned : (s : List ℕ) (n : Counts) (cur : Cursor) (count : ℕ) (route : List Route) (i : ℕ) (one : OneRoute) → one ≡ aRoute s n cur

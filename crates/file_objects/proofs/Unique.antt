@@ -4,6 +4,9 @@ use Rattle.file_objects.proofs.no_sections.Reads as no-sections
 use Rattle.file_objects.proofs.read_sections.Reads as read-sections
 use Rattle.file_objects.proofs.no_lines.Reads as no-lines
 use Rattle.file_objects.proofs.read_lines.Reads as read-lines
+use Rattle.file_objects.proofs.distants.distants_of.Reads as distants-of
+use Rattle.file_objects.proofs.distants.no_distants.Reads as no-distants
+use Rattle.file_objects.proofs.distants.read_distants.Reads as read-distants
 use Rattle.file_objects.proofs.no_routes.Reads as no-routes
 use Rattle.file_objects.proofs.read_routes.Reads as read-routes
 
@@ -22,6 +25,18 @@ no-lines-determined κs a r q s = only
 -- the lines
 pub read-lines-determined : Determines read-lines.Post
 read-lines-determined κs a r q s = only
+
+-- the most distants of a version
+pub distants-of-determined : Determines distants-of.Post
+distants-of-determined κs a r q s = only
+
+-- no distants
+pub no-distants-determined : Determines no-distants.Post
+no-distants-determined κs a r q s = only
+
+-- the distants
+pub read-distants-determined : Determines read-distants.Post
+read-distants-determined κs a r q s = only
 
 -- no routes
 pub no-routes-determined : Determines no-routes.Post

@@ -1,3 +1,4 @@
 pub mod Sections
 pub mod Lines
+pub mod Distants
 pub mod Routes

@@ -1,4 +1,10 @@
-// The parts of the layout file in their order: the points' own sections, the lines, the routes (section 2).
+// The parts of the layout file in their order: the points' own sections, the lines, the distants, the routes (section 2, request L2).
+mod distants;
+
+pub use distants::Distants;
+pub use distants::distants_of;
+pub use distants::no_distants;
+pub use distants::read_distants;
 use fields::Cursor;
 use fields::read_code;
 use fields::read_items;

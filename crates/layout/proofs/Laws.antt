@@ -1,5 +1,5 @@
 -- What loading reads, put together from its parts; then the first broken rule, soundness and the answer of loading, by cases.
-use Prim.Native.Nat.{ℕ, _≤_}
+use Prim.Native.Nat.{ℕ, _+_, _*_, _<_, _≤_}
 use mathlib.Core.Path.{_≡_, refl, sym, ap, _∙_}
 use mathlib.Core.Bool.{Bool, true, false, not}
 use mathlib.Core.List.{List, [], _∷_}
@@ -15,11 +15,16 @@ use Rattle.laws.proofs.Loops.{iter-keeps}
 use Rattle.fields.specs.declared.Cursor.{Cursor}
 use Rattle.fields.proofs.Ranges.{code-most}
 use Rattle.track.specs.declared.Counts.{Counts}
-use Rattle.track.specs.Sizes.{mostTrainRoutes}
+use Rattle.track.specs.Sizes.{mostSignals, mostLines, mostDistants, mostTrainRoutes}
+use Rattle.track.specs.SignalNumbers.{signalCount}
+use Rattle.track.proofs.SignalNumbers.{count-most}
 use Rattle.file_objects.specs.declared.Lines.{Lines}
+use Rattle.file_objects.specs.declared.distants.Distants.{Distants}
 use Rattle.file_objects.specs.declared.Routes.{Routes}
 use Rattle.file_objects.specs.Lines.{lines}
+use Rattle.file_objects.specs.Distants.{distantsOf, distants}
 use Rattle.file_objects.specs.Routes.{routes, routesFrom, routeTurn}
+use Rattle.file_objects.proofs.Ranges.{lines-count, lines-blocks, version-most, distants-few}
 use Rattle.pairs.specs.declared.Pairs.{Pairs}
 use Rattle.pairs.specs.Pairs.{pairs}
 use Rattle.layout.specs.declared.Layout.{Layout}
@@ -27,16 +32,26 @@ use Rattle.layout.specs.declared.Loaded.{Loaded}
 use Rattle.layout.specs.declared.file.Heading.{Heading}
 use Rattle.layout.specs.declared.file.Whole.{Whole}
 use Rattle.layout.specs.Layout.{noneFitted}
-use Rattle.layout.specs.Rules.{rule1, rule2, rule3, rule4, rule5, rule6, firstFailed, broken}
+use Rattle.layout.specs.Rules.{rule1, rule2, rule3, rule4, rule5, rule6, rule7, firstFailed, broken}
 use Rattle.layout.specs.Sound.{fits, rowMirrors, mirrored, sound}
 use Rattle.layout.specs.Load.{heading, countsOf, wholeOf, whole, refused, finished}
 
--- the file, from its four parts, with no section fitted
-pub whole-made : (s : List ℕ) (h : Heading) (a b : Counts) (l : Lines) (r : Routes) (p : Pairs) (f : List ℕ)
-    → h ≡ heading s → a ≡ countsOf h 0 → l ≡ lines s a (h .cur) → b ≡ countsOf h (l .count) → r ≡ routes s b (l .cur) → p ≡ pairs s (r .count) (r .cur) → f ≡ noneFitted
-    → wholeOf h l r p f ≡ whole s
+-- the file, from its five parts, with no section fitted
+pub whole-made : (s : List ℕ) (h : Heading) (a b : Counts) (l : Lines) (n : ℕ) (d : Distants) (r : Routes) (p : Pairs) (f : List ℕ)
+    → h ≡ heading s → a ≡ countsOf h 0 → l ≡ lines s a (h .cur) → n ≡ signalCount (h .signals) (l .count) (l .line) → d ≡ distants s (h .version) n (l .cur)
+    → b ≡ countsOf h (l .count) → r ≡ routes s b (d .cur) → p ≡ pairs s (r .count) (r .cur) → f ≡ noneFitted → wholeOf h l d r p f ≡ whole s
 unfolding whole
-whole-made s h a b l r p f e₁ e₂ e₃ e₄ e₅ e₆ e₇ = rw (e₇, e₆, e₅, e₄, e₃, e₂, e₁)
+whole-made s h a b l n d r p f e₁ e₂ e₃ e₄ e₅ e₆ e₇ e₈ e₉ = rw (e₉, e₈, e₇, e₆, e₅, e₄, e₃, e₂, e₁)
+
+-- a file has so few signals that a byte holds their number: at most 32 main signals, and fourteen block signals in each of eight lines
+pub few-signals : (s : List ℕ) (h : Heading) (a : Counts) (l : Lines) → h ≡ heading s → l ≡ lines s a (h .cur)
+    → signalCount (h .signals) (l .count) (l .line) < 256
+unfolding heading
+few-signals s h a l e f =
+    let mains : h .signals ≤ mostSignals = rw e (code-most s _ 0 mostSignals refl) in
+    let few : l .count ≤ mostLines = rw f (rw (lines-count s a (h .cur)) (code-most s (h .cur) 0 mostLines refl)) in
+    let all : signalCount (h .signals) (l .count) (l .line) ≤ h .signals + 14 * l .count = count-most (h .signals) (l .line) (l .count) (rw f (lines-blocks s a (h .cur))) in
+    omega arith
 
 -- a file has no more routes than there may be: the count says so, and no turn changes it
 routes-few : (s : List ℕ) (n : Counts) (c : Cursor) → routes s n c .count ≤ mostTrainRoutes
@@ -44,45 +59,59 @@ unfolding routes routesFrom routeTurn
 routes-few s n c =
     iter-keeps (λ i (t : Routes). t .count ≤ mostTrainRoutes) (routeTurn s n) _ _ (code-most s c 0 mostTrainRoutes refl) (λ i b l p. p)
 
--- so in what was read of it
-pub whole-few : (s : List ℕ) {w : Whole} → w ≡ whole s → w .layout .routes ≤ mostTrainRoutes
+-- nor more distants: no version has more
+distants-most : (s : List ℕ) (version signals : ℕ) (c : Cursor) → distants s version signals c .count ≤ mostDistants
+distants-most s version signals c = omega (arith, distants-few s version signals c, version-most version)
+
+-- as many routes and distants as there may be, or fewer
+abbrev pub Few : Layout → Type 0
+Few L = (L .routes ≤ mostTrainRoutes) × (L .distants ≤ mostDistants)
+
+-- so in what was read of a file
+pub whole-few : (s : List ℕ) {w : Whole} → w ≡ whole s → Few (w .layout)
 unfolding whole
-whole-few s e = rw e (routes-few s _ _)
+whole-few s e = rw e (routes-few s _ _, distants-most s _ _ _)
 
--- and in a record that is in range, by the seventh of its tests
-pub fits-few : (L : Layout) (v : Bool) → v ≡ fits L → not v ≡ false → L .routes ≤ mostTrainRoutes
+-- and in a record that is in range, each by its test: routes
+pub fits-routes : (L : Layout) (v : Bool) → v ≡ fits L → not v ≡ false → L .routes ≤ mostTrainRoutes
 unfolding fits
-fits-few L v e q = leb-true _ _ (every-at _ (sym e ∙ not-false v q) 6)
+fits-routes L v e q = leb-true _ _ (every-at _ (sym e ∙ not-false v q) 9)
 
--- ---- the first broken rule: of the first three, else of the last three
+-- distants
+pub fits-distants : (L : Layout) (v : Bool) → v ≡ fits L → not v ≡ false → L .distants ≤ mostDistants
+unfolding fits
+fits-distants L v e q =
+    let few : L .distants ≤ distantsOf (L .version) = leb-true _ _ (every-at _ (sym e ∙ not-false v q) 7) in
+    omega (arith, version-most (L .version))
+
+-- ---- the first broken rule: of the first three, else of the last four
 
 -- one of the first three fails: the first of all that fails is the first of those
-early : (a b c d e f : Bool) (k : ℕ) → k ≡ firstFailed 1 (a ∷ b ∷ c ∷ []) → (k ≡ 0 → ⊥) → k ≡ firstFailed 1 (a ∷ b ∷ c ∷ d ∷ e ∷ f ∷ [])
+early : (a b c : Bool) (rest : List Bool) (k : ℕ) → k ≡ firstFailed 1 (a ∷ b ∷ c ∷ []) → (k ≡ 0 → ⊥) → k ≡ firstFailed 1 (a ∷ b ∷ c ∷ rest)
 unfolding firstFailed if_then_else_
-early false b c d e f k p q = p
-early true false c d e f k p q = p
-early true true false d e f k p q = p
-early true true true d e f k p q = absurd (q p)
+early false b c rest k p q = p
+early true false c rest k p q = p
+early true true false rest k p q = p
+early true true true rest k p q = absurd (q p)
 
--- none of them fails: it is the first of the last three
-late : (a b c d e f : Bool) (k r : ℕ) → k ≡ firstFailed 1 (a ∷ b ∷ c ∷ []) → k ≡ 0 → r ≡ firstFailed 4 (d ∷ e ∷ f ∷ [])
-    → r ≡ firstFailed 1 (a ∷ b ∷ c ∷ d ∷ e ∷ f ∷ [])
+-- none of them fails: it is the first of the rest
+late : (a b c : Bool) (rest : List Bool) (k r : ℕ) → k ≡ firstFailed 1 (a ∷ b ∷ c ∷ []) → k ≡ 0 → r ≡ firstFailed 4 rest → r ≡ firstFailed 1 (a ∷ b ∷ c ∷ rest)
 unfolding firstFailed if_then_else_
-late false b c d e f k r p q s = absurd (omega arith)
-late true false c d e f k r p q s = absurd (omega arith)
-late true true false d e f k r p q s = absurd (omega arith)
-late true true true d e f k r p q s = s
+late false b c rest k r p q s = absurd (omega arith)
+late true false c rest k r p q s = absurd (omega arith)
+late true true false rest k r p q s = absurd (omega arith)
+late true true true rest k r p q s = s
 
 -- one of the rules 1 to 3 is broken: the first broken rule is the first of those
 pub broken-first : (L : Layout) (k : ℕ) → k ≡ firstFailed 1 (rule1 L ∷ rule2 L ∷ rule3 L ∷ []) → (k ≡ 0 → ⊥) → k ≡ broken L
 unfolding broken
-broken-first L k p q = early _ _ _ (rule4 L) (rule5 L) (rule6 L) k p q
+broken-first L k p q = early _ _ _ (rule4 L ∷ rule5 L ∷ rule6 L ∷ rule7 L ∷ []) k p q
 
--- none of them is: it is the first broken one of the rules 4 to 6, if any
+-- none of them is: it is the first broken one of the rules 4 to 7, if any
 pub broken-last : (L : Layout) (k r : ℕ) → k ≡ firstFailed 1 (rule1 L ∷ rule2 L ∷ rule3 L ∷ []) → k ≡ 0
-    → r ≡ firstFailed 4 (rule4 L ∷ rule5 L ∷ rule6 L ∷ []) → r ≡ broken L
+    → r ≡ firstFailed 4 (rule4 L ∷ rule5 L ∷ rule6 L ∷ rule7 L ∷ []) → r ≡ broken L
 unfolding broken
-broken-last L k r p q s = late _ _ _ _ _ _ k r p q s
+broken-last L k r p q s = late _ _ _ _ k r p q s
 
 -- ---- soundness, by cases
 

@@ -4,7 +4,7 @@ use mathlib.Core.Path.{_≡_, refl, sym, ap, ap₂, _∙_}
 use mathlib.Core.Bool.{Bool, true, false, not, _&&_}
 use mathlib.Core.List.{List, [], _∷_}
 use native.Mathlib.Omega.{arith}
-use borrow.Author.Tests.{eq-eqb, ne-eqb, lt-leb}
+use borrow.Author.Tests.{eq-eqb, ne-eqb, lt-leb, le-leb}
 use lib.Dec.{eqb, leb}
 use lib.ListN.{length, getD}
 use Rattle.laws.specs.Choice.{if_then_else_}
@@ -16,20 +16,23 @@ use Rattle.laws.proofs.Arrays.{read-in}
 use Rattle.track.specs.declared.Counts.{Counts}
 use Rattle.track.specs.declared.Line.{Line}
 use Rattle.track.specs.declared.Route.{Route}
-use Rattle.track.specs.Sizes.{mostSections, mostPoints, mostSignals, mostLines, mostTrainRoutes}
+use Rattle.track.specs.Sizes.{mostSections, mostPoints, mostSignals, mostLines, mostDistants, mostTrainRoutes, lastVersion}
 use Rattle.track.specs.Objects.{line, route, noRoute}
+use Rattle.track.specs.SignalNumbers.{signalCount}
 use Rattle.track.specs.Lists.{between}
-use Rattle.track.specs.Ranges.{lineFits, routeFits}
+use Rattle.track.specs.Ranges.{lineFits, distantFits, routeFits}
+use Rattle.file_objects.specs.Distants.{distantsOf}
+use Rattle.file_objects.proofs.Ranges.{version-most}
 use Rattle.rules.specs.declared.Reach.{Reach}
 use Rattle.rules.specs.Rules.{share, isBlock, inPath, once}
 use Rattle.rules.specs.Sets.{blockSet, reachOf, clashing}
 use Rattle.rules.proofs.Sets.{offBlocks-is, inner-is, clashing-is}
 use Rattle.layout.specs.declared.Layout.{Layout}
-use Rattle.layout.specs.Layout.{counts, lineIn, routeIn, conflict, entryOf}
-use Rattle.layout.specs.Rules.{rule1, rule2, rule3, rule4, rule5, rule6, firstFailed, broken}
+use Rattle.layout.specs.Layout.{counts, lineIn, signalsIn, carrierOf, announcedBy, routeIn, conflict, entryOf}
+use Rattle.layout.specs.Rules.{rule1, rule2, rule3, rule4, rule5, rule6, rule7, firstFailed, broken}
 use Rattle.layout.specs.Sound.{sectionsFit, fits}
-use Rattle.layout.specs.Walks.{lineKeeps, routeKeeps, blocksApart, listsDiffer, noReach, reaches, pairKeeps, rowKeeps, brokenEarly, brokenLate}
-use Rattle.layout.proofs.Laws.{broken-first, broken-last}
+use Rattle.layout.specs.Walks.{lineKeeps, routeKeeps, distantKeeps, blocksApart, listsDiffer, noReach, reaches, pairKeeps, rowKeeps, brokenEarly, brokenLate}
+use Rattle.layout.proofs.Laws.{Few, broken-first, broken-last}
 
 -- ---- an entry of an array of routes, as the code reads it
 
@@ -127,6 +130,11 @@ module _ (L : Layout) where
       ap (λ t. implies t (eqb (entryOf (L .conflict) r q) 1))
       (ap₂ clashing (table-at mostTrainRoutes _ noReach r (omega arith)) (table-at mostTrainRoutes _ noReach q (omega arith)) ∙ clashing-is (routeIn L r) (routeIn L q))))
 
+  -- rule 7: the distants
+  rule7-is : allBelow (L .distants) (distantKeeps 7 0 (L .carrier) (L .announced)) ≡ rule7 L
+  unfolding rule7 carrierOf announcedBy distantKeeps if_then_else_
+  rule7-is = all-same _ _ _ (λ d h. refl)
+
   -- ---- the first broken rule, by these walks
 
   -- the first broken one of the rules 1 to 3
@@ -134,10 +142,13 @@ module _ (L : Layout) where
   unfolding brokenEarly counts
   early-is = rw (rule1-is, rule2-is, rule3-is)
 
-  -- the first broken one of the rules 4 to 6
-  late-is : L .routes ≤ mostTrainRoutes → brokenLate (counts L) (L .line) (L .routes) (L .route) (L .conflict) ≡ firstFailed 4 (rule4 L ∷ rule5 L ∷ rule6 L ∷ [])
+  -- the first broken one of the rules 4 to 7
+  abbrev late : ℕ
+  late = brokenLate (counts L) (L .line) (L .routes) (L .route) (L .conflict) (L .distants) (L .carrier) (L .announced)
+
+  late-is : L .routes ≤ mostTrainRoutes → late ≡ firstFailed 4 (rule4 L ∷ rule5 L ∷ rule6 L ∷ rule7 L ∷ [])
   unfolding brokenLate
-  late-is few = rw (rule4-is, rule5-is, rule6-is few)
+  late-is few = rw (rule4-is, rule5-is, rule6-is few, rule7-is)
 
   module _ (k : ℕ) (early : k ≡ brokenEarly (counts L) (L .line) (L .routes) (L .route)) where
     -- one of the first three is broken
@@ -145,8 +156,8 @@ module _ (L : Layout) where
     first-early d = broken-first L k (early ∙ early-is) d
 
     -- none of them is
-    pub first-late : L .routes ≤ mostTrainRoutes → k ≡ 0 → (r : ℕ) → r ≡ brokenLate (counts L) (L .line) (L .routes) (L .route) (L .conflict) → r ≡ broken L
-    first-late few z r late = broken-last L k r (early ∙ early-is) z (late ∙ late-is few)
+    pub first-late : Few L → k ≡ 0 → (r : ℕ) → r ≡ late → r ≡ broken L
+    first-late few z r e = broken-last L k r (early ∙ early-is) z (e ∙ late-is (few .0))
 
 -- ---- the ranges, by the walks that test them
 
@@ -161,15 +172,32 @@ module _ (L : Layout) where
   unfolding routeIn routeKeeps if_then_else_
   routes-fit-is = all-same _ _ _ (λ r h. refl)
 
+  -- the walk over the distants asks the ranges of each
+  distants-fit-is : allBelow (L .distants) (distantKeeps 0 (signalsIn L) (L .carrier) (L .announced)) ≡ allBelow (L .distants) (λ d. distantFits (signalsIn L) (carrierOf L d) (announcedBy L d))
+  unfolding carrierOf announcedBy distantKeeps if_then_else_
+  distants-fit-is = all-same _ _ _ (λ d h. refl)
+
   -- too many sections: not in range
   pub sections-many : mostSections < L .sections → false ≡ fits L
   unfolding fits between
-  sections-many h = every-fails _ 0 (fails-from _ (λ t. not-both (and-right _ _ t) (lt-leb _ mostSections h)))
+  sections-many h = every-fails _ 1 (fails-from _ (λ t. not-both (and-right _ _ t) (lt-leb _ mostSections h)))
 
-  -- the walks over lines and routes, with the other tests, are the whole test
-  pub fits-made : (a b d e f : Bool) → a ≡ between 1 mostSections (L .sections) → b ≡ sectionsFit (L .points) (L .sections) (L .pointsection)
-      → d ≡ allBelow (L .lines) (lineKeeps 0 (counts L) (L .line)) → e ≡ allBelow (L .routes) (λ r. routeKeeps 0 (counts L) (L .line) 0 (route (L .route) r))
-      → f ≡ allBelow (L .sections) (λ g. leb (getD (L .fitted) g 0) 1)
-      → a && (leb (L .points) mostPoints && (b && (leb (L .signals) mostSignals && (leb (L .lines) mostLines && (d && (leb (L .routes) mostTrainRoutes && (e && (f && eqb (L .lacking) 0)))))))) ≡ fits L
-  unfolding fits every
-  fits-made a b d e f p q x y z = rw (p, q, x ∙ lines-fit-is, y ∙ routes-fit-is, z)
+  -- more distants than its version has: not in range
+  pub distants-many : (most : ℕ) → most ≡ distantsOf (L .version) → most < L .distants → false ≡ fits L
+  unfolding fits
+  distants-many most e h = every-fails _ 7 (lt-leb (L .distants) (distantsOf (L .version)) (omega arith))
+
+  -- no more: as many as there may be, or fewer
+  pub few-distants : (most : ℕ) → most ≡ distantsOf (L .version) → L .distants ≤ most → L .distants ≤ mostDistants
+  few-distants most e h = omega (arith, version-most (L .version))
+
+  -- the walks over lines, distants and routes, with the other tests, are the whole test
+  pub fits-made : (v a b d e f g : Bool) (n most : ℕ) → a ≡ between 1 mostSections (L .sections) → b ≡ sectionsFit (L .points) (L .sections) (L .pointsection)
+      → d ≡ allBelow (L .lines) (lineKeeps 0 (counts L) (L .line)) → n ≡ signalCount (L .signals) (L .lines) (L .line)
+      → g ≡ allBelow (L .distants) (distantKeeps 0 n (L .carrier) (L .announced))
+      → e ≡ allBelow (L .routes) (λ r. routeKeeps 0 (counts L) (L .line) 0 (route (L .route) r)) → f ≡ allBelow (L .sections) (λ g. leb (getD (L .fitted) g 0) 1)
+      → v ≡ between 1 lastVersion (L .version) → most ≡ distantsOf (L .version) → L .distants ≤ most → L .routes ≤ mostTrainRoutes
+      → v && (a && (leb (L .points) mostPoints && (b && (leb (L .signals) mostSignals && (leb (L .lines) mostLines && (d && (g && (e && (f && eqb (L .lacking) 0))))))))) ≡ fits L
+  unfolding fits every signalsIn
+  fits-made v a b d e f g n most p q x c w y z u m h k =
+      rw (p, q, x ∙ lines-fit-is, rw c at w ∙ distants-fit-is, y ∙ routes-fit-is, z, u, le-leb _ _ (rw m at h), le-leb _ _ k)

@@ -9,8 +9,10 @@ use Rattle.track.specs.declared.Line.{Line}
 use Rattle.track.specs.declared.Route.{Route}
 use Rattle.track.specs.Sizes.{mostSections}
 use Rattle.track.specs.Objects.{line, route}
+use Rattle.track.specs.SignalNumbers.{signalCount}
 use Rattle.file_objects.specs.Sections.{noSections}
 use Rattle.file_objects.specs.Lines.{noLines}
+use Rattle.file_objects.specs.Distants.{noDistants}
 use Rattle.file_objects.specs.Routes.{noRoutes}
 use Rattle.pairs.specs.Pairs.{placeOf, noPairs}
 use Rattle.layout.specs.declared.Layout.{Layout}
@@ -22,12 +24,16 @@ noneFitted = replicate mostSections 0
 -- the layout with no objects
 unfoldable pub noLayout : Layout
 noLayout = record {
+  version = 0;
   sections = 0;
   points = 0;
   pointsection = noSections;
   signals = 0;
   lines = 0;
   line = noLines;
+  distants = 0;
+  carrier = noDistants;
+  announced = noDistants;
   routes = 0;
   route = noRoutes;
   conflict = noPairs;
@@ -45,6 +51,17 @@ lineIn L l = line (L .line) l
 
 unfoldable pub routeIn : Layout → ℕ → Route
 routeIn L r = route (L .route) r
+
+-- how many signals there are to refer to, main and block signals (L2)
+unfoldable pub signalsIn : Layout → ℕ
+signalsIn L = signalCount (L .signals) (L .lines) (L .line)
+
+-- the carrier of distant d, 0 if it is free-standing or the carrying signal plus 1; the signal that it announces (L2)
+unfoldable pub carrierOf : Layout → ℕ → ℕ
+carrierOf L d = getD (L .carrier) d 0
+
+unfoldable pub announcedBy : Layout → ℕ → ℕ
+announcedBy L d = getD (L .announced) d 0
 
 -- the table's entry for the routes r and q; they are listed as conflicting where it is 1
 unfoldable pub entryOf : List ℕ → ℕ → ℕ → ℕ

@@ -1,12 +1,12 @@
--- The rules of section 2, in their order, over all lines and routes of a layout.
+-- The rules of section 2, in their order, over all lines, routes and distants of a layout.
 use Prim.Native.Nat.{ℕ, suc}
 use mathlib.Core.Bool.{Bool, not}
 use mathlib.Core.List.{List, [], _∷_}
 use Rattle.laws.specs.Choice.{if_then_else_}
 use Rattle.laws.specs.Tests.{_and_, implies, every, allBelow}
-use Rattle.rules.specs.Rules.{share, isBlock, isInner, inPath, once, lineEnds, linePoints, routeLists, routeLength, routeEnds, clashes}
+use Rattle.rules.specs.Rules.{share, isBlock, isInner, inPath, once, lineEnds, linePoints, routeLists, routeLength, routeEnds, clashes, announcesCarrier}
 use Rattle.layout.specs.declared.Layout.{Layout}
-use Rattle.layout.specs.Layout.{routeIn, conflict}
+use Rattle.layout.specs.Layout.{routeIn, conflict, carrierOf, announcedBy}
 
 -- 1: a section is a block at most once in all lines, and is then in no path and no inner section
 unfoldable pub rule1 : Layout → Bool
@@ -37,6 +37,10 @@ rule5 L = allBelow (L .routes) (λ r. routeEnds (L .lines) (L .line) (routeIn L 
 unfoldable pub rule6 : Layout → Bool
 rule6 L = allBelow (L .routes) (λ r. allBelow r (λ q. implies (clashes (routeIn L r) (routeIn L q)) (conflict L r q)))
 
+-- 7 (L2): a distant that announces its own carrier
+unfoldable pub rule7 : Layout → Bool
+rule7 L = allBelow (L .distants) (λ d. not (announcesCarrier (carrierOf L d) (announcedBy L d)))
+
 -- the number of the first test that fails, the first of the list having number k; 0 where none fails
 unfoldable pub firstFailed : ℕ → List Bool → ℕ
 firstFailed k [] = 0
@@ -44,4 +48,4 @@ firstFailed k (b ∷ bs) = if b then firstFailed (suc k) bs else k
 
 -- the first broken rule's number; 0 where none is broken
 unfoldable pub broken : Layout → ℕ
-broken L = firstFailed 1 (rule1 L ∷ rule2 L ∷ rule3 L ∷ rule4 L ∷ rule5 L ∷ rule6 L ∷ [])
+broken L = firstFailed 1 (rule1 L ∷ rule2 L ∷ rule3 L ∷ rule4 L ∷ rule5 L ∷ rule6 L ∷ rule7 L ∷ [])

@@ -1,4 +1,4 @@
--- How the code walks through lines, routes and pairs of routes. What the rules say stands in Rules.
+-- How the code walks through lines, routes, pairs of routes and distants. What the rules say stands in Rules.
 use Prim.Native.Nat.{ℕ}
 use mathlib.Core.Bool.{Bool, not}
 use mathlib.Core.List.{List, [], _∷_}
@@ -13,9 +13,9 @@ use Rattle.track.specs.declared.Line.{Line}
 use Rattle.track.specs.declared.Route.{Route}
 use Rattle.track.specs.Sizes.{mostTrainRoutes}
 use Rattle.track.specs.Objects.{line, route}
-use Rattle.track.specs.Ranges.{lineFits, routeFits}
+use Rattle.track.specs.Ranges.{lineFits, distantFits, routeFits}
 use Rattle.rules.specs.declared.Reach.{Reach}
-use Rattle.rules.specs.Rules.{once, lineEnds, linePoints, routeLists, routeLength, routeEnds}
+use Rattle.rules.specs.Rules.{once, lineEnds, linePoints, routeLists, routeLength, routeEnds, announcesCarrier}
 use Rattle.rules.specs.Sets.{blockSet, innerSet, offBlocks, reachOf, clashing}
 use Rattle.layout.specs.Layout.{entryOf}
 use Rattle.layout.specs.Rules.{firstFailed}
@@ -33,6 +33,11 @@ routeKeeps k c ls blocks a =
     else if eqb k 3 then routeLists a
     else if eqb k 4 then routeLength a
     else routeEnds (c .lines) ls a
+
+-- distant d keeps rule 7; 0 for k asks that its numbers are in range, of so many signals
+unfoldable pub distantKeeps : ℕ → ℕ → List ℕ → List ℕ → ℕ → Bool
+distantKeeps k signals carriers announced d =
+    if eqb k 0 then distantFits signals (getD carriers d 0) (getD announced d 0) else not (announcesCarrier (getD carriers d 0) (getD announced d 0))
 
 -- rule 1, with the set of all blocks and that of all inner sections
 unfoldable pub blocksApart : Counts → List Line → ℕ → List Route → Bool
@@ -66,10 +71,11 @@ rowKeeps m t r q = pairKeeps m r q (getD t r noReach) (getD t q noReach)
 unfoldable pub brokenEarly : Counts → List Line → ℕ → List Route → ℕ
 brokenEarly c ls n rs = firstFailed 1 (blocksApart c ls n rs ∷ allBelow (c .lines) (lineKeeps 2 c ls) ∷ listsDiffer c ls n rs ∷ [])
 
--- the first broken one of the rules 4 to 6, or 0
-unfoldable pub brokenLate : Counts → List Line → ℕ → List Route → List ℕ → ℕ
-brokenLate c ls n rs m = firstFailed 4 (
+-- the first broken one of the rules 4 to 7, or 0
+unfoldable pub brokenLate : Counts → List Line → ℕ → List Route → List ℕ → ℕ → List ℕ → List ℕ → ℕ
+brokenLate c ls n rs m distants carriers announced = firstFailed 4 (
     allBelow n (λ r. routeKeeps 4 c ls 0 (route rs r))
     ∷ allBelow n (λ r. routeKeeps 5 c ls 0 (route rs r))
     ∷ allBelow n (λ r. allBelow r (rowKeeps m (reaches rs) r))
+    ∷ allBelow distants (distantKeeps 7 0 carriers announced)
     ∷ [])

@@ -1,4 +1,5 @@
 // A layout: its record, the layout file, and whether a record is sound (section 2).
+mod distants;
 mod file;
 mod pairs_of_routes;
 mod walks;
@@ -6,6 +7,9 @@ mod walks;
 use track::Counts;
 use track::Line;
 use track::Route;
+use track::signals::signal_count;
+use track::sizes::DISTANTS;
+use track::sizes::LAST_VERSION;
 use track::sizes::LINES;
 use track::sizes::MOST_LINES;
 use track::sizes::MOST_POINTS;
@@ -18,24 +22,29 @@ use track::sizes::SECTIONS;
 use track::sizes::TRAIN_ROUTES;
 ghost use mathlib.Core.Path.{_≡_};
 ghost use Prim.Native.Nat.{_≤_};
-ghost use Rattle.track.specs.Sizes.{mostTrainRoutes};
+ghost use Rattle.track.specs.Sizes.{mostDistants, mostTrainRoutes};
 ghost use Rattle.layout.specs.Layout.{noneFitted, noLayout};
 ghost use Rattle.layout.specs.Rules.{broken};
 ghost use Rattle.layout.specs.Sound.{fits, sound};
 ghost use Rattle.layout.specs.Walks.{brokenEarly, brokenLate};
 ghost use Rattle.layout.specs.Load.{refused, finished, load};
 
+// version: that of its file, 1 or 2. carrier: of a distant, 0 if it is free-standing or the carrying signal plus 1. announced: the signal that it announces.
 // conflict: 1 at 48 * i + j where the routes i and j conflict, else 0.
 // fitted: 1 where a section has heads, else 0. lacking: 1 where a section was told as fitted that there is not, else 0.
 // Entries past a count are not looked at; in a layout that was loaded they are 0.
 #[repr(C)]
 pub struct Layout {
+    pub version: u8,
     pub sections: u8,
     pub points: u8,
     pub pointsection: [u8; POINTS],
     pub signals: u8,
     pub lines: u8,
     pub line: [Line; LINES],
+    pub distants: u8,
+    pub carrier: [u8; DISTANTS],
+    pub announced: [u8; DISTANTS],
     pub routes: u8,
     pub route: [Route; TRAIN_ROUTES],
     pub conflict: [u8; PAIRS],
@@ -63,16 +72,21 @@ pub fn no_layout() -> Layout
 {
     let pointsection = file_objects::no_sections();
     let line = file_objects::no_lines();
+    let distants = file_objects::no_distants();
     let route = file_objects::no_routes();
     let conflict = pairs::no_pairs();
     let fitted = none_fitted();
     Layout {
+        version: 0,
         sections: 0,
         points: 0,
         pointsection,
         signals: 0,
         lines: 0,
         line,
+        distants: 0,
+        carrier: distants,
+        announced: distants,
         routes: 0,
         route,
         conflict,
@@ -98,16 +112,19 @@ fn broken_early(c: Counts, ls: [Line; LINES], n: u8, rs: [Route; TRAIN_ROUTES]) 
     0
 }
 
-// The first broken one of the rules 4 to 6, or 0.
-fn broken_late(
+// The first broken one of the rules 4 to 7, or 0.
+fn broken_late<'a>(
     c: Counts,
     ls: [Line; LINES],
     n: u8,
     rs: [Route; TRAIN_ROUTES],
-    m: &[u8; PAIRS],
+    m: &'a [u8; PAIRS],
+    distants: u8,
+    carriers: &'a [u8; DISTANTS],
+    announced: &'a [u8; DISTANTS],
 ) -> u8
-    requires { ⌜ n ≤ mostTrainRoutes ⌝ }
-    ensures { λ r. ⌜ r ≡ brokenLate c ls n rs (now (m .entry)) ⌝ }
+    requires { ⌜ (n ≤ mostTrainRoutes) × (distants ≤ mostDistants) ⌝ }
+    ensures { λ r. ⌜ r ≡ brokenLate c ls n rs (now (m .entry)) distants (now (carriers .entry)) (now (announced .entry)) ⌝ }
 {
     if !walks::routes_keep(4, c, ls, 0, n, rs) {
         return 4;
@@ -118,12 +135,15 @@ fn broken_late(
     if !pairs_of_routes::rule_6(m, n, rs) {
         return 6;
     }
+    if !distants::distants_keep(7, 0, distants, carriers, announced) {
+        return 7;
+    }
     0
 }
 
 // The first broken rule's number, 0 where none is.
 fn first_broken(l: Layout) -> u8
-    requires { ⌜ l .routes ≤ mostTrainRoutes ⌝ }
+    requires { ⌜ (l .routes ≤ mostTrainRoutes) × (l .distants ≤ mostDistants) ⌝ }
     ensures { λ r. ⌜ r ≡ broken l ⌝ }
 {
     let c = Counts {
@@ -139,7 +159,16 @@ fn first_broken(l: Layout) -> u8
     if early != 0 {
         return early;
     }
-    broken_late(c, ls, n, rs, &l.conflict)
+    broken_late(
+        c,
+        ls,
+        n,
+        rs,
+        &l.conflict,
+        l.distants,
+        &l.carrier,
+        &l.announced,
+    )
 }
 
 // Every count, code and reference is in its range.
@@ -151,6 +180,9 @@ fn in_range(l: Layout) -> bool
         return false;
     }
     if MOST_POINTS < l.points {
+        return false;
+    }
+    if file_objects::distants_of(l.version) < l.distants {
         return false;
     }
     if MOST_TRAIN_ROUTES < n {
@@ -169,10 +201,13 @@ fn in_range(l: Layout) -> bool
     let sections = track::is_between(1, MOST_SECTIONS, l.sections);
     let points = walks::sections_fit(own, l.points, l.sections);
     let lines = walks::lines_keep(0, c, ls);
+    let signals = signal_count(l.signals, l.lines, ls);
+    let distants = distants::distants_keep(0, signals, l.distants, &l.carrier, &l.announced);
     let routes = walks::routes_keep(0, c, ls, 0, n, rs);
     let heads = walks::heads_fit(fitted, l.sections) & (l.lacking == 0);
-    let rest = (l.lines <= MOST_LINES) & (lines & ((n <= MOST_TRAIN_ROUTES) & (routes & heads)));
-    sections & ((l.points <= MOST_POINTS) & (points & ((l.signals <= MOST_SIGNALS) & rest)))
+    let rest = (l.lines <= MOST_LINES) & (lines & (distants & (routes & heads)));
+    let most = (l.points <= MOST_POINTS) & (points & ((l.signals <= MOST_SIGNALS) & rest));
+    track::is_between(1, LAST_VERSION, l.version) & (sections & most)
 }
 
 impl Layout {
@@ -204,7 +239,7 @@ fn refuse(number: u8, detail: usize) -> Loaded
 
 // What was read of a file of n bytes, held to its end and to the rules.
 fn finish(w: file::Whole, n: usize) -> Loaded
-    requires { ⌜ w .layout .routes ≤ mostTrainRoutes ⌝ }
+    requires { ⌜ (w .layout .routes ≤ mostTrainRoutes) × (w .layout .distants ≤ mostDistants) ⌝ }
     ensures { λ r. ⌜ r ≡ finished w n ⌝ }
 {
     let c = w.cur;

@@ -11,6 +11,7 @@ use Rattle.rules.proofs.route_length.Reads as route-length
 use Rattle.rules.proofs.route_ends.Reads as route-ends
 use Rattle.rules.proofs.route_reach.Reads as route-reach
 use Rattle.rules.proofs.clash.Reads as clash
+use Rattle.rules.proofs.announces_carrier.Reads as announces-carrier
 
 -- the set of all blocks
 pub block-set-determined : Determines block-set.Post
@@ -55,3 +56,7 @@ route-reach-determined κs a r q s = only
 -- rule 6 on two routes
 pub clash-determined : Determines clash.Post
 clash-determined κs a r q s = only
+
+-- rule 7 on one distant
+pub announces-carrier-determined : Determines announces-carrier.Post
+announces-carrier-determined κs a r q s = only

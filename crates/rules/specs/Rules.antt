@@ -1,5 +1,5 @@
--- The rules of section 2, as they bear on one line, on one route and on two routes.
-use Prim.Native.Nat.{ℕ}
+-- The rules of section 2, as they bear on one line, on one route, on two routes and on one distant.
+use Prim.Native.Nat.{ℕ, _+_}
 use mathlib.Core.Bool.{Bool, not}
 use mathlib.Core.List.{List, [], _∷_}
 use lib.Dec.{eqb, leb}
@@ -85,3 +85,7 @@ hasPoint w a p = anyBelow (a .points) (λ i. eqb (getD (a .position) i 0) w and 
 unfoldable pub clashes : Route → Route → Bool
 clashes a b =
     eqb (a .entry) (b .entry) or (share (inPath a) (inPath b) or (share (hasPoint left a) (hasPoint right b) or share (hasPoint right a) (hasPoint left b)))
+
+-- rule 7 (L2), a distant that announces its own carrier, which is 0 if it is free-standing or the carrying signal plus 1
+unfoldable pub announcesCarrier : ℕ → ℕ → Bool
+announcesCarrier carrier announced = eqb carrier (announced + 1)

@@ -1,6 +1,7 @@
-// The six rules of section 2, as they bear on one line, on one route and on two routes.
+// The seven rules of section 2, as they bear on one line, on one route, on two routes and on one distant.
 use laws::at8;
 use laws::lent8;
+use laws::wide;
 use track::Line;
 use track::Route;
 use track::all_differ;
@@ -22,7 +23,7 @@ ghost use lib.ListN.{length};
 ghost use Rattle.laws.specs.Tests.{_or_};
 ghost use Rattle.track.specs.Sizes.{mostListed};
 ghost use Rattle.track.specs.Objects.{lastSection};
-ghost use Rattle.rules.specs.Rules.{isEntrance, once, lineEnds, linePoints, routeLists, routeLength, routeEnds};
+ghost use Rattle.rules.specs.Rules.{isEntrance, once, lineEnds, linePoints, routeLists, routeLength, routeEnds, announcesCarrier};
 ghost use Rattle.rules.specs.Sets.{lineBlocks, blockSet, innerTurn, innerSet, offBlocks, sideWith, sideSet, reachOf, clashing};
 
 // What rule 6 asks of a route: its entry signal, the set of its path sections, of its points to the left, of those to the right.
@@ -250,4 +251,11 @@ pub fn clash(a: Reach, b: Reach) -> bool
     let one = sets::share(a.left, b.right);
     let other = sets::share(a.right, b.left);
     (a.entry == b.entry) | (path | (one | other))
+}
+
+// Rule 7 (request L2): whether a distant announces its own carrier, which is 0 if it is free-standing or the carrying signal plus 1.
+pub fn announces_carrier(carrier: u8, announced: u8) -> bool
+    ensures { λ r. ⌜ r ≡ announcesCarrier carrier announced ⌝ }
+{
+    wide(carrier) == wide(announced) + 1
 }

@@ -1,5 +1,5 @@
 -- What the signal into a block shows, by the test that decides it.
-use Prim.Native.Nat.{ℕ, _+_}
+use Prim.Native.Nat.{ℕ}
 use mathlib.Core.Path.{_≡_, refl, sym, ap₂, _∙_}
 use mathlib.Core.Bool.{Bool, true, false, not}
 use mathlib.Core.List.{List, [], _∷_}
@@ -9,22 +9,10 @@ use lib.Dec.{ltb}
 use Rattle.laws.specs.Tests.{every}
 use Rattle.laws.proofs.Choice.{if-true, if-false, if-eq, if-ne}
 use Rattle.laws.proofs.Tests.{and-left, and-right, and-both, fails-from, not-both, every-one, every-more, every-stops, every-passes, every-fails}
-use Rattle.track.specs.Codes.{aToB}
+use Rattle.track.specs.Signal.{hasSignal}
 use Rattle.tables.specs.Blocks.{isOpen, unbarred}
 use Rattle.signals.specs.Aspects.{dark, stop, proceed}
-use Rattle.signals.specs.BlockSignals.{hasSignal, lightShown, blockShownWhere}
-
--- ---- whether there is one
-
--- for A to B: block i is not the first
-pub has-first : (n i w : ℕ) → w ≡ aToB → ltb 0 i ≡ hasSignal n i w
-unfolding hasSignal
-has-first n i w e = if-eq w aToB _ _ _ e refl
-
--- else: it is not the last
-pub has-last : (n i w x y : ℕ) → (w ≡ aToB → ⊥) → x ≡ i → y ≡ n → ltb (x + 1) y ≡ hasSignal n i w
-unfolding hasSignal
-has-last n i w x y e p q = if-ne w aToB _ _ _ e (ap₂ (λ j m. ltb (j + 1) m) p q)
+use Rattle.signals.specs.BlockSignals.{lightShown, blockShownWhere}
 
 -- ---- what it shows
 

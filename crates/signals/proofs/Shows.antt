@@ -13,11 +13,12 @@ use Rattle.laws.proofs.Searches.{lowest-some}
 use Rattle.track.specs.declared.Line.{Line}
 use Rattle.track.specs.declared.Route.{Route}
 use Rattle.track.specs.Objects.{line, route}
+use Rattle.track.specs.Signal.{hasSignal}
 use Rattle.tables.specs.Locks.{direction}
 use Rattle.signals.specs.Aspects.{dark, stop, proceed}
 use Rattle.signals.specs.Signals.{enterable, routeProceeds, mainProceeds, blockProceeds}
 use Rattle.signals.specs.MainSignals.{proceedShown, shownBy, shownFor, mainShows}
-use Rattle.signals.specs.BlockSignals.{hasSignal, lightShown, blockShows}
+use Rattle.signals.specs.BlockSignals.{lightShown, blockShows}
 
 -- ---- main signals
 

@@ -6,6 +6,8 @@ use Rattle.signals.proofs.main_signals.is_clear.Reads as is-clear
 use Rattle.signals.proofs.main_signals.falls_to.Reads as falls-to
 use Rattle.signals.proofs.main_signals.main_shown.Reads as main-shown
 use Rattle.signals.proofs.block_signals.block_shown.Reads as block-shown
+use Rattle.signals.proofs.numbers.number_shown.Reads as number-shown
+use Rattle.signals.proofs.distants.distant_shown.Reads as distant-shown
 
 -- A train may be let into block i of line l
 pub may-enter-determined : Determines may-enter.Post
@@ -30,3 +32,11 @@ main-shown-determined κs a r q s = only
 -- What the signal into a block shows
 pub block-shown-determined : Determines block-shown.Post
 block-shown-determined κs a r q s = only
+
+-- What the signal of a number shows
+pub number-shown-determined : Determines number-shown.Post
+number-shown-determined κs a r q s = only
+
+-- What a distant shows
+pub distant-shown-determined : Determines distant-shown.Post
+distant-shown-determined κs a r q s = only

@@ -13,3 +13,13 @@ proceedDiverging = 21
 
 abbrev pub proceed : ℕ
 proceed = 22
+
+-- what a distant shows while its main signal shows 20, 21, 22 (L2)
+abbrev pub warnsOfStop : ℕ
+warnsOfStop = 23
+
+abbrev pub warnsOfDiverging : ℕ
+warnsOfDiverging = 24
+
+abbrev pub warnsOfProceed : ℕ
+warnsOfProceed = 25

@@ -1,21 +1,17 @@
 -- What a block signal shows (section 4). Block signals stand between blocks, one each way, and each belongs to the block it leads into.
-use Prim.Native.Nat.{ℕ, _+_}
+use Prim.Native.Nat.{ℕ}
 use mathlib.Core.Bool.{Bool}
 use mathlib.Core.List.{List, [], _∷_}
-use lib.Dec.{eqb, ltb}
+use lib.Dec.{eqb}
 use Rattle.laws.specs.Choice.{if_then_else_}
 use Rattle.laws.specs.Tests.{_and_, every}
 use Rattle.track.specs.declared.Line.{Line}
-use Rattle.track.specs.Codes.{aToB}
 use Rattle.track.specs.Objects.{line}
+use Rattle.track.specs.Signal.{hasSignal}
 use Rattle.tables.specs.Blocks.{isOpen, unbarred}
 use Rattle.tables.specs.Locks.{direction}
 use Rattle.signals.specs.Aspects.{dark, stop, proceed}
 use Rattle.signals.specs.Signals.{enterable}
-
--- section 4: of n blocks each but the first has a signal for A to B, each but the last one for B to A
-unfoldable pub hasSignal : ℕ → ℕ → ℕ → Bool
-hasSignal n i w = if eqb w aToB then ltb 0 i else ltb (i + 1) n
 
 -- section 4: a signal that is lit shows 22 if the block entered may be entered, else 20; any other is dark
 unfoldable pub lightShown : Bool → Bool → ℕ

@@ -13,8 +13,9 @@ use track::sizes::LINES;
 use track::sizes::PLACES;
 use track::sizes::POINTS;
 ghost use mathlib.Core.Path.{_≡_};
+ghost use Rattle.track.specs.Signal.{hasSignal};
 ghost use Rattle.signals.specs.Signals.{enterableBy, enterable};
-ghost use Rattle.signals.specs.BlockSignals.{hasSignal, blockShownWhere};
+ghost use Rattle.signals.specs.BlockSignals.{blockShownWhere};
 
 // A train may be let into block i of line l, of which the record is b: the tests in order, left at the first that fails.
 pub fn may_enter_line<'a>(

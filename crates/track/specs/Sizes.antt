@@ -21,6 +21,13 @@ mostBlocks = 8
 abbrev pub mostPlaces : ℕ
 mostPlaces = 64
 
+-- distants (L2); the last version of the layout file
+abbrev pub mostDistants : ℕ
+mostDistants = 32
+
+abbrev pub lastVersion : ℕ
+lastVersion = 2
+
 -- train routes, of which the layout has a record each; all routes that have a number, a phase and conflicts. Today all routes are train routes
 abbrev pub mostTrainRoutes : ℕ
 mostTrainRoutes = 48

@@ -27,6 +27,13 @@ pub const PLACES: usize = LINES * BLOCKS;
 
 pub const MOST_PLACES: u8 = 64;
 
+// Distants (request L2); the last version of the layout file.
+pub const DISTANTS: usize = 32;
+
+pub const MOST_DISTANTS: u8 = 32;
+
+pub const LAST_VERSION: u8 = 2;
+
 // Train routes, of which the layout has a record each; all routes that have a number, a phase and conflicts. Today all routes are train routes.
 pub const TRAIN_ROUTES: usize = 48;
 

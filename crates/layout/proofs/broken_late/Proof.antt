@@ -9,4 +9,4 @@ pub broken-late-spec : {M : Type 1} → statement M
 unfolding firstFailed brokenLate
 broken-late-spec =
     tie.close
-    (tie.spec (λ c κs. search chains) (λ c. search chains) (λ c κs. search chains) (λ c. search chains) (λ c κs. search chains) (λ c. search chains) (λ c. search chains))
+    (tie.spec (λ c κs. search chains) (λ c. search chains) (λ c κs. search chains) (λ c. search chains) (λ c κs. search chains) (λ c. search chains) (λ c κs. search chains) (λ c. search chains) (λ c. search chains))

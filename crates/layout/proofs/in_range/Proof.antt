@@ -1,8 +1,8 @@
--- Too many sections, points or routes fail by themselves; else the tests in their order.
+-- Too many sections, points, distants or routes fail by themselves; else the tests in their order.
 use borrow.Author.Needs.{needs}
 use borrow.Author.Tests.{lt-leb}
 use Rattle.laws.proofs.Tests.{every-fails}
-use Rattle.layout.proofs.Tested.{sections-many, fits-made}
+use Rattle.layout.proofs.Tested.{sections-many, distants-many, few-distants, fits-made}
 use Rattle.layout.specs.Layout.{counts}
 use Rattle.layout.specs.Sound.{fits}
 use Rattle.layout.proofs.in_range.Statement.{statement}
@@ -10,4 +10,8 @@ use Rattle.layout.proofs.in_range.Tie as tie
 
 pub in-range-spec : {M : Type 1} → statement M
 unfolding fits counts
-in-range-spec = tie.close (tie.spec (λ c. search sections-many) (λ c. every-fails _ 1 (lt-leb _ _ (c .if2 .taken))) (λ c. every-fails _ 6 (lt-leb _ _ (c .if3 .taken))) (λ c κs. search needs) (λ c κs. search needs) (λ c κs. search needs) (λ c κs. search needs) (λ c κs. search needs) (λ c. search (needs, fits-made)))
+in-range-spec =
+    tie.close
+    (tie.spec (λ c. search sections-many) (λ c. every-fails _ 2 (lt-leb _ _ (c .if2 .taken))) (λ c κs. search needs) (λ c. search (needs, distants-many))
+    (λ c. every-fails _ 9 (lt-leb _ _ (c .if4 .taken))) (λ c κs. search needs) (λ c κs. search needs) (λ c κs. search needs) (λ c κs. search needs)
+    (λ c κs. search (needs, few-distants)) (λ c κs. search needs) (λ c κs. search needs) (λ c κs. search needs) (λ c. search (needs, fits-made)))

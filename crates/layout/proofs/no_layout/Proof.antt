@@ -6,4 +6,4 @@ use Rattle.layout.proofs.no_layout.Tie as tie
 
 pub no-layout-spec : {M : Type 1} → statement M
 unfolding noLayout
-no-layout-spec = tie.close (tie.spec (λ c κs. search needs) (λ c κs. search needs) (λ c κs. search needs) (λ c κs. search needs) (λ c κs. search needs) (λ c. cc))
+no-layout-spec = tie.close (tie.spec (λ c κs. search needs) (λ c κs. search needs) (λ c κs. search needs) (λ c κs. search needs) (λ c κs. search needs) (λ c κs. search needs) (λ c. cc))

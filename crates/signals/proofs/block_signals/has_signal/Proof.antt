@@ -1,6 +1,6 @@
 -- Each block but the first for A to B, else each but the last.
 use borrow.Author.Needs.{needs}
-use Rattle.signals.proofs.BlockSignals.{has-first, has-last}
+use Rattle.track.proofs.Signal.{has-first, has-last}
 use Rattle.signals.proofs.block_signals.has_signal.Statement.{statement}
 use Rattle.signals.proofs.block_signals.has_signal.Tie as tie
 

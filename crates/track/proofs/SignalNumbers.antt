@@ -1,10 +1,11 @@
 -- Every signal that stands has exactly one number, and every number below the count is one signal that stands.
-use Prim.Native.Nat.{ℕ, zero, suc, _+_, _-_, _<_, _≤_}
-use mathlib.Core.Path.{_≡_, refl, sym, ap, subst, _∙_}
+use Prim.Native.Nat.{ℕ, zero, suc, _+_, _-_, _*_, _<_, _≤_}
+use mathlib.Core.Path.{_≡_, refl, sym, ap, ap₂, subst, _∙_}
 use mathlib.Core.Logic.{inl, inr}
 use mathlib.Core.List.{List, _++_}
 use native.Mathlib.Nat.{not-suc-le-zero}
 use native.Mathlib.Decide.{decLt}
+use native.Mathlib.Numerals.{add-one}
 use native.Mathlib.Omega.{arith}
 use borrow.Author.Tests.{ltb-true, lt-ltb}
 use lib.ListN.{length, getD, length-append, List·getD-append}
@@ -12,12 +13,13 @@ use lib.Seq.{getD-append-add}
 use Rattle.laws.specs.Tables.{table}
 use Rattle.laws.proofs.Choice.{if-eq, if-ne}
 use Rattle.laws.proofs.Tables.{length-table, table-at}
 use Rattle.track.specs.declared.Line.{Line}
 use Rattle.track.specs.Codes.{aToB, bToA}
 use Rattle.track.specs.Objects.{line}
-use Rattle.track.specs.Signal.{Signal, main, into}
-use Rattle.signals.specs.Numbers.{Stands, lineSignals, blockSignals, allSignals, signalCount, signalOf, numberOf, OneNumber}
-use Rattle.signals.proofs.BlockSignals.{has-first, has-last}
+use Rattle.track.specs.Sizes.{mostBlocks}
+use Rattle.track.specs.Signal.{Signal, main, into, hasSignal, Stands}
+use Rattle.track.specs.SignalNumbers.{betweenBlocks, lineSignals, blockSignals, allSignals, signalCount, signalOf, numberOf, OneNumber}
+use Rattle.track.proofs.Signal.{has-first, has-last}
 
 -- what stands k places after the first n entries, of two lists one after the other
 behind : {A : Type 0} (xs ys : List A) (n k : ℕ) (d : A) → length xs ≡ n → getD (xs ++ ys) (n + k) d ≡ getD ys k d
@@ -203,3 +205,62 @@ pub one-number : (m n : ℕ) (ls : List Line) (x : Signal) → Stands m n ls x �
 one-number m n ls x h =
     let named = stands-named ls m n x h in
     record { below = named .0; named = named .1; only = λ k b e. sym (by-number ls m n k b (decLt k m) .1) ∙ ap (numberOf m ls) e }
+
+-- ---- a number, as the code finds its signal
+
+module _ (m n : ℕ) (ls : List Line) (k : ℕ) where
+  -- a number of a signal that stands, and that signal
+  abbrev pub Is : Signal → Type 0
+  Is x = (k < signalCount m n ls) × (signalOf m n ls k ≡ x)
+
+  -- below the number of main signals it is a main signal's
+  pub number-main : k < m → Is (main k)
+  unfolding signalOf
+  number-main h = (omega (arith, count-all ls m n), main-at ls m n k (main k) h)
+
+  -- so many past the signals of the lines before l it is a block signal's of line l
+  number-into : (l j : ℕ) (x : Signal) → l < n → j < length (lineSignals ls l) → k ≡ signalCount m l ls + j → ((d : Signal) → getD (lineSignals ls l) j d ≡ x) → Is x
+  unfolding signalOf
+  number-into l j x b h e f =
+      let there = on-line ls n l j (main k) b h in
+      let place : k ≡ m + (length (blockSignals l ls) + j) = omega (arith, count-all ls m l) in (
+        omega (arith, count-all ls m n, there .0),
+        ap (λ i. getD (allSignals m n ls) i (main k)) place ∙ block-at ls m n (length (blockSignals l ls) + j) (main k) ∙ there .1 ∙ f (main k),
+      )
+
+  -- first those for A to B
+  pub number-first : (l j : ℕ) → l < n → j < line ls l .blocks - 1 → k ≡ signalCount m l ls + j → Is (into l (j + 1) aToB)
+  number-first l j b h e = number-into l j _ b (omega (arith, line-count ls l)) e (λ d. at-first ls l j d h)
+
+  -- then those for B to A
+  pub number-then : (l j : ℕ) → l < n → j < line ls l .blocks - 1 → k ≡ signalCount m l ls + (line ls l .blocks - 1 + j) → Is (into l j bToA)
+  number-then l j b h e = number-into l (line ls l .blocks - 1 + j) _ b (omega (arith, line-count ls l)) e (λ d. at-then ls l j d h)
+
+-- ---- how many there are
+
+-- with no line only the main signals
+pub count-mains : (m : ℕ) (ls : List Line) → signalCount m 0 ls ≡ m
+unfolding blockSignals
+count-mains m ls = count-all ls m 0 ∙ omega arith
+
+-- one line more has its block signals more
+pub count-line : (m l : ℕ) (ls : List Line) → signalCount m (l + 1) ls ≡ signalCount m l ls + betweenBlocks (line ls l)
+unfolding betweenBlocks
+count-line m l ls = rw add-one (omega (arith, count-all ls m (suc l), count-all ls m l, blocks-more ls l, line-count ls l))
+
+-- a line of no more blocks than there may be has at most so many; so do n lines
+pub count-most : (m : ℕ) (ls : List Line) (n : ℕ) → ((l : ℕ) → line ls l .blocks ≤ mostBlocks) → signalCount m n ls ≤ m + 14 * n
+unfolding betweenBlocks
+count-most m ls zero few = omega (arith, count-mains m ls)
+count-most m ls (suc n) few =
+    let one : signalCount m (suc n) ls ≡ signalCount m n ls + betweenBlocks (line ls n) = rw (← add-one n) (count-line m n ls) in
+    omega (arith, one, few n, count-most m ls n few)
+
+-- the loop that counts them: line l adds its own
+pub count-on : (m l count more : ℕ) (ls : List Line) (b : Line) → count ≡ signalCount m l ls → b ≡ line ls l → more ≡ betweenBlocks b
+    → count + more ≡ signalCount m (l + 1) ls
+count-on m l count more ls b e f g = ap₂ _+_ e (g ∙ ap betweenBlocks f) ∙ sym (count-line m l ls)
+
+-- no line is left: all are counted
+pub count-end : (m l n count : ℕ) (ls : List Line) → count ≡ signalCount m l ls → l ≤ n → n ≤ l → count ≡ signalCount m n ls
+count-end m l n count ls e b f = let d : l ≡ n = omega arith in e ∙ ap (λ k. signalCount m k ls) d

@@ -1,38 +1,16 @@
--- Signals and their numbers: main signals first, then block signals line by line, A to B before B to A, each in order of blocks from end A
--- (document 02, L2). There are m main signals and n lines.
-use Prim.Native.Nat.{ℕ, zero, suc, _+_, _-_, _<_}
+-- Signals by their numbers (L2): main signals first, then block signals line by line, A to B before B to A, each in order of blocks from end A.
+-- There are m main signals and n lines.
+use Prim.Native.Nat.{ℕ, zero, suc, _+_, _-_, _*_, _<_}
 use mathlib.Core.Path.{_≡_}
-use mathlib.Core.Logic.{_⊎_}
-use mathlib.Core.Bool.{true}
 use mathlib.Core.List.{List, [], _++_}
 use lib.Dec.{eqb}
 use lib.ListN.{length, getD}
 use Rattle.laws.specs.Choice.{if_then_else_}
-use Rattle.laws.specs.Tests.{_or_}
 use Rattle.laws.specs.Tables.{table}
 use Rattle.track.specs.declared.Line.{Line}
-use Rattle.track.specs.declared.Route.{Route}
 use Rattle.track.specs.Codes.{aToB, bToA}
 use Rattle.track.specs.Objects.{line}
 use Rattle.track.specs.Signal.{Signal, main, into}
-use Rattle.signals.specs.Aspects.{dark}
-use Rattle.signals.specs.MainSignals.{mainShows}
-use Rattle.signals.specs.BlockSignals.{hasSignal, blockShows}
-
--- ---- what a signal shows
-
--- section 4: what a signal shows; block signals are one each way
-unfoldable pub shows : ℕ → List Route → List ℕ → List Line → List ℕ → List ℕ → List ℕ → List ℕ → Signal → ℕ
-shows n rs phases ls directions points stages bars (main x) = mainShows n rs phases x
-shows n rs phases ls directions points stages bars (into l i w) =
-    if eqb w aToB or eqb w bToA then blockShows ls directions points stages bars l i w else dark
-
--- ---- which signals there are
-
--- section 4: the main signals of the layout; block signals between the blocks of its lines, one each way
-abbrev pub Stands : ℕ → ℕ → List Line → Signal → Type 0
-Stands m n ls (main x) = x < m
-Stands m n ls (into l i w) = (l < n) × (i < line ls l .blocks) × ((w ≡ aToB) ⊎ (w ≡ bToA)) × (hasSignal (line ls l .blocks) i w ≡ true)
 
 -- the block signals of line l: A to B into blocks 1, 2, .., then B to A into blocks 0, 1, ..
 unfoldable pub lineSignals : List Line → ℕ → List Signal
@@ -46,8 +24,6 @@ blockSignals (suc n) ls = blockSignals n ls ++ lineSignals ls n
 -- all signals, in the order of their numbers
 unfoldable pub allSignals : ℕ → ℕ → List Line → List Signal
 allSignals m n ls = table m main ++ blockSignals n ls
-
--- ---- their numbers
 
 -- how many signals there are
 unfoldable pub signalCount : ℕ → ℕ → List Line → ℕ
@@ -67,3 +43,9 @@ pub record OneNumber (m n : ℕ) (ls : List Line) (x : Signal) : Type 0 where
   pub below : numberOf m ls x < signalCount m n ls
   pub named : signalOf m n ls (numberOf m ls x) ≡ x
   pub only : (k : ℕ) → k < signalCount m n ls → signalOf m n ls k ≡ x → k ≡ numberOf m ls x
+
+-- ---- as the code counts them
+
+-- the block signals of a line: one each way between each two blocks
+unfoldable pub betweenBlocks : Line → ℕ
+betweenBlocks b = 2 * (b .blocks - 1)
