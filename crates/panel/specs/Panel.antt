@@ -9,7 +9,7 @@ use Rattle.laws.specs.Tests.{_and_, every}
 use Rattle.laws.specs.Tables.{table, join, read}
 use Rattle.track.specs.declared.Line.{Line}
 use Rattle.track.specs.Codes.{aToB, bToA, stage0, idle, cancelling}
-use Rattle.track.specs.Sizes.{mostSections, mostPoints, mostSignals, mostLines, mostPlaces, mostTrainRoutes}
+use Rattle.track.specs.Sizes.{mostSections, mostPoints, mostSignals, mostLines, mostPlaces, mostDistants, mostTrainRoutes}
 use Rattle.track.specs.Lists.{between}
 use Rattle.track.specs.Objects.{line}
 use Rattle.tables.specs.Readings.{reading, pointReading}
@@ -17,7 +17,10 @@ use Rattle.tables.specs.Blocks.{place}
 use Rattle.tables.specs.Locks.{direction, phase}
 use Rattle.signals.specs.MainSignals.{mainShows}
 use Rattle.signals.specs.BlockSignals.{blockShows}
+use Rattle.signals.specs.Shows.{shows, numberShows}
+use Rattle.signals.specs.Distants.{distantShows}
 use Rattle.layout.specs.declared.Layout.{Layout}
+use Rattle.layout.specs.Layout.{carrierOf, announcedBy}
 use Rattle.layout.specs.Sound.{sound}
 use Rattle.interlocking.specs.declared.State.{State}
 use Rattle.interlocking.specs.State.{inRange}
@@ -33,6 +36,18 @@ blocks (suc n) ls = blocks n ls + line ls n .blocks
 -- a route by its phase: 0 idle, 1 locked, 2 cancelling
 unfoldable pub routeByte : ℕ → ℕ
 routeByte p = if eqb p idle then 0 else if eqb p cancelling then 2 else 1
+
+-- ---- distants
+
+-- what the signal of a number shows, of main and block signals (L2)
+unfoldable pub signalByte : Layout → State → ℕ → ℕ
+signalByte L s =
+    numberShows (L .signals) (L .lines) (L .line)
+    (shows (L .routes) (L .route) (s .phase) (L .line) (s .direction) (s .point) (s .stage) (s .bar))
+
+-- distant d, by what the signals show at the event's end: 23, 24, 25, or 0 if dark (L2)
+unfoldable pub distantByte : Layout → State → ℕ → ℕ
+distantByte L s d = distantShows (signalByte L s) (carrierOf L d) (announcedBy L d)
 
 -- ---- blocks
 
@@ -50,19 +65,20 @@ lineBytes ls directions points stages bars l = join (line ls l .blocks) (blockBy
 
 -- ---- the image
 
--- one byte each: section and point readings, signals, routes, lines (0 neutral, 1, 2), then the blocks, line by line
+-- one byte each: section and point readings, signals, routes, distants (L2), lines (0 neutral, 1, 2), then the blocks, line by line
 unfoldable pub image : Layout → State → List ℕ
 image L s =
     table (L .sections) (reading (s .section))
     ++ table (L .points) (pointReading (s .point))
     ++ table (L .signals) (mainShows (L .routes) (L .route) (s .phase))
     ++ table (L .routes) (λ r. routeByte (phase (s .phase) r))
+    ++ table (L .distants) (distantByte L s)
     ++ table (L .lines) (direction (s .direction))
     ++ join (L .lines) (lineBytes (L .line) (s .direction) (s .point) (s .stage) (s .bar))
 
 -- how many bytes that is, by the layout alone
 unfoldable pub panelLength : Layout → ℕ
-panelLength L = L .sections + L .points + L .signals + L .routes + L .lines + 3 * blocks (L .lines) (L .line)
+panelLength L = L .sections + L .points + L .signals + L .routes + L .distants + L .lines + 3 * blocks (L .lines) (L .line)
 
 -- ---- the answer, and the buffer
 
@@ -99,6 +115,7 @@ panelAskedInRun L = every (
     ∷ leb (L .points) mostPoints
     ∷ leb (L .signals) mostSignals
     ∷ leb (L .routes) mostTrainRoutes
+    ∷ leb (L .distants) mostDistants
     ∷ leb (L .lines) mostLines
     ∷ eqb (L .lacking) 0
     ∷ [])

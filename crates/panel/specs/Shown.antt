@@ -1,4 +1,4 @@
--- What shows after an event, read from the bytes of the panel image by the layout (section 7): section and point readings, signals, routes, lines, then of
+-- What shows after an event, read from the bytes of the panel image by the layout (section 7): section and point readings, signals, routes, distants, lines, then of
 -- each block, line by line from A, its stage, its signal A to B and its signal B to A.
 use Prim.Native.Nat.{ℕ, _+_, _*_}
 use mathlib.Core.List.{List}
@@ -38,9 +38,13 @@ signalsFrom L = pointsFrom L + L .points
 abbrev pub routesFrom : Layout → ℕ
 routesFrom L = signalsFrom L + L .signals
 
+-- of the distants
+abbrev pub distantsFrom : Layout → ℕ
+distantsFrom L = routesFrom L + L .routes
+
 -- of the lines
 abbrev pub linesFrom : Layout → ℕ
-linesFrom L = routesFrom L + L .routes
+linesFrom L = distantsFrom L + L .distants
 
 -- of block i of line l, three for each block
 abbrev pub blockFrom : Layout → ℕ → ℕ → ℕ
@@ -48,12 +52,13 @@ blockFrom L l i = linesFrom L + L .lines + 3 * (blocks l (L .line) + i)
 
 -- ---- what they show
 
--- what shows of each section and point (its reading), of each signal, of each route, of each line (its direction), of each block (open, or its stage)
+-- what shows of each section and point (its reading), of each signal, of each route, of each distant, of each line (its direction), of each block (open, or its stage)
 pub record Panel : Type 0 where
   pub section : ℕ → ℕ
   pub point : ℕ → ℕ
   pub signal : Signal → ℕ
   pub route : ℕ → ℕ
+  pub distant : ℕ → ℕ
   pub line : ℕ → ℕ
   pub block : ℕ → ℕ → ℕ
 
@@ -75,6 +80,10 @@ signalShown L bytes (into l i w) =
 unfoldable pub routeShown : Layout → List ℕ → ℕ → ℕ
 routeShown L bytes r = if ltb r (L .routes) then getD bytes (routesFrom L + r) 0 else showsIdle
 
+-- a distant: 23, 24, 25 or dark (L2)
+unfoldable pub distantShown : Layout → List ℕ → ℕ → ℕ
+distantShown L bytes d = if ltb d (L .distants) then getD bytes (distantsFrom L + d) 0 else dark
+
 -- a line: neutral or its direction
 unfoldable pub lineShown : Layout → List ℕ → ℕ → ℕ
 lineShown L bytes l = if ltb l (L .lines) then getD bytes (linesFrom L + l) 0 else neutral
@@ -90,6 +99,7 @@ panel L bytes = record {
   point = pointShown L bytes;
   signal = signalShown L bytes;
   route = routeShown L bytes;
+  distant = distantShown L bytes;
   line = lineShown L bytes;
   block = blockShown L bytes;
 }

@@ -8,7 +8,7 @@ use lib.Seq.{sets}
 use Rattle.laws.specs.Tables.{table, read, join}
 use Rattle.track.specs.declared.Line.{Line}
 use Rattle.track.specs.Codes.{aToB, bToA, stage0}
-use Rattle.track.specs.Sizes.{mostSections, mostPoints, mostSignals, mostLines, mostPlaces, mostTrainRoutes}
+use Rattle.track.specs.Sizes.{mostSections, mostPoints, mostSignals, mostLines, mostPlaces, mostDistants, mostTrainRoutes}
 use Rattle.tables.specs.Readings.{reading, pointReading, linePlaced}
 use Rattle.tables.specs.Blocks.{place}
 use Rattle.tables.specs.Locks.{direction, phase}
@@ -16,7 +16,7 @@ use Rattle.signals.specs.MainSignals.{mainShows}
 use Rattle.signals.specs.BlockSignals.{blockShownWhere}
 use Rattle.layout.specs.declared.Layout.{Layout}
 use Rattle.interlocking.specs.declared.State.{State}
-use Rattle.panel.specs.Panel.{routeByte}
+use Rattle.panel.specs.Panel.{routeByte, distantByte}
 
 -- the bytes xs were written into a buffer from a place on: what the buffer is then, and the next place
 pub record Wrote (before : List ℕ) (at : ℕ) (xs after : List ℕ) (next : ℕ) : Type 0 where
@@ -39,11 +39,12 @@ lineBy b directions points stages bars l = join (b .blocks) (blockBy stages bars
 unfoldable pub readingBytes : Layout → State → List ℕ
 readingBytes L s = table (L .sections) (reading (s .section)) ++ table (L .points) (pointReading (s .point))
 
--- signals, routes, lines
+-- signals, routes, distants, lines
 unfoldable pub objectBytes : Layout → State → List ℕ
 objectBytes L s =
     table (L .signals) (mainShows (L .routes) (L .route) (s .phase))
     ++ table (L .routes) (λ r. routeByte (phase (s .phase) r))
+    ++ table (L .distants) (distantByte L s)
     ++ table (L .lines) (direction (s .direction))
 
 -- a layout's objects are no more than the tables of a state hold
@@ -52,4 +53,5 @@ pub record FitsTables (L : Layout) : Type 0 where
   pub points : L .points ≤ mostPoints
   pub signals : L .signals ≤ mostSignals
   pub routes : L .routes ≤ mostTrainRoutes
+  pub distants : L .distants ≤ mostDistants
   pub lines : L .lines ≤ mostLines
