@@ -20,8 +20,8 @@ use Rattle.laws.proofs.Totals.{bit-one, bit-none}
 use Rattle.track.specs.Sizes.{mostSections}
 use Rattle.track.specs.Lists.{between}
 use Rattle.layout.specs.declared.Layout.{Layout}
-use Rattle.layout.specs.Layout.{counts, lineIn, routeIn, conflict, isFitted}
-use Rattle.layout.specs.Rules.{rule1, rule2, rule3, rule4, rule5, rule6, broken}
+use Rattle.layout.specs.Layout.{counts, lineIn, signalsIn, carrierOf, announcedBy, routeIn, conflict, isFitted}
+use Rattle.layout.specs.Rules.{rule1, rule2, rule3, rule4, rule5, rule6, rule7, broken}
 use Rattle.layout.specs.Sound.{fits, mirrored, sound}
 use Rattle.layout.specs.Load.{load}
 use Rattle.layout_facts.specs.Loaded.{NoneTold}
@@ -121,20 +121,20 @@ module _ (L : Layout) (ns : List ℕ) where
   -- there are no more sections than there may be
   few : fits L ≡ true → L .sections ≤ mostSections
   unfolding fits between
-  few e = leb-true _ _ (and-right _ _ (every-at _ e 0))
+  few e = leb-true _ _ (and-right _ _ (every-at _ e 1))
 
   -- every number is in its range where the layout's are and none is lacking
   equipped-fits : fits L ≡ true → lacks (L .sections) ns ≡ false → fits (equipped ns L) ≡ true
-  unfolding fits counts lineIn routeIn equipped withTold toldBy bit if_then_else_
+  unfolding fits counts lineIn signalsIn carrierOf announcedBy routeIn equipped withTold toldBy bit if_then_else_
   equipped-fits e f =
       let at = every-at _ e in
       every-more _ _ _ (at 0) (every-more _ _ _ (at 1) (every-more _ _ _ (at 2) (every-more _ _ _ (at 3) (every-more _ _ _ (at 4) (every-more _ _ _ (at 5)
-      (every-more _ _ _ (at 6) (every-more _ _ _ (at 7) (every-more _ _ _ (all-from _ _ (λ g h. heads-fit g (omega (arith, few e)))) (every-one _ (ap (λ x. eqb (bit x) 0) f))))))))))
+      (every-more _ _ _ (at 6) (every-more _ _ _ (at 7) (every-more _ _ _ (at 8) (every-more _ _ _ (at 9) (every-more _ _ _ (at 10) (every-more _ _ _ (all-from _ _ (λ g h. heads-fit g (omega (arith, few e)))) (every-one _ (ap (λ x. eqb (bit x) 0) f)))))))))))))
 
   -- what is lacking is asked of the layout
   fits-lacks : fits (equipped ns L) ≡ true → lacks (L .sections) ns ≡ false
   unfolding fits equipped withTold toldBy
-  fits-lacks e = bit-none (lacks (L .sections) ns) (every-at _ e 9)
+  fits-lacks e = bit-none (lacks (L .sections) ns) (every-at _ e 12)
 
   -- the conflicts and the rules are those of the layout
   same-mirrored : mirrored (equipped ns L) ≡ mirrored L
@@ -142,7 +142,7 @@ module _ (L : Layout) (ns : List ℕ) where
   same-mirrored = refl
 
   same-broken : broken (equipped ns L) ≡ broken L
-  unfolding broken rule1 rule2 rule3 rule4 rule5 rule6 lineIn routeIn conflict equipped withTold
+  unfolding broken rule1 rule2 rule3 rule4 rule5 rule6 rule7 lineIn routeIn conflict carrierOf announcedBy equipped withTold
   same-broken = refl
 
   -- L1, a sound layout stays sound just where every told section is there

@@ -42,12 +42,16 @@ toldBy sections ns = record { fitted = table mostSections (λ g. bit (isTold ns 
 -- the layout with what was told; everything else as it is
 unfoldable pub withTold : Layout → Told → Layout
 withTold L t = record {
+  version = L .version;
   sections = L .sections;
   points = L .points;
   pointsection = L .pointsection;
   signals = L .signals;
   lines = L .lines;
   line = L .line;
+  distants = L .distants;
+  carrier = L .carrier;
+  announced = L .announced;
   routes = L .routes;
   route = L .route;
   conflict = L .conflict;

@@ -21,7 +21,7 @@ pub sound-holds : (L : Layout) (s : State) (x : Bool) → x ≡ (sound L and inR
 unfolding sound fits between
 sound-holds L s x e h =
     let within : fits L ≡ true = every-at _ (and-left _ _ (sym e ∙ h)) 0 in
-    (leb-true (L .lines) mostLines (every-at _ within 4), leb-true (L .routes) mostTrainRoutes (every-at _ within 6), leb-true (L .sections) mostSections (and-right _ _ (every-at _ within 0)))
+    (leb-true (L .lines) mostLines (every-at _ within 5), leb-true (L .routes) mostTrainRoutes (every-at _ within 9), leb-true (L .sections) mostSections (and-right _ _ (every-at _ within 1)))
 
 -- so has one whose counts were looked at
 pub counts-hold : (n m : ℕ) (x : Bool) → leb n mostLines && (leb m mostTrainRoutes && x) ≡ true → (n ≤ mostLines) × (m ≤ mostTrainRoutes)

@@ -9,10 +9,9 @@ use borrow.Author.Tests.{eqb-true, eq-eqb, ne-eqb, ltb-true}
 use lib.Dec.{ltb}
 use Rattle.laws.proofs.Tests.{implied, every-at}
 use Rattle.track.specs.Objects.{nearest}
-use Rattle.track.specs.Signal.{Signal, main, into}
+use Rattle.track.specs.Signal.{Signal, main, into, hasSignal}
 use Rattle.tables.specs.Blocks.{isOpen}
 use Rattle.signals.specs.Signals.{enterableBy, enterable, letsOut, clear}
-use Rattle.signals.specs.BlockSignals.{hasSignal}
 use Rattle.layout.specs.declared.Layout.{Layout}
 use Rattle.layout.specs.Layout.{lineIn, routeIn, conflict}
 use Rattle.layout_facts.specs.Plain.{InBlock, nearestBlock, Sound, sameEntry}

@@ -7,17 +7,20 @@ use Rattle.laws.specs.Totals.{bit}
 use Rattle.sets.specs.Sets.{holds, joined, mergedSet, addEntry, setOf}
 use Rattle.tables.specs.Readings.{recorded, given, reading, blockGiven, blockReading, pointReading, allFree, inPosition, linePlaced, routePlaced}
 use Rattle.track.specs.Objects.{nearest}
+use Rattle.track.specs.Signal.{hasSignal}
+use Rattle.track.specs.SignalNumbers.{lineSignals, blockSignals, allSignals, signalCount, signalOf, numberOf}
 use Rattle.track.specs.Blocks.{inBlock, facing, blockDetail, lineSections}
 use Rattle.tables.specs.Blocks.{place, isOpen, unbarred}
 use Rattle.signals.specs.Signals.{enterableBy, enterable, letsOut, clear, fallen, routeProceeds, mainProceeds, blockProceeds}
 use Rattle.signals.specs.MainSignals.{proceedShown, shownBy, shownFor, mainShows}
-use Rattle.signals.specs.BlockSignals.{hasSignal, lightShown, blockShows}
-use Rattle.signals.specs.Numbers.{shows}
+use Rattle.signals.specs.BlockSignals.{lightShown, blockShows}
+use Rattle.signals.specs.Shows.{showsWith, shows, numberShows}
+use Rattle.signals.specs.Distants.{warning, stopOrDark, carrierDarkens, distantShows}
 use Rattle.passage.specs.Passage.{ownStage, departure, arrival, beyond, sectionAt, signalAt, farSection, farSignal, farStage}
 use Rattle.line_block.specs.FarSections.{drops, farMoved, farStageAt, farStages}
 use Rattle.line_block.specs.LineRelease.{lastBlock, passable, wasInStage2, endsBy, directionAfter, directionsAfter}
 use Rattle.release.specs.Release.{watchedSection, watchedBlock, exitPair, pathPair, watchedPair, stepsAfter, toVacate, endReading, vacated, secondsAfter, goes, lockingAfter}
-use Rattle.layout.specs.Layout.{isFitted}
+use Rattle.layout.specs.Layout.{carrierOf, announcedBy, isFitted}
 use Rattle.layout_facts.specs.Plain.{innerSection, entranceSignal, nearestBlock, path, overlap, routePoint, routePosition, linePoint, linePosition}
 use Rattle.layout_facts.specs.Plain as plain
 use Rattle.layout_facts.proofs.BranchT.{computed}
@@ -38,10 +41,10 @@ use Rattle.axles.specs.Rounds.{around, signed}
 use Rattle.axles.specs.Heads.{silentHead, coldHeads, speaks, speaking, headAfter, net, number, readingOf, occupies, resets, sumAfter, proofAfter, withProof, proves, judged, axlesAfter, known, axlesReading}
 use Rattle.axles.specs.Heads as heads
 use Rattle.axles.specs.HeadLog.{says, hasTold, lastTold, bothSpeak, netTold, isReset, resetsIn, netAtReset, numberTold, occupiesTold, wasReset, provedTold, readingTold}
-use Rattle.panel.specs.Panel.{blocks, routeByte, blockBytes, lineBytes, image, panelLength, drawnWhere, drawn}
+use Rattle.panel.specs.Panel.{blocks, routeByte, signalByte, distantByte, blockBytes, lineBytes, image, panelLength, drawnWhere, drawn}
 use Rattle.panel.specs.Panel as panels
 use Rattle.step_facts.specs.Run.{box, boxInRun, stateAfter, answers, fromCold}
-use Rattle.panel.specs.Shown.{sectionShown, pointShown, signalShown, routeShown, lineShown, blockShown}
+use Rattle.panel.specs.Shown.{sectionShown, pointShown, signalShown, routeShown, distantShown, lineShown, blockShown}
 use Rattle.safety.specs.Said.{named, ofHeads, saidOf, takesEffect}
 use Rattle.safety.specs.History.{gaveByReading, gaveByHeads, headLog, gaveSection, reads, shown, moment, goesOn, history}
 use Rattle.safety.specs.Locked.{gaveFirst, gaveSecond, secondsSince}
@@ -66,9 +69,15 @@ unfolding computed
     numbersRefusal nothing givesReading aSecond sectionRow pointRow throwRow setRow cancelRow secureRow manualRow barRow secondRow noRow rowWith rowOf
     rowRefusal answeredBy stepWhere step askedInRun stepInRun refusal own gives after
     join blocks proceedShown shownBy shownFor mainShows routeByte hasSignal lightShown blockShows blockBytes lineBytes image panelLength panels.refused panels.answerWhere panels.answer drawnWhere drawn
-    box boxInRun stateAfter answers fromCold shows sectionShown pointShown signalShown routeShown lineShown blockShown isFitted gaveByReading gaveSection reads shown moment goesOn history
+    box boxInRun stateAfter answers fromCold showsWith shows sectionShown pointShown signalShown routeShown distantShown lineShown blockShown isFitted gaveByReading gaveSection reads shown moment goesOn history
     gaveFirst gaveSecond secondsSince position plain.ownSection path overlap routePoint routePosition linePoint linePosition
 runComputed = 0
+
+-- whoever unfolds this besides unfolds all that distants are made of (L2)
+unfoldable pub distantsComputed : ℕ
+unfolding lineSignals blockSignals allSignals signalCount signalOf numberOf numberShows warning stopOrDark carrierDarkens distantShows
+    carrierOf announcedBy signalByte distantByte
+distantsComputed = 0
 
 -- whoever unfolds this besides unfolds all that fitted sections, heads and the logs of them are made of (L1)
 unfoldable pub headsComputed : ℕ

@@ -19,7 +19,7 @@ use Rattle.tables.specs.Readings.{allFree}
 use Rattle.tables.specs.Readings as readings
 use Rattle.tables.specs.Blocks.{isOpen}
 use Rattle.signals.specs.Signals.{enterableBy, enterable, clear, routeProceeds, mainProceeds, blockProceeds}
-use Rattle.signals.specs.BlockSignals.{hasSignal}
+use Rattle.track.specs.Signal.{hasSignal}
 use Rattle.passage.specs.declared.Beyond.{Beyond}
 use Rattle.passage.specs.Passage.{beyond, sectionAt, signalAt, farSignal}
 use Rattle.passage.specs.Passage as passage

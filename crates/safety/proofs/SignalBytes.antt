@@ -12,10 +12,10 @@ use Rattle.laws.specs.Tests.{_and_, lowest}
 use Rattle.laws.proofs.Choice.{chosen, passed-over}
 use Rattle.laws.proofs.Searches.{lowest-some, lowest-holds}
 use Rattle.laws.proofs.Tests.{and-left, and-right, and-both, fails-from, any-at, any-some}
-use Rattle.track.specs.Signal.{main, into}
+use Rattle.track.specs.Signal.{main, into, hasSignal}
 use Rattle.signals.specs.Signals.{enterable, routeProceeds, mainProceeds}
 use Rattle.signals.specs.MainSignals.{proceedShown, shownBy, shownFor, mainShows}
-use Rattle.signals.specs.BlockSignals.{hasSignal, lightShown, blockShows}
+use Rattle.signals.specs.BlockSignals.{lightShown, blockShows}
 use Rattle.signals.proofs.Shows.{main-shows, main-stops}
 use Rattle.layout.specs.declared.Layout.{Layout}
 use Rattle.layout.specs.Layout.{lineIn, routeIn}

@@ -8,8 +8,7 @@ use native.Mathlib.Omega.{arith}
 use borrow.Author.Tests.{eqb-true, ltb-true, lt-ltb}
 use Rattle.laws.proofs.Tests.{and-left, and-right, and-both}
 use Rattle.signals.specs.Signals.{enterable, mainProceeds, blockProceeds}
-use Rattle.track.specs.Signal.{main, into}
-use Rattle.signals.specs.BlockSignals.{hasSignal}
+use Rattle.track.specs.Signal.{main, into, hasSignal}
 use Rattle.layout.specs.declared.Layout.{Layout}
 use Rattle.layout.specs.Layout.{lineIn}
 use Rattle.interlocking.specs.declared.State.{State}

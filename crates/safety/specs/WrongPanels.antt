@@ -10,12 +10,13 @@ use Rattle.laws.specs.Tables.{table, read, join}
 use Rattle.track.specs.Codes.{neutral, aToB, bToA, stage0}
 use Rattle.track.specs.Sizes.{mostLines, mostPlaces}
 use Rattle.track.specs.Objects.{line}
+use Rattle.track.specs.Signal.{hasSignal}
 use Rattle.tables.specs.Readings.{reading, pointReading}
 use Rattle.tables.specs.Blocks.{place}
 use Rattle.tables.specs.Locks.{direction, phase}
 use Rattle.signals.specs.Signals.{enterable}
 use Rattle.signals.specs.MainSignals.{mainShows}
-use Rattle.signals.specs.BlockSignals.{hasSignal, lightShown}
+use Rattle.signals.specs.BlockSignals.{lightShown}
 use Rattle.layout.specs.declared.Layout.{Layout}
 use Rattle.interlocking.specs.declared.State.{State}
 use Rattle.interlocking.specs.State.{withLines}

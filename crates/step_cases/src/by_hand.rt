@@ -93,26 +93,48 @@ fn changed_blocks(given: State, c: Change) -> State {
     t
 }
 
-// A layout with a count changed.
+// A layout with its version, a count or what is lacking changed.
 fn changed_counts(given: Layout, c: Change) -> Layout {
     let mut t = given;
     if c.field == 0 {
-        t.sections = c.byte;
+        t.version = c.byte;
     }
     if c.field == 1 {
+        t.sections = c.byte;
+    }
+    if c.field == 2 {
         t.points = c.byte;
     }
-    if c.field == 3 {
+    if c.field == 4 {
         t.signals = c.byte;
     }
-    if c.field == 4 {
+    if c.field == 5 {
         t.lines = c.byte;
     }
-    if c.field == 6 {
-        t.routes = c.byte;
+    if c.field == 7 {
+        t.distants = c.byte;
     }
     if c.field == 10 {
+        t.routes = c.byte;
+    }
+    if c.field == 14 {
         t.lacking = c.byte;
+    }
+    t
+}
+
+// A layout with a distant changed.
+fn changed_distants(given: Layout, c: Change) -> Layout {
+    let mut t = given;
+    if c.field == 8 {
+        let mut xs = given.carrier;
+        put(&mut xs, c.place, c.byte);
+        t.carrier = xs;
+    }
+    if c.field == 9 {
+        let mut xs = given.announced;
+        put(&mut xs, c.place, c.byte);
+        t.announced = xs;
     }
     t
 }
@@ -120,17 +142,17 @@ fn changed_counts(given: Layout, c: Change) -> Layout {
 // A layout with a point's section, a conflict or the heads of a section changed.
 fn changed_tables(given: Layout, c: Change) -> Layout {
     let mut t = given;
-    if c.field == 2 {
+    if c.field == 3 {
         let mut xs = given.pointsection;
         put(&mut xs, c.place, c.byte);
         t.pointsection = xs;
     }
-    if c.field == 8 {
+    if c.field == 12 {
         let mut xs = given.conflict;
         put(&mut xs, c.place, c.byte);
         t.conflict = xs;
     }
-    if c.field == 9 {
+    if c.field == 13 {
         let mut xs = given.fitted;
         put(&mut xs, c.place, c.byte);
         t.fitted = xs;
@@ -168,7 +190,8 @@ fn changed_at_route(plan: Layout, c: Change) -> Layout {
 fn changed_plan(plan: Layout, c: Change) -> Layout {
     if c.record == 0 {
         let a = changed_counts(plan, c);
-        return changed_tables(a, c);
+        let b = changed_distants(a, c);
+        return changed_tables(b, c);
     }
     if c.record == 2 {
         return changed_at_line(plan, c);

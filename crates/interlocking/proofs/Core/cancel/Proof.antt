@@ -17,4 +17,4 @@ acted c =
 
 pub cancel-spec : {M : Type 1} → statement M
 unfolding cancelRow cancelRefusal
-cancel-spec = tie.close (tie.spec (λ c. search needs) (λ c κs. search needs) (λ c κs. search needs) (λ c κs. search needs) (λ c. search trying) (λ c. search fitting) (λ c κs. search needs) (λ c κs. search needs) (λ c. search trying) (λ c κs. search needs) (λ c κs. search needs) (λ c κs. search needs) acted)
+cancel-spec = tie.close (tie.spec (λ c. search needs) (λ c κs. search needs) (λ c κs. search needs) (λ c κs. search needs) (λ c. search trying) (λ c. search (fitting, c .before .before .before .before .before .good .1 .0 .1 .1 .1 .1 .1 .1 .1 .1 .1 .1 .1 .1 .0)) (λ c κs. search needs) (λ c κs. search needs) (λ c. search trying) (λ c κs. search needs) (λ c κs. search needs) (λ c κs. search needs) acted)

@@ -24,4 +24,4 @@ acted c =
 
 pub set-spec : {M : Type 1} → statement M
 unfolding setRow
-set-spec = tie.close (tie.spec (λ c. search needs) (λ c κs. search needs) (λ c κs. search needs) (λ c κs. search needs) (λ c. search trying) (λ c. search fitting) (λ c κs. search needs) (λ c κs. search needs) kept (λ c κs. search needs) (λ c κs. search needs) (λ c κs. search needs) acted)
+set-spec = tie.close (tie.spec (λ c. search needs) (λ c κs. search needs) (λ c κs. search needs) (λ c κs. search needs) (λ c. search trying) (λ c. search (fitting, c .before .before .before .before .before .good .1 .0 .1 .1 .1 .1 .1 .1 .1 .1 .1 .1 .1 .1 .0)) (λ c κs. search needs) (λ c κs. search needs) kept (λ c κs. search needs) (λ c κs. search needs) (λ c κs. search needs) acted)

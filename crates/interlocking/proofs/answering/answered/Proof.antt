@@ -43,7 +43,7 @@ begins c =
     let tables = event .event-tried .ok .1 .1 .0 .1 .1 .1 .1 .1 in (
       few .0,
       few .1,
-      search (needs, length-mapped, start .good .0 .1 .1 .1 .1 .1 .1 .1 .1 .1 .0),
+      search (needs, length-mapped, start .good .0 .1 .1 .1 .1 .1 .1 .1 .1 .1 .1 .1 .1 .1 .0),
       redo-start _ _ _ _ (few .1) (search needs),
       redo-start _ _ _ _ (few .1) (search (needs, tables .0)),
       redo-start _ _ _ _ (few .1) (search (needs, tables .0)),

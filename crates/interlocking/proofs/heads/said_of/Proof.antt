@@ -30,7 +30,7 @@ small c =
     omega (
       arith,
       section-fits _ _ _ _ _ _ _ (start .args .layout .fitted) _ (numbers .numbers-refusal .ensures) (c .before .before .before .if1 .left) (numbers .before .refused-if .ensures)
-          (numbers .before .before .is-fitted .ensures) (search (needs, length-mapped, start .good .1 .1 .0 .1 .1 .1 .1 .1 .1 .1 .1 .1 .1 .1 .0)),
+          (numbers .before .before .is-fitted .ensures) (search (needs, length-mapped, start .good .1 .1 .0 .1 .1 .1 .1 .1 .1 .1 .1 .1 .1 .1 .1 .1 .1 .1 .0)),
     )
 
 -- done
