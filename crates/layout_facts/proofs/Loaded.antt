@@ -12,15 +12,15 @@ use Rattle.laws.specs.Tests.{_and_, every}
 use Rattle.laws.proofs.Choice.{if-both}
 use Rattle.laws.proofs.Arrays.{nothing-at}
 use Rattle.laws.proofs.Tests.{and-both, every-one, every-more, all-from}
-use Rattle.track.specs.Sizes.{mostSections, mostPoints, mostSignals, mostLines, mostTrainRoutes}
+use Rattle.track.specs.Sizes.{mostSections, mostPoints, mostSignals, mostLines, mostTrainRoutes, lastVersion}
 use Rattle.track.specs.Lists.{between}
 use Rattle.track.specs.Ranges.{lineFits}
 use Rattle.fields.proofs.Ranges.{Known, code-known, code-most, code-in}
-use Rattle.file_objects.proofs.Ranges.{between-from, sections-known, sections-in, lines-known, lines-in, routes-known, routes-in}
+use Rattle.file_objects.proofs.Ranges.{between-from, sections-known, sections-in, lines-known, lines-in, distants-known, distants-in, routes-known, routes-in}
 use Rattle.pairs.proofs.Ranges.{Said, neither, both, pairs-known, pairs-in}
 use Rattle.layout.specs.declared.Loaded.{Loaded}
 use Rattle.layout.specs.declared.file.Whole.{Whole}
-use Rattle.layout.specs.Layout.{noneFitted, noLayout, counts, lineIn, routeIn, entryOf}
+use Rattle.layout.specs.Layout.{noneFitted, noLayout, counts, lineIn, signalsIn, carrierOf, announcedBy, routeIn, entryOf}
 use Rattle.layout.specs.Rules.{firstFailed, broken}
 use Rattle.layout.specs.Sound.{sectionsFit, fits, pairMirrors, rowMirrors, mirrored, sound}
 use Rattle.layout.specs.Load.{start, heading, countsOf, whole, refused, finished, load}
@@ -33,7 +33,8 @@ use Rattle.layout_facts.specs.Loaded.{Answered}
 whole-known : (s : List ℕ) → Known (whole s .cur)
 unfolding whole heading
 whole-known s =
-    pairs-known s _ _ (routes-known s _ _ (lines-known s _ _ (code-known s _ 0 mostSignals (sections-known s _ _ (code-known s _ 1 mostSections (code-known s start 1 1 (inl refl)))))))
+    pairs-known s _ _ (routes-known s _ _ (distants-known s _ _ _ (lines-known s _ _
+    (code-known s _ 0 mostSignals (sections-known s _ _ (code-known s _ 1 mostSections (code-known s start 1 lastVersion (inl refl))))))))
 
 -- where no section is told as fitted, the table of heads says 0 of each
 none-fit : (g : ℕ) → leb (getD noneFitted g 0) 1 ≡ true
@@ -42,18 +43,21 @@ none-fit g = rw (nothing-at {A = ℕ} mostSections 0 g)
 
 -- with no fault it is in range
 whole-fits : (s : List ℕ) → whole s .cur .fault ≡ 0 → fits (whole s .layout) ≡ true
-unfolding whole heading countsOf fits counts sectionsFit lineIn routeIn lineFits
+unfolding whole heading countsOf fits counts sectionsFit lineIn signalsIn carrierOf announcedBy routeIn lineFits
 whole-fits s e =
-    let r = routes-in s _ _ (pairs-in s _ _ (whole-few s refl) e .0) in
-    let l = lines-in s _ _ (r .0) in
+    let r = routes-in s _ _ (pairs-in s _ _ (whole-few s refl .0) e .0) in
+    let d = distants-in s _ _ _ (r .0) in
+    let l = lines-in s _ _ (d .0) in
     let signals = code-in s _ 0 mostSignals (l .0) in
     let p = sections-in s _ _ (signals .0) in
     let sections = code-in s _ 1 mostSections (p .0) in
-    every-more _ _ _ (between-from 1 mostSections _ (sections .1) (code-most s _ 1 mostSections refl)) (every-more _ _ _ (le-leb _ mostPoints (p .1 .most))
+    let version = code-in s start 1 lastVersion (sections .0) in
+    every-more _ _ _ (between-from 1 lastVersion _ (version .1) (code-most s start 1 lastVersion refl)) (every-more _ _ _ (between-from 1 mostSections _ (sections .1) (code-most s _ 1 mostSections refl)) (every-more _ _ _ (le-leb _ mostPoints (p .1 .most))
     (every-more _ _ _ (all-from _ _ (λ k h. lt-ltb _ _ (p .1 .each k h))) (every-more _ _ _ (le-leb _ mostSignals (code-most s _ 0 mostSignals refl))
     (every-more _ _ _ (le-leb _ mostLines (l .1 .most)) (every-more _ _ _ (all-from _ _ (l .1 .each))
+    (every-more _ _ _ (le-leb _ _ (d .1 .most)) (every-more _ _ _ (all-from _ _ (d .1 .each))
     (every-more _ _ _ (le-leb _ mostTrainRoutes (r .1 .most)) (every-more _ _ _ (all-from _ _ (r .1 .each))
-    (every-more _ _ _ (all-from _ _ (λ g h. none-fit g)) (every-one _ refl)))))))))
+    (every-more _ _ _ (all-from _ _ (λ g h. none-fit g)) (every-one _ refl))))))))))))
 
 -- no route is listed with itself
 own-none : (m : List ℕ) (n r : ℕ) → Said m n r r → entryOf m r r ≡ 0
@@ -71,7 +75,7 @@ pair-mirrors m n r q (both e f d a b) = rw (e, f)
 whole-mirrored : (s : List ℕ) → whole s .cur .fault ≡ 0 → mirrored (whole s .layout) ≡ true
 unfolding whole mirrored rowMirrors
 whole-mirrored s e =
-    let few = whole-few s refl in
+    let few = whole-few s refl .0 in
     let said = pairs-in s _ _ few e .1 in
     all-from _ _ (λ r h. and-both _ _ (eq-eqb _ 0 (own-none _ _ r (said r r (omega arith) (omega arith))))
     (all-from r _ (λ q l. pair-mirrors _ _ r q (said r q (omega arith) (omega arith)))))
@@ -127,7 +131,7 @@ pub refused-empty : (s : List ℕ) → (load s .number ≡ 0 → ⊥) → load s
 unfolding load
 refused-empty s z = ended-empty (whole s) (load s) (ending (whole s) (length s)) z
 
--- it is not sound: there must be a section
+-- it is not sound: there is no version 0
 pub refused-unsound : (s : List ℕ) → (load s .number ≡ 0 → ⊥) → sound (load s .layout) ≡ false
 unfolding sound fits every between _and_ noLayout
 refused-unsound s z = rw (refused-empty s z)

@@ -6,11 +6,11 @@ use native.Mathlib.Omega.{arith}
 use lib.Dec.{eqb}
 use lib.ListN.{length}
 use Rattle.laws.proofs.Choice.{if-both}
-use Rattle.file_objects.proofs.Cleared.{sections-past, lines-past, lines-cleared, routes-past, routes-cleared}
+use Rattle.file_objects.proofs.Cleared.{sections-past, lines-past, lines-cleared, distants-past, routes-past, routes-cleared}
 use Rattle.pairs.proofs.Ranges.{Said, neither, both, pairs-in}
 use Rattle.layout.specs.declared.Layout.{Layout}
 use Rattle.layout.specs.declared.Loaded.{Loaded}
-use Rattle.layout.specs.Layout.{noLayout, noneFitted, lineIn, routeIn, entryOf}
+use Rattle.layout.specs.Layout.{noLayout, noneFitted, lineIn, carrierOf, announcedBy, routeIn, entryOf}
 use Rattle.layout.specs.Rules.{broken}
 use Rattle.layout.specs.Load.{heading, whole, refused, finished, load}
 use Rattle.layout.proofs.Laws.{whole-few}
@@ -25,17 +25,18 @@ none-listed m n r q (both e f d a b) h = absurd (omega arith)
 
 -- what is read of a file with no fault
 whole-cleared : (s : List ℕ) → whole s .cur .fault ≡ 0 → ZeroPast (whole s .layout)
-unfolding whole heading lineIn routeIn
+unfolding whole heading lineIn carrierOf announcedBy routeIn
 whole-cleared s e = record {
   sections = sections-past s _ _;
   lines = lines-past s _ _;
   blocks = λ l. lines-cleared s _ _ l .blocks;
   line-points = λ l. lines-cleared s _ _ l .points;
+  distants = distants-past s _ _ _;
   routes = routes-past s _ _;
   path = λ r. routes-cleared s _ _ r .path;
   overlap = λ r. routes-cleared s _ _ r .overlap;
   route-points = λ r. routes-cleared s _ _ r .points;
-  conflicts = λ r q x y. none-listed _ _ r q (pairs-in s _ _ (whole-few s refl) e .1 r q x y);
+  conflicts = λ r q x y. none-listed _ _ r q (pairs-in s _ _ (whole-few s refl .0) e .1 r q x y);
 }
 
 -- in a layout that loads with 0 there is nothing past a count

@@ -1,20 +1,26 @@
 -- The test of the ranges means that every count, code and reference is in its range.
-use Prim.Native.Nat.{ℕ, _<_, _≤_}
+use Prim.Native.Nat.{ℕ, _+_, _-_, _<_, _≤_}
 use mathlib.Core.Path.{_≡_}
 use mathlib.Core.Bool.{true}
 use mathlib.Core.List.{List}
 use mathlib.Core.Logic.{_↔_, Iff·trans, _⊎_}
 use native.Mathlib.Omega.{arith}
+use native.Mathlib.Decide.{decLt}
+use borrow.Author.Tests.{ltb-true, lt-ltb}
+use lib.Dec.{ltb}
 use lib.ListN.{getD}
 use Rattle.laws.specs.Choice.{if_then_else_}
-use Rattle.track.specs.Sizes.{mostListed}
+use Rattle.laws.proofs.Choice.{if-both}
+use Rattle.laws.proofs.Tests.{not-both}
+use Rattle.track.specs.Sizes.{mostDistants, mostListed}
 use Rattle.track.specs.Objects.{inner, entrance}
-use Rattle.track.specs.Ranges.{pointsFit, lineFits, routeFits}
+use Rattle.track.specs.Ranges.{pointsFit, lineFits, distantFits, routeFits}
 use Rattle.track.proofs.OnlySection.{only-in, in-only}
+use Rattle.file_objects.specs.Distants.{distantsVersion, distantsOf}
 use Rattle.layout.specs.declared.Layout.{Layout}
-use Rattle.layout.specs.Layout.{counts, lineIn, routeIn}
+use Rattle.layout.specs.Layout.{counts, lineIn, signalsIn, carrierOf, announcedBy, routeIn}
 use Rattle.layout.specs.Sound.{sectionsFit, fits}
-use Rattle.layout_facts.specs.Plain.{ownSection, InBlock, innerSection, entranceSignal, linePoint, linePosition, path, overlap, routePoint, routePosition, LineRanges, RouteRanges, Ranges}
+use Rattle.layout_facts.specs.Plain.{ownSection, InBlock, innerSection, entranceSignal, linePoint, linePosition, CarriedBy, path, overlap, routePoint, routePosition, LineRanges, DistantRanges, RouteRanges, Ranges}
 use Rattle.layout_facts.proofs.Means.{eqb-means, ltb-means, leb-means, lastly, _also_, _&_, every-means, and-means, or-means, all-means}
 use Rattle.layout_facts.proofs.Order.{to-one, unless}
 use Rattle.layout_facts.proofs.Lists.{between-means, referring-means, positions-means}
@@ -46,6 +52,20 @@ lineFits-means L l =
           & s .pointCount & s .points & s .positions,
     )
 
+-- a distant
+distantFits-means : (L : Layout) (d : ℕ) → distantFits (signalsIn L) (carrierOf L d) (announcedBy L d) ≡ true ↔ DistantRanges L d
+unfolding distantFits CarriedBy
+distantFits-means L d =
+    Iff·trans (and-means (leb-means _ _) (ltb-means _ _)) (
+      λ (carrier, announced). record { carrier = λ x e. omega arith; announced = announced },
+      λ s. one s (decLt 0 (carrierOf L d)) & s .announced,
+    )
+  where
+    -- 0, or the number of its carrier plus 1
+    one : DistantRanges L d → Dec (0 < carrierOf L d) → carrierOf L d ≤ signalsIn L
+    one s (yes h) = let there = s .carrier (carrierOf L d - 1) (omega arith) in omega arith
+    one s (no h) = omega arith
+
 -- a route
 routeFits-means : (L : Layout) (r : ℕ) → routeFits (counts L) (routeIn L r) ≡ true ↔ RouteRanges L r
 unfolding routeFits counts path overlap routePoint routePosition
@@ -72,26 +92,40 @@ routeFits-means L r =
           & s .overlapCount & s .overlaps & s .pointCount & s .points & s .positions,
     )
 
+-- no more distants than the version has: at most 32, and in version 1 none
+of-version : (version distants : ℕ) → distants ≤ distantsOf version ↔ (distants ≤ mostDistants) × (version < distantsVersion → distants ≡ 0)
+unfolding distantsOf
+of-version version distants =
+    if-both (λ n. distants ≤ n ↔ (distants ≤ mostDistants) × (version < distantsVersion → distants ≡ 0)) (ltb version distantsVersion)
+    (λ t. (λ h. (omega arith, λ l. omega arith), λ s. omega (arith, s .1 (ltb-true version distantsVersion t))))
+    (λ t. (λ h. (h, λ l. not-both (lt-ltb version distantsVersion l) t), λ s. s .0))
+
 -- every count, code and reference is in its range
 pub fits-means : (L : Layout) → fits L ≡ true ↔ Ranges L
 unfolding fits sectionsFit ownSection
 fits-means L =
     Iff·trans (every-means (
-    between-means _ _ _ also leb-means _ _ also all-means (λ p h. ltb-means _ _) also leb-means _ _
+    between-means _ _ _ also between-means _ _ _ also leb-means _ _ also all-means (λ p h. ltb-means _ _) also leb-means _ _
     also leb-means _ _ also all-means (λ l h. lineFits-means L l)
+    also Iff·trans (leb-means _ _) (of-version (L .version) (L .distants)) also all-means (λ d h. distantFits-means L d)
     also leb-means _ _ also all-means (λ r h. routeFits-means L r)
     also all-means (λ g h. leb-means _ _) also lastly (eqb-means _ _))) (
-      λ (sections, (points, (point, (signals, (lines, (line, (routes, (route, (fitted, lacking))))))))). record {
+      λ (version, (sections, (points, (point, (signals, (lines, (line, ((distants, none), (distant, (routes, (route, (fitted, lacking)))))))))))). record {
+        version = version;
         sectionCount = sections;
         pointCount = points;
         points = point;
         signalCount = signals;
         lineCount = lines;
         lines = line;
+        distantCount = distants;
+        noDistants = none;
+        distants = distant;
         routeCount = routes;
         routes = route;
         fitted = fitted;
         noneLacking = lacking;
       },
-      λ s. s .sectionCount & s .pointCount & s .points & s .signalCount & s .lineCount & s .lines & s .routeCount & s .routes & s .fitted & s .noneLacking,
+      λ s. s .version & s .sectionCount & s .pointCount & s .points & s .signalCount & s .lineCount & s .lines & (s .distantCount & s .noDistants) & s .distants
+          & s .routeCount & s .routes & s .fitted & s .noneLacking,
     )

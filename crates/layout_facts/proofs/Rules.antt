@@ -1,4 +1,4 @@
--- The tests of rules 1 to 5 mean what the rules say.
+-- The tests of rules 1 to 5 and 7 mean what the rules say.
 use Prim.Native.Nat.{ℕ, _-_, _<_, _≤_}
 use mathlib.Core.Path.{_≡_, refl, sym, _∙_}
 use mathlib.Core.Bool.{true}
@@ -9,11 +9,11 @@ use Rattle.track.specs.Sizes.{mostSections}
 use Rattle.track.specs.Objects.{inner, entrance}
 use Rattle.track.specs.Blocks.{onlySection, blocksDiffer}
 use Rattle.track.proofs.OnlySection.{only-in, in-only}
-use Rattle.rules.specs.Rules.{hasBlock, isBlock, hasInner, isInner, inPath, hasEntrance, isEntrance, once, lineEnds, linePoints, routeLists, routeLength, routeEnds}
+use Rattle.rules.specs.Rules.{hasBlock, isBlock, hasInner, isInner, inPath, hasEntrance, isEntrance, once, lineEnds, linePoints, routeLists, routeLength, routeEnds, announcesCarrier}
 use Rattle.layout.specs.declared.Layout.{Layout}
 use Rattle.layout.specs.Layout.{lineIn, routeIn}
-use Rattle.layout.specs.Rules.{rule1, rule2, rule3, rule4, rule5}
-use Rattle.layout_facts.specs.Plain.{InBlock, innerSection, entranceSignal, linePoint, path, routePoint, Ranges, Rule1, Rule2, Rule3, Rule4, Rule5}
+use Rattle.layout.specs.Rules.{rule1, rule2, rule3, rule4, rule5, rule7}
+use Rattle.layout_facts.specs.Plain.{InBlock, innerSection, entranceSignal, linePoint, CarriedBy, path, routePoint, Ranges, Rule1, Rule2, Rule3, Rule4, Rule5, Rule7}
 use Rattle.layout_facts.proofs.Means.{eqb-means, leb-means, not-means, and-means, or-means, implies-means, lastly, _also_, _&_, every-means, all-means, any-means}
 use Rattle.layout_facts.proofs.Order.{once-over, to-one, unless}
 use Rattle.layout_facts.proofs.Lists.{among-means, differ-means, share-means, ends-means, apart-means}
@@ -191,3 +191,10 @@ module _ (L : Layout) (R : Ranges L) where
         },
         λ s r hr. (λ k. s .start r hr k & s .first r hr k) & s .last r hr & λ k (l, hl, (e, he, q)). s .noEntrance r l e hr k hl he (sym q),
       )
+
+-- ---- rule 7
+
+-- no distant announces its own carrier
+pub rule7-means : (L : Layout) → rule7 L ≡ true ↔ Rule7 L
+unfolding rule7 announcesCarrier CarriedBy
+rule7-means L = Iff·trans (all-means (λ d h. not-means (eqb-means _ _))) (λ h. record { notOwn = h }, λ s. s .notOwn)

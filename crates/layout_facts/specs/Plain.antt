@@ -1,15 +1,16 @@
--- What a sound layout is, in the words and the order of section 2: over all lines, blocks, routes and points by their numbers.
-use Prim.Native.Nat.{ℕ, _-_, _<_, _≤_}
+-- What a sound layout is, in the words and the order of section 2: over all lines, blocks, distants, routes and points by their numbers.
+use Prim.Native.Nat.{ℕ, _+_, _-_, _<_, _≤_}
 use mathlib.Core.Path.{_≡_}
 use mathlib.Core.Bool.{true}
 use mathlib.Core.Logic.{_≢_, _⊎_}
 use lib.ListN.{getD}
 use Rattle.track.specs.Codes.{endA, endB, innerRoute, entranceRoute, exitRoute, left, right}
-use Rattle.track.specs.Sizes.{mostSections, mostPoints, mostSignals, mostLines, mostBlocks, mostTrainRoutes, mostListed, mostOverlap}
+use Rattle.track.specs.Sizes.{mostSections, mostPoints, mostSignals, mostLines, mostBlocks, mostDistants, mostTrainRoutes, mostListed, mostOverlap, lastVersion}
 use Rattle.track.specs.Objects.{inner, entrance, nearest}
 use Rattle.track.specs.Blocks.{inBlock}
+use Rattle.file_objects.specs.Distants.{distantsVersion}
 use Rattle.layout.specs.declared.Layout.{Layout}
-use Rattle.layout.specs.Layout.{lineIn, routeIn, entryOf, conflict}
+use Rattle.layout.specs.Layout.{lineIn, routeIn, signalsIn, carrierOf, announcedBy, entryOf, conflict}
 
 -- ---- what stands in a layout
 
@@ -41,6 +42,10 @@ linePoint L l i = getD (lineIn L l .point) i 0
 unfoldable pub linePosition : Layout → ℕ → ℕ → ℕ
 linePosition L l i = getD (lineIn L l .position) i 0
 
+-- distant d is on the mast of signal x (L2)
+unfoldable pub CarriedBy : Layout → ℕ → ℕ → Type 0
+CarriedBy L d x = carrierOf L d ≡ x + 1
+
 -- section j of the path of route r, in order of travel
 unfoldable pub path : Layout → ℕ → ℕ → ℕ
 path L r j = getD (routeIn L r .path) j 0
@@ -69,6 +74,11 @@ pub record LineRanges (L : Layout) (l : ℕ) : Type 0 where
   pub points : (i : ℕ) → i < lineIn L l .points → linePoint L l i < L .points
   pub positions : (i : ℕ) → i < lineIn L l .points → linePosition L l i ≡ left ⊎ linePosition L l i ≡ right
 
+-- a distant (L2): on no mast or on that of a signal that there is, main or block signal; so is the signal announced
+pub record DistantRanges (L : Layout) (d : ℕ) : Type 0 where
+  pub carrier : (x : ℕ) → CarriedBy L d x → x < signalsIn L
+  pub announced : announcedBy L d < signalsIn L
+
 -- a route: entry signal, kind, for kinds 1 and 2 the line and the end, diverging 0 or 1, path 1..8 sections, overlap 0..4 sections, points 0..8
 pub record RouteRanges (L : Layout) (r : ℕ) : Type 0 where
   pub entry : routeIn L r .entry < L .signals
@@ -83,15 +93,19 @@ pub record RouteRanges (L : Layout) (r : ℕ) : Type 0 where
   pub points : (i : ℕ) → i < routeIn L r .points → routePoint L r i < L .points
   pub positions : (i : ℕ) → i < routeIn L r .points → routePosition L r i ≡ left ⊎ routePosition L r i ≡ right
 
--- sections 1..64, points 0..32 each with its own section, signals 0..32, lines 0..8, routes 0..48;
--- the table of heads says 0 or 1 of each section, and none is told as fitted that there is not (L1)
+-- version 1 or 2 (L2), sections 1..64, points 0..32 each with its own section, signals 0..32, lines 0..8, distants 0..32 and in version 1 none (L2),
+-- routes 0..48; the table of heads says 0 or 1 of each section, and none is told as fitted that there is not (L1)
 pub record Ranges (L : Layout) : Type 0 where
+  pub version : (1 ≤ L .version) × (L .version ≤ lastVersion)
   pub sectionCount : (1 ≤ L .sections) × (L .sections ≤ mostSections)
   pub pointCount : L .points ≤ mostPoints
   pub points : (p : ℕ) → p < L .points → ownSection L p < L .sections
   pub signalCount : L .signals ≤ mostSignals
   pub lineCount : L .lines ≤ mostLines
   pub lines : (l : ℕ) → l < L .lines → LineRanges L l
+  pub distantCount : L .distants ≤ mostDistants
+  pub noDistants : L .version < distantsVersion → L .distants ≡ 0
+  pub distants : (d : ℕ) → d < L .distants → DistantRanges L d
   pub routeCount : L .routes ≤ mostTrainRoutes
   pub routes : (r : ℕ) → r < L .routes → RouteRanges L r
   pub fitted : (g : ℕ) → g < L .sections → getD (L .fitted) g 0 ≤ 1
@@ -150,9 +164,13 @@ pub data Clash (L : Layout) (r q : ℕ) : Type 0 where
 pub record Rule6 (L : Layout) : Type 0 where
   pub listed : (r q : ℕ) → r < L .routes → q < L .routes → r ≢ q → Clash L r q → conflict L r q ≡ true
 
+-- rule 7 (L2): no distant announces its own carrier
+pub record Rule7 (L : Layout) : Type 0 where
+  pub notOwn : (d : ℕ) → d < L .distants → ¬ CarriedBy L d (announcedBy L d)
+
 -- ---- all of it
 
--- a layout in range, with conflicts both ways, that keeps the six rules
+-- a layout in range, with conflicts both ways, that keeps the seven rules
 pub record Sound (L : Layout) : Type 0 where
   pub ranges : Ranges L
   pub conflicts : Conflicts L
@@ -162,3 +180,4 @@ pub record Sound (L : Layout) : Type 0 where
   pub rule4 : Rule4 L
   pub rule5 : Rule5 L
   pub rule6 : Rule6 L
+  pub rule7 : Rule7 L
