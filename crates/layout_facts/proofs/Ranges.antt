@@ -1,5 +1,5 @@
 -- The test of the ranges means that every count, code and reference is in its range.
-use Prim.Native.Nat.{ℕ, _+_, _-_, _<_, _≤_}
+use Prim.Native.Nat.{ℕ, _-_, _<_, _≤_}
 use mathlib.Core.Path.{_≡_}
 use mathlib.Core.Bool.{true}
 use mathlib.Core.List.{List}
@@ -52,19 +52,21 @@ lineFits-means L l =
           & s .pointCount & s .points & s .positions,
     )
 
+-- a distant's carrier is 0, or the number of a signal that there is plus 1
+pub carrier-few : (L : Layout) (d : ℕ) → DistantRanges L d → carrierOf L d ≤ signalsIn L
+unfolding CarriedBy
+carrier-few L d s = one (decLt 0 (carrierOf L d))
+  where
+    one : Dec (0 < carrierOf L d) → carrierOf L d ≤ signalsIn L
+    one (yes h) = let there = s .carrier (carrierOf L d - 1) (omega arith) in omega arith
+    one (no h) = omega arith
+
 -- a distant
 distantFits-means : (L : Layout) (d : ℕ) → distantFits (signalsIn L) (carrierOf L d) (announcedBy L d) ≡ true ↔ DistantRanges L d
 unfolding distantFits CarriedBy
 distantFits-means L d =
-    Iff·trans (and-means (leb-means _ _) (ltb-means _ _)) (
-      λ (carrier, announced). record { carrier = λ x e. omega arith; announced = announced },
-      λ s. one s (decLt 0 (carrierOf L d)) & s .announced,
-    )
-  where
-    -- 0, or the number of its carrier plus 1
-    one : DistantRanges L d → Dec (0 < carrierOf L d) → carrierOf L d ≤ signalsIn L
-    one s (yes h) = let there = s .carrier (carrierOf L d - 1) (omega arith) in omega arith
-    one s (no h) = omega arith
+    Iff·trans (and-means (leb-means _ _) (ltb-means _ _))
+    (λ (carrier, announced). record { carrier = λ x e. omega arith; announced = announced }, λ s. carrier-few L d s & s .announced)
 
 -- a route
 routeFits-means : (L : Layout) (r : ℕ) → routeFits (counts L) (routeIn L r) ≡ true ↔ RouteRanges L r

@@ -44,7 +44,7 @@ accepted-exactly s b = (
 -- ---- how long they are
 
 -- the most bytes of a file that loads: no sound layout has more, and the full layout has as many
-pub longest-is : IsLongest 4256
+pub longest-is : IsLongest 4363
 longest-is = record {
   most = λ s b e. omega (arith, longest-file (load s .layout) (loaded-sound s e), ap length (file-is-layout s b e));
   reached = (fileOf fullLayout, file-bytes fullLayout, ap (λ (a : Loaded). a .number) (layout-loads fullLayout full-sound full-bare), full-length);

@@ -6,41 +6,45 @@ use native.Mathlib.Omega.{arith}
 use borrow.Author.Tests.{ltb-true}
 use lib.Dec.{ltb}
 use lib.ListN.{length, getD, replicate, length-replicate, List·getD-eq-default}
-use Rattle.laws.specs.Tables.{table}
+use Rattle.laws.specs.Choice.{if_then_else_}
 use Rattle.laws.specs.Totals.{total, bit, count}
 use Rattle.laws.proofs.Arrays.{nothing-at}
-use Rattle.laws.proofs.Choice.{if-ge}
+use Rattle.laws.proofs.Choice.{if-lt, if-ge}
 use Rattle.laws.proofs.Tables.{length-table, table-at}
 use Rattle.laws.proofs.Totals.{total-same, total-each, bit-all, count-above}
 use Rattle.track.specs.declared.Line.{Line}
 use Rattle.track.specs.declared.Route.{Route}
 use Rattle.track.specs.Codes.{left, endA, innerRoute}
-use Rattle.track.specs.Sizes.{mostPoints, mostLines, mostTrainRoutes, mostPairs, mostConflicts, mostListed}
+use Rattle.track.specs.Sizes.{mostPoints, mostLines, mostDistants, mostTrainRoutes, mostPairs, mostConflicts, mostListed}
 use Rattle.track.specs.Objects.{noLine, noRoute, line, route}
-use Rattle.layout.specs.Layout.{lineIn, routeIn, conflict}
+use Rattle.layout.specs.Layout.{lineIn, carrierOf, announcedBy, routeIn, conflict}
 use Rattle.layout_facts.specs.Plain.{Ranges}
 use Rattle.layout_facts.specs.Loaded.{NoneTold, ZeroPast}
 use Rattle.layout_facts.proofs.Sound.{sound-says}
 use Rattle.layout_file.specs.Written.{routeNumbers, pairsOf, fileOf}
 use Rattle.layout_file.specs.Bare.{LineTables, RouteTables, Tables, Bare}
 use Rattle.layout_file.specs.Lengths.{lineSpan, routeSpan, longest}
-use Rattle.layout_file.specs.Full.{upFrom, allLeft, fullLine, fullRoute, fullConflict, fullLayout}
+use Rattle.layout_file.specs.Full.{upFrom, allLeft, fullLines, lastSignal, fullLine, fullRoute, fullConflict, fullLayout}
 use Rattle.layout_file.proofs.Loaded.{no-line-tables, no-route-tables}
 use Rattle.layout_file.proofs.Sizes.{size, size-long}
-use Rattle.layout_file.proofs.PartSizes.{pairAt-length, pairs-length, end-sized, route-sized, lines-size, routes-size, file-size}
-use Rattle.layout_file.proofs.Full.{full-conflicts, full-route, full-sound}
+use Rattle.layout_file.proofs.PartSizes.{pairAt-length, pairs-length, distantBytes, distants-size, end-sized, route-sized, lines-size, routes-size, file-size}
+use Rattle.layout_file.proofs.Full.{full-conflicts, full-route, full-distant, full-sound}
 
 -- ---- its lines and routes
 
 -- line l is the full line l where there is one
-full-line : (l : ℕ) → l < mostLines → lineIn fullLayout l ≡ fullLine l
+full-line : (l : ℕ) → l < fullLines → lineIn fullLayout l ≡ fullLine l
 unfolding lineIn line fullLayout
-full-line l h = table-at mostLines fullLine noLine l h
+full-line l h = table-at mostLines _ noLine l (omega arith) ∙ sym (if-lt l fullLines (fullLine l) noLine (fullLine l) h refl)
 
 -- there is no line past the last
-full-line-past : (l : ℕ) → mostLines ≤ l → lineIn fullLayout l ≡ noLine
+full-line-past : (l : ℕ) → fullLines ≤ l → lineIn fullLayout l ≡ noLine
 unfolding lineIn line fullLayout
-full-line-past l h = List·getD-eq-default (table mostLines fullLine) noLine {n = l} (omega (arith, length-table mostLines fullLine))
+full-line-past l h = one (decLt l mostLines)
+  where
+    one : Dec (l < mostLines) → lineIn fullLayout l ≡ noLine
+    one (yes s) = table-at mostLines _ noLine l s ∙ sym (if-ge l fullLines (fullLine l) noLine noLine h refl)
+    one (no s) = List·getD-eq-default (fullLayout .line) noLine {n = l} (omega (arith, length-table mostLines (λ l. if ltb l fullLines then fullLine l else noLine)))
 
 -- there is no route past the last
 full-route-past : (r : ℕ) → mostTrainRoutes ≤ r → routeIn fullLayout r ≡ noRoute
@@ -50,9 +54,9 @@ full-route-past r h =
 
 -- what holds of each full line and of no line holds of every line
 each-line : (P : Line → Type 0) → ((l : ℕ) → P (fullLine l)) → P noLine → (l : ℕ) → P (lineIn fullLayout l)
-each-line P full none l = one (decLt l mostLines)
+each-line P full none l = one (decLt l fullLines)
   where
-    one : Dec (l < mostLines) → P (lineIn fullLayout l)
+    one : Dec (l < fullLines) → P (lineIn fullLayout l)
     one (yes h) = rw (full-line l h) (full l)
     one (no h) = rw (full-line-past l (omega arith)) none
 
@@ -70,10 +74,18 @@ each-route P full none r = one (decLt r mostTrainRoutes)
 abbrev ranges : Ranges fullLayout
 ranges = sound-says fullLayout full-sound .ranges
 
--- the lines: each has all but one of its blocks
-full-lines : total mostLines (λ l. 6 + lineIn fullLayout l .points * 2 + lineIn fullLayout l .blocks) ≡ mostLines * (lineSpan - 1)
+-- the lines
+full-lines : total fullLines (λ l. 6 + lineIn fullLayout l .points * 2 + lineIn fullLayout l .blocks) ≡ fullLines * lineSpan
 unfolding fullLine
-full-lines = total-same mostLines _ (λ l. lineSpan - 1) (λ l h. rw (full-line l h)) ∙ total-each mostLines (lineSpan - 1)
+full-lines = total-same fullLines _ (λ l. lineSpan) (λ l h. rw (full-line l h)) ∙ total-each fullLines lineSpan
+
+-- the distants: two bytes for each of their numbers
+full-bytes : total mostDistants (distantBytes fullLayout) ≡ mostDistants * 4
+unfolding distantBytes
+full-bytes =
+    total-same mostDistants _ (λ d. 4) (λ d h.
+    rw (full-distant d h .0, full-distant d h .1) (omega (arith, size-long (lastSignal + 1) (omega arith) (omega arith), size-long (lastSignal - 1) (omega arith) (omega arith))))
+    ∙ total-each mostDistants 4
 
 -- the routes
 full-sizes : total mostTrainRoutes (λ r. size (routeNumbers (routeIn fullLayout r))) ≡ mostTrainRoutes * routeSpan
@@ -103,6 +115,8 @@ full-length =
       file-size fullLayout ranges,
       lines-size fullLayout ranges,
       full-lines,
+      distants-size fullLayout (omega arith) (omega arith),
+      full-bytes,
       routes-size fullLayout ranges,
       full-sizes,
       full-pairs,
@@ -135,12 +149,22 @@ full-tables : Tables fullLayout
 unfolding fullLayout fullLine fullRoute allLeft
 full-tables = record {
   pointsection = length-replicate {A = ℕ} mostPoints 0;
-  line = length-table mostLines fullLine;
+  line = length-table mostLines _;
   lines = each-line LineTables (λ l. record { block = up-long _ _; point = up-long _ _; position = length-replicate mostListed left }) no-line-tables;
+  carrier = length-replicate mostDistants (lastSignal + 1);
+  announced = length-replicate mostDistants (lastSignal - 1);
   route = length-replicate mostTrainRoutes fullRoute;
   routes = each-route RouteTables (record { path = up-long _ _; overlap = up-long _ _; point = up-long _ _; position = length-replicate mostListed left }) no-route-tables;
   conflict = length-table mostPairs fullConflict;
 }
+
+-- there is no distant past the last
+full-distants-past : (d : ℕ) → mostDistants ≤ d → (carrierOf fullLayout d ≡ 0) × (announcedBy fullLayout d ≡ 0)
+unfolding carrierOf announcedBy fullLayout
+full-distants-past d h = (
+  List·getD-eq-default (replicate mostDistants (lastSignal + 1)) 0 {n = d} (omega (arith, length-replicate mostDistants (lastSignal + 1))),
+  List·getD-eq-default (replicate mostDistants (lastSignal - 1)) 0 {n = d} (omega (arith, length-replicate mostDistants (lastSignal - 1))),
+)
 
 -- past each count there is nothing
 full-past : ZeroPast fullLayout
@@ -151,6 +175,7 @@ full-past = record {
   blocks = each-line (λ a. (k : ℕ) → a .blocks ≤ k → getD (a .block) k 0 ≡ 0) (λ l k h. up-past _ _ k h) (λ k h. nothing-at mostListed 0 k);
   line-points = each-line (λ a. (k : ℕ) → a .points ≤ k → (getD (a .point) k 0 ≡ 0) × (getD (a .position) k 0 ≡ 0))
       (λ l k h. (up-past _ _ k h, past-eight k h)) (λ k h. (nothing-at mostListed 0 k, nothing-at mostListed 0 k));
+  distants = full-distants-past;
   routes = full-route-past;
   path = each-route (λ a. (k : ℕ) → a .paths ≤ k → getD (a .path) k 0 ≡ 0) (λ k h. up-past _ _ k h) (λ k h. nothing-at mostListed 0 k);
   overlap = each-route (λ a. (k : ℕ) → a .overlaps ≤ k → getD (a .overlap) k 0 ≡ 0) (λ k h. up-past _ _ k h) (λ k h. nothing-at mostListed 0 k);

@@ -4,6 +4,8 @@ pub mod Turns
 pub mod Listings
 pub mod Lists
 pub mod Lines
+pub mod Signals
+pub mod Distants
 pub mod Routes
 pub mod PairPlaces
 pub mod Pairs

@@ -59,3 +59,42 @@ module _ (s : List ℕ) (c : Cursor) (low high : ℕ) {T B : Type 0} (cur : T �
       step i a b t j q e =
           let g = gives i a b t j (e .0) q in
           (g .0, counts i t ∙ e .1, rw (stores i t) (copied-on size none want i (list t) (value t) (omega arith) (g .1) (e .2)))
+
+-- and where it stores one number each in two lists: so are the two lists that stand in the file by turns
+module _ (s : List ℕ) (c : Cursor) (low high : ℕ) {T : Type 0} (cur : T → Cursor) (count : T → ℕ) (first second : T → List ℕ) (a b : T → ℕ) (turn : ℕ → T → T)
+    (stores : (i : ℕ) (t : T) → (first (turn i t) ≡ set (first t) i (a t)) × (second (turn i t) ≡ set (second t) i (b t)))
+    (counts : (i : ℕ) (t : T) → count (turn i t) ≡ count t) (size : ℕ) (begun : ℕ → T)
+    (begins : (v : ℕ) → (cur (begun v) ≡ code s c low high) × (count (begun v) ≡ v) × (first (begun v) ≡ replicate size 0) × (second (begun v) ≡ replicate size 0)) where
+  pub both-give : (xs ys : List ℕ) (at n next : ℕ) → Clear c at → low ≤ n → n ≤ high → high < largest → n ≤ size → (length xs ≡ size) × (length ys ≡ size)
+      → ((k : ℕ) → n ≤ k → (getD xs k 0 ≡ 0) × (getD ys k 0 ≡ 0))
+      → ((i x y : ℕ) (t : T) → i < n → Clear (cur t) x → Stand s x (getD xs i 0 ∷ getD ys i 0 ∷ []) y
+      → Clear (cur (turn i t)) y × (a t ≡ getD xs i 0) × (b t ≡ getD ys i 0))
+      → Stand s at (listing n (λ k. getD xs k 0 ∷ getD ys k 0 ∷ [])) next
+      → Clear (cur (iter turn (code s c low high .value) (begun (code s c low high .value)))) next
+      × (count (iter turn (code s c low high .value) (begun (code s c low high .value))) ≡ n)
+      × (first (iter turn (code s c low high .value) (begun (code s c low high .value))) ≡ xs)
+      × (second (iter turn (code s c low high .value) (begun (code s c low high .value))) ≡ ys)
+  both-give xs ys at n next k l h m few long past gives p =
+      let r =
+      listing-gives s c low high turn begun Done (λ k. getD xs k 0 ∷ getD ys k 0 ∷ []) at n next k l h m
+      (λ mid d. (
+        subst (λ x. Clear x mid) (sym (begins n .0)) d,
+        begins n .1,
+        rw (begins n .2) (copied-start size 0 xs),
+        rw (begins n .3) (copied-start size 0 ys),
+      )) step p in
+      (r .0, r .1, copied-all size 0 xs n _ (long .0) (λ i l. past i l .0) (r .2), copied-all size 0 ys n _ (long .1) (λ i l. past i l .1) (r .3))
+    where
+      -- after i turns
+      Done : ℕ → ℕ → T → Type 0
+      Done i x t = Clear (cur t) x × (count t ≡ n) × Copied size 0 xs i (first t) × Copied size 0 ys i (second t)
+
+      -- one turn more
+      step : (i x y : ℕ) (t : T) → i < n → Stand s x (getD xs i 0 ∷ getD ys i 0 ∷ []) y → Done i x t → Done (suc i) y (turn i t)
+      step i x y t j q e =
+          let g = gives i x y t j (e .0) q in (
+            g .0,
+            counts i t ∙ e .1,
+            rw (stores i t .0) (copied-on size 0 xs i (first t) (a t) (omega arith) (g .1) (e .2)),
+            rw (stores i t .1) (copied-on size 0 ys i (second t) (b t) (omega arith) (g .2) (e .3)),
+          )

@@ -3,26 +3,30 @@ use Prim.Native.Nat.{ℕ}
 use mathlib.Core.Path.{_≡_, refl, sym, subst}
 use mathlib.Core.List.{List}
 use borrow.Author.Tests.{eq-eqb}
+use lib.Dec.{ltb}
 use lib.ListN.{length, length-replicate}
 use Rattle.laws.specs.Choice.{if_then_else_}
+use Rattle.laws.proofs.Choice.{if-both}
 use Rattle.laws.proofs.Arrays.{nothing-at}
 use Rattle.laws.proofs.Loops.{iter-keeps}
 use Rattle.laws.proofs.Stores.{turns-all}
 use Rattle.track.specs.declared.Counts.{Counts}
 use Rattle.track.specs.declared.Route.{Route}
 use Rattle.track.specs.Codes.{endA, innerRoute}
-use Rattle.track.specs.Sizes.{mostPoints, mostLines, mostTrainRoutes, mostListed, mostPairs}
+use Rattle.track.specs.Sizes.{mostPoints, mostLines, mostDistants, mostTrainRoutes, mostListed, mostPairs}
 use Rattle.track.specs.Objects.{noLine, noRoute, line, route}
 use Rattle.fields.specs.declared.Cursor.{Cursor}
 use Rattle.fields.specs.declared.Items.{Items}
 use Rattle.fields.specs.declared.Points.{Points}
-use Rattle.fields.specs.Fields.{code, reference}
+use Rattle.fields.specs.Fields.{code, reference, noneOrReference}
 use Rattle.fields.specs.Lists.{itemTurn, items, pointTurn, points}
 use Rattle.file_objects.specs.declared.Owned.{Owned}
 use Rattle.file_objects.specs.declared.Lines.{Lines}
+use Rattle.file_objects.specs.declared.distants.Distants.{Distants}
 use Rattle.file_objects.specs.declared.Routes.{Routes}
 use Rattle.file_objects.specs.Sections.{sectionTurn, sections, noSections}
 use Rattle.file_objects.specs.Lines.{aLine, noLines, lineTurn, linesFrom, lines}
+use Rattle.file_objects.specs.Distants.{distantsVersion, noDistants, withoutDistants, distantTurn, distantsFrom, distants}
 use Rattle.file_objects.specs.Routes.{lineAndEnd, routeHead, aRoute, noRoutes, routeTurn, routesFrom, routes}
 use Rattle.pairs.specs.declared.Pairs.{Pairs}
 use Rattle.pairs.specs.Pairs.{noPairs, aPair, pairTurn, pairsFrom, named, pairs}
@@ -61,6 +65,17 @@ module _ (s : List ℕ) (c : Cursor) where
   unfolding sections sectionTurn noSections
   sections-long objects =
       entries-long (λ (t : Owned). t .section) (λ t. reference s (t .cur) objects .value) (sectionTurn s objects) (λ i t. refl) mostPoints _ _ (length-replicate {A = ℕ} mostPoints 0)
+
+  -- the carriers of distants, and the signals that they announce
+  distants-long : (version signals : ℕ) → (length (distants s version signals c .carrier) ≡ mostDistants) × (length (distants s version signals c .announced) ≡ mostDistants)
+  unfolding distants withoutDistants distantsFrom distantTurn noDistants
+  distants-long version signals =
+      let none = length-replicate {A = ℕ} mostDistants 0 in
+      if-both (λ (t : Distants). (length (t .carrier) ≡ mostDistants) × (length (t .announced) ≡ mostDistants)) (ltb version distantsVersion) (λ t. (none, none))
+      (λ t. (
+        entries-long (λ (t : Distants). t .carrier) (λ t. noneOrReference s (t .cur) signals .value) (distantTurn s signals) (λ i t. refl) mostDistants _ _ none,
+        entries-long (λ (t : Distants). t .announced) (λ t. reference s (noneOrReference s (t .cur) signals) signals .value) (distantTurn s signals) (λ i t. refl) mostDistants _ _ none,
+      ))
 
 -- ---- lines and routes
 
@@ -137,6 +152,8 @@ whole-tables s = record {
   pointsection = sections-long s _ _;
   line = lines-long s _ _;
   lines = lines-tables s _ _;
+  carrier = distants-long s _ _ _ .0;
+  announced = distants-long s _ _ _ .1;
   route = routes-long s _ _;
   routes = routes-tables s _ _;
   conflict = pairs-long s _ _;

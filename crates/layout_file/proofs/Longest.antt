@@ -1,9 +1,9 @@
--- No file of a sound layout has more than 4,256 bytes: what the sections, the routes and the pairs of routes leave room for.
+-- No file of a sound layout has more than 4,363 bytes: what the sections, the signals, the routes and the pairs of routes leave room for.
 use Prim.Native.Nat.{ℕ, suc, _+_, _-_, _*_, _<_, _≤_}
 use mathlib.Core.Path.{_≡_, sym, _∙_}
 use mathlib.Core.Bool.{Bool, true}
 use native.Mathlib.Nat.{mul-le-mul-right}
-use native.Mathlib.Decide.{ℕ-discrete}
+use native.Mathlib.Decide.{ℕ-discrete, decLt}
 use native.Mathlib.Omega.{arith}
 use borrow.Author.Tests.{eqb-true}
 use lib.Dec.{eqb, ltb}
@@ -13,18 +13,21 @@ use Rattle.laws.specs.Totals.{total, bit, count}
 use Rattle.laws.proofs.Tests.{any-some}
 use Rattle.laws.proofs.Totals.{total-same, total-below, total-more, total-each, total-sum, bit-both, count-most, count-one, count-above, count-or, count-any}
 use Rattle.track.specs.Codes.{innerRoute}
-use Rattle.track.specs.Sizes.{mostSections, mostLines, mostBlocks, mostTrainRoutes, mostConflicts, mostListed}
+use Rattle.track.specs.Sizes.{mostSections, mostBlocks, mostDistants, mostTrainRoutes, mostConflicts, mostListed}
 use Rattle.track.specs.Blocks.{onlySection, inBlock}
 use Rattle.track.proofs.OnlySection.{only-in}
+use Rattle.file_objects.specs.Distants.{distantsVersion}
 use Rattle.layout.specs.declared.Layout.{Layout}
-use Rattle.layout.specs.Layout.{lineIn, routeIn, conflict}
+use Rattle.layout.specs.Layout.{lineIn, signalsIn, carrierOf, announcedBy, routeIn, conflict}
 use Rattle.layout.specs.Sound.{sound}
-use Rattle.layout_facts.specs.Plain.{InBlock, path, Sound}
+use Rattle.layout_facts.specs.Plain.{InBlock, path, Ranges, Sound}
+use Rattle.layout_facts.proofs.Ranges.{carrier-few}
 use Rattle.layout_facts.proofs.Sound.{sound-says}
 use Rattle.layout_file.specs.Written.{routeNumbers, pairAt, pairsOf, fileOf}
-use Rattle.layout_file.specs.Lengths.{lineSpan, routeSpan, longest}
-use Rattle.layout_file.proofs.Sizes.{size, size-two}
-use Rattle.layout_file.proofs.PartSizes.{pairAt-length, pairs-length, no-end-sized, end-sized, route-sized, lines-size, routes-size, file-size}
+use Rattle.layout_file.specs.Lengths.{lineSpan, routeSpan, headingSpan, pairsSpan, longest}
+use Rattle.layout_file.proofs.Sizes.{size, size-short, size-two}
+use Rattle.layout_file.proofs.PartSizes.{pairAt-length, pairs-length, distantPart, distantBytes, no-distants-size, distants-size, no-end-sized, end-sized, route-sized, lines-size, routes-size, file-size}
+use Rattle.layout_file.proofs.Signals.{signals-blocks, blocks-most, signals-most}
 
 -- the most bytes of a line but for its blocks, and of a route but for its path sections
 abbrev lineRest : ℕ
@@ -116,11 +119,11 @@ module _ (L : Layout) (S : Sound L) where
           omega (arith, q .overlapCount, q .pointCount, route-sized L (S .ranges) r 2 h (end-sized L (S .ranges) r h d) .bytes)
 
   -- the lines have all blocks, and each the rest of a line at most
-  lines-most : total (L .lines) (λ l. 6 + lineIn L l .points * 2 + lineIn L l .blocks) ≤ mostLines * lineRest + total (L .lines) (λ l. lineIn L l .blocks)
+  lines-most : total (L .lines) (λ l. 6 + lineIn L l .points * 2 + lineIn L l .blocks) ≤ L .lines * lineRest + total (L .lines) (λ l. lineIn L l .blocks)
   lines-most =
       let each = total-below (L .lines) (λ l. 6 + lineIn L l .points * 2 + lineIn L l .blocks) (λ l. lineRest + lineIn L l .blocks)
       (λ l h. omega (arith, S .ranges .lines l h .pointCount)) in
-      omega (arith, S .ranges .lineCount, each, total-sum (L .lines) (λ l. lineRest) (λ l. lineIn L l .blocks), total-each (L .lines) lineRest)
+      omega (arith, each, total-sum (L .lines) (λ l. lineRest) (λ l. lineIn L l .blocks), total-each (L .lines) lineRest)
 
   -- the routes, where no path has more than m sections
   routes-most : (m : ℕ) → ((r : ℕ) → r < L .routes → routeIn L r .paths ≤ m)
@@ -129,16 +132,90 @@ module _ (L : Layout) (S : Sound L) where
       let each = total-below (L .routes) (λ r. size (routeNumbers (routeIn L r))) (λ r. routeRest + m) (λ r h. omega (arith, route-most r h, few r h)) in
       omega (arith, each, total-each (L .routes) (routeRest + m), mul-le-mul-right (routeRest + m) (S .ranges .routeCount))
 
-  -- a path has no more than eight sections, and no more than all blocks leave of 64
-  file-most : length (fileOf L) ≤ longest
-  file-most =
+  -- the distants, where none has more than m bytes
+  distants-most : (m : ℕ) → ((d : ℕ) → d < L .distants → distantBytes L d ≤ m) → size (distantPart L) ≤ 1 + mostDistants * m
+  distants-most m few = one (decLt (L .version) distantsVersion)
+    where
+      one : Dec (L .version < distantsVersion) → size (distantPart L) ≤ 1 + mostDistants * m
+      one (yes h) = omega (arith, no-distants-size L h)
+      one (no h) =
+          let n = S .ranges .distantCount in
+          omega (
+            arith,
+            distants-size L (omega arith) (omega arith),
+            total-below (L .distants) (distantBytes L) (λ d. m) few,
+            total-each (L .distants) m,
+            mul-le-mul-right m n,
+          )
+
+  module _ (d : ℕ) (h : d < L .distants) where
+    -- a distant has at most two bytes for each of its numbers
+    two-and-two : distantBytes L d ≤ 4
+    unfolding distantBytes
+    two-and-two =
+        let r = S .ranges .distants d h in
+        let few = signals-most L (S .ranges) in
+        omega (arith, size-two (carrierOf L d) (omega (arith, carrier-few L d r)), size-two (announcedBy L d) (omega (arith, r .announced)))
+
+    -- of at most 128 signals the one announced has one
+    two-and-one : signalsIn L ≤ 128 → distantBytes L d ≤ 3
+    unfolding distantBytes
+    two-and-one few =
+        let r = S .ranges .distants d h in
+        omega (arith, size-two (carrierOf L d) (omega (arith, carrier-few L d r)), size-short (announcedBy L d) (omega (arith, r .announced)))
+
+    -- and of fewer the carrier too
+    one-and-one : signalsIn L < 128 → distantBytes L d ≤ 2
+    unfolding distantBytes
+    one-and-one few =
+        let r = S .ranges .distants d h in
+        omega (arith, size-short (carrierOf L d) (omega (arith, carrier-few L d r)), size-short (announcedBy L d) (omega (arith, r .announced)))
+
+  -- all blocks of all lines
+  abbrev blocks : ℕ
+  blocks = total (L .lines) (λ l. lineIn L l .blocks)
+
+  -- all parts, where no distant has more than m bytes and no path more than p sections
+  abbrev partsSpan : ℕ → ℕ → ℕ
+  partsSpan m p = headingSpan + (1 + L .lines * lineRest + blocks) + (1 + mostDistants * m) + (1 + mostTrainRoutes * (routeRest + p)) + pairsSpan
+
+  parts-most : (m p : ℕ) → ((d : ℕ) → d < L .distants → distantBytes L d ≤ m) → ((r : ℕ) → r < L .routes → routeIn L r .paths ≤ p) → length (fileOf L) ≤ partsSpan m p
+  parts-most m p small short =
       let R = S .ranges in
-      let blocks = total (L .lines) (λ l. lineIn L l .blocks) in
-      let few : blocks ≤ mostSections = omega (arith, blocks-counted, count-most mostSections ofLines) in
-      let short = routes-most mostListed (λ r h. R .routes r h .pathCount .1) in
-      let left = routes-most (mostSections - blocks) (λ r h. omega (arith, room r h)) in
       let pairs = pairs-most L (R .routeCount) in
-      omega (arith, R .pointCount, file-size L R, lines-size L R, lines-most, routes-size L R, short, left, size-two (length (pairsOf L)) (omega arith))
+      omega (
+        arith,
+        R .pointCount,
+        file-size L R,
+        lines-size L R,
+        lines-most,
+        distants-most m small,
+        routes-size L R,
+        routes-most p short,
+        size-two (length (pairsOf L)) (omega arith),
+      )
+
+  -- a path has no more than eight sections, and no more than all blocks leave of 64
+  paths-most : (m : ℕ) → ((d : ℕ) → d < L .distants → distantBytes L d ≤ m)
+      → (length (fileOf L) ≤ partsSpan m mostListed) × (length (fileOf L) ≤ partsSpan m (mostSections - blocks))
+  paths-most m small =
+      (parts-most m mostListed small (λ r h. S .ranges .routes r h .pathCount .1), parts-most m (mostSections - blocks) small (λ r h. omega (arith, room r h)))
+
+  -- a distant has four bytes only where there are more than 128 signals: seven lines have these with 56 blocks, beside which a path may have eight sections;
+  -- eight lines have them only with more blocks, and so with shorter paths
+  file-most : length (fileOf L) ≤ longest
+  file-most = by (decLt (signalsIn L) 128) (decLt 128 (signalsIn L))
+    where
+      R : Ranges L
+      R = S .ranges
+
+      few : blocks ≤ mostSections
+      few = omega (arith, blocks-counted, count-most mostSections ofLines)
+
+      by : Dec (signalsIn L < 128) → Dec (128 < signalsIn L) → length (fileOf L) ≤ longest
+      by (yes s) b = omega (arith, few, R .lineCount, paths-most 2 (λ d h. one-and-one d h s))
+      by (no s) (no b) = omega (arith, few, R .lineCount, paths-most 3 (λ d h. two-and-one d h (omega arith)))
+      by (no s) (yes b) = omega (arith, few, R .lineCount, R .signalCount, signals-blocks L R, blocks-most L R, paths-most 4 two-and-two)
 
 -- no file of a sound layout is longer than the longest
 pub longest-file : (L : Layout) → sound L ≡ true → length (fileOf L) ≤ longest

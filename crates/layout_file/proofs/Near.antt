@@ -79,6 +79,11 @@ module _ {s s′ : List ℕ} {k : ℕ} (A : Alike s s′ k) where
   unfolding reference
   reference-near c objects few = field-near c 0 objects 24 1 (λ v l. omega (arith, size-short v (omega arith)))
 
+  -- one of at most 256 has one or two
+  pub reference-two-near : (c : Cursor) (objects : ℕ) → objects ≤ 256 → c .at + 2 ≤ k → Near own c 2 (λ f. reference f c objects)
+  unfolding reference
+  reference-two-near c objects few = field-near c 0 objects 24 2 (λ v l. size-two v (omega arith))
+
   -- ---- in turns
 
   module _ {T : Type 0} (cur : T → Cursor) (turn : List ℕ → ℕ → T → T) (m : ℕ)

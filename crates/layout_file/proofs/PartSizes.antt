@@ -1,16 +1,16 @@
 -- How many bytes the parts of a layout's file have, where all its numbers are in range.
 use Prim.Native.Nat.{ℕ, _+_, _*_, _<_, _≤_}
-use mathlib.Core.Path.{_≡_, refl, _∙_}
+use mathlib.Core.Path.{_≡_, refl, ap, _∙_}
 use mathlib.Core.List.{List, [], _∷_, _++_, flatMap, flatten}
 use mathlib.Core.Logic.{⊎-elim}
 use native.Mathlib.Omega.{arith}
-use borrow.Author.Tests.{ne-eqb}
+use borrow.Author.Tests.{ne-eqb, lt-ltb, le-ltb}
 use lib.Dec.{ltb}
 use lib.ListN.{length, length-append}
 use Rattle.laws.specs.Choice.{if_then_else_}
 use Rattle.laws.specs.Tests.{_and_}
 use Rattle.laws.specs.Totals.{total, bit}
-use Rattle.laws.proofs.Choice.{if-both}
+use Rattle.laws.proofs.Choice.{if-both, chosen, passed-over}
 use Rattle.laws.proofs.Totals.{total-same, Adds, total-join, joins-agree, bit-list}
 use Rattle.numbers.specs.Form.{encode}
 use Rattle.track.specs.Codes.{endA, endB, innerRoute}
@@ -18,11 +18,12 @@ use Rattle.track.specs.Sizes.{mostSections}
 use Rattle.track.specs.Objects.{inner, entrance}
 use Rattle.track.specs.Blocks.{onlySection}
 use Rattle.track.proofs.OnlySection.{only-in}
+use Rattle.file_objects.specs.Distants.{distantsVersion}
 use Rattle.pairs.specs.declared.Pair.{Pair}
 use Rattle.layout.specs.declared.Layout.{Layout}
-use Rattle.layout.specs.Layout.{lineIn, routeIn, conflict}
+use Rattle.layout.specs.Layout.{lineIn, carrierOf, announcedBy, routeIn, conflict}
 use Rattle.layout_facts.specs.Plain.{ownSection, InBlock, innerSection, entranceSignal, linePoint, linePosition, path, overlap, routePoint, routePosition, Ranges}
-use Rattle.layout_file.specs.Written.{listing, lineNumbers, endNumbers, routeNumbers, pairAt, pairsOf, pairNumbers, parts, written, fileOf}
+use Rattle.layout_file.specs.Written.{listing, lineNumbers, distantNumbers, endNumbers, routeNumbers, pairAt, pairsOf, pairNumbers, parts, written, fileOf}
 use Rattle.layout_file.proofs.Routes.{beyond-inner}
 use Rattle.layout_file.proofs.Sizes.{size, size-none, size-with, Sized, sized-as, none-sized, short-sized, both-sized, listing-sized, items-sized, points-sized}
 
@@ -84,6 +85,30 @@ module _ (L : Layout) where
   pairs-length =
       total-join _ length-adds (L .routes) _ ∙ total-same (L .routes) _ _ (λ r h. total-join _ length-adds (L .routes) (pairAt L r))
 
+-- ---- distants
+
+module _ (L : Layout) where
+  -- their part of the file
+  abbrev pub distantPart : List ℕ
+  distantPart = distantNumbers (L .version) (L .distants) (L .carrier) (L .announced)
+
+  -- the bytes of one: of its carrier, and of the signal announced
+  unfoldable pub distantBytes : ℕ → ℕ
+  distantBytes d = length (encode (carrierOf L d)) + length (encode (announcedBy L d))
+
+  -- version 1 has none
+  pub no-distants-size : L .version < distantsVersion → size distantPart ≡ 0
+  unfolding distantNumbers
+  no-distants-size h = ap size (chosen _ _ _ (lt-ltb _ _ h)) ∙ size-none
+
+  -- from version 2 on it has all of them
+  pub distants-size : distantsVersion ≤ L .version → L .distants < 128 → size distantPart ≡ 1 + total (L .distants) distantBytes
+  unfolding distantNumbers distantBytes carrierOf announcedBy
+  distants-size h few =
+      ap size (passed-over _ _ _ (le-ltb _ _ h)) ∙ listing-sized (L .distants) _ _ few (λ d l. record {
+        bytes = omega (arith, size-with (carrierOf L d) (announcedBy L d ∷ []), size-with (announcedBy L d) [], size-none);
+      }) .bytes
+
 module _ (L : Layout) (R : Ranges L) where
   -- ---- lines
 
@@ -143,9 +168,9 @@ module _ (L : Layout) (R : Ranges L) where
   pub routes-size : size (listing (L .routes) (λ r. routeNumbers (routeIn L r))) ≡ 1 + total (L .routes) (λ r. size (routeNumbers (routeIn L r)))
   routes-size = listing-sized (L .routes) _ _ (omega (arith, R .routeCount)) (λ r h. record { bytes = refl }) .bytes
 
-  -- the file: its heading, lines, routes, and the number of conflicts before two for each
+  -- the file: its heading, lines, distants, routes, and the number of conflicts before two for each
   pub file-size : length (fileOf L)
-      ≡ 4 + L .points + size (listing (L .lines) (λ l. lineNumbers (lineIn L l))) + size (listing (L .routes) (λ r. routeNumbers (routeIn L r)))
+      ≡ 4 + L .points + size (listing (L .lines) (λ l. lineNumbers (lineIn L l))) + size (distantPart L) + size (listing (L .routes) (λ r. routeNumbers (routeIn L r)))
       + length (encode (length (pairsOf L))) + length (pairsOf L) * 2
   unfolding fileOf size written parts flatten ownSection
   file-size =
@@ -155,9 +180,10 @@ module _ (L : Layout) (R : Ranges L) where
       let pairs : Sized (length ps ∷ pairNumbers ps) (length (encode (length ps)) + length ps * 2) =
       record { bytes = omega (arith, size-with (length ps) (pairNumbers ps), pairs-size L (omega (arith, R .routeCount))) } in
       let all : Sized (written L) _ =
-      both-sized (short-sized (omega arith) (short-sized (omega arith) none-sized)) (
+      both-sized (short-sized (omega (arith, R .version .1)) (short-sized (omega arith) none-sized)) (
       both-sized (items-sized (L .points) (L .pointsection) (omega (arith, R .pointCount)) (λ i l. omega (arith, R .points i l))) (
       both-sized (short-sized (omega (arith, R .signalCount)) none-sized) (
       both-sized (rest (listing (L .lines) (λ l. lineNumbers (lineIn L l)))) (
-      both-sized (rest (listing (L .routes) (λ r. routeNumbers (routeIn L r)))) (both-sized pairs none-sized))))) in
+      both-sized (rest (distantPart L)) (
+      both-sized (rest (listing (L .routes) (λ r. routeNumbers (routeIn L r)))) (both-sized pairs none-sized)))))) in
       omega (arith, all .bytes)

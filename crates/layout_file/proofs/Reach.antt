@@ -1,27 +1,30 @@
--- How far reading goes: lines, routes, conflicts and the whole file.
-use Prim.Native.Nat.{ℕ, _+_, _≤_}
+-- How far reading goes: lines, distants, routes, conflicts and the whole file.
+use Prim.Native.Nat.{ℕ, _+_, _<_, _≤_}
 use mathlib.Core.Path.{refl}
 use mathlib.Core.List.{List}
 use native.Mathlib.Omega.{arith}
-use lib.Dec.{eqb}
+use lib.Dec.{eqb, ltb}
 use Rattle.laws.proofs.Choice.{if-both}
 use Rattle.laws.proofs.Loops.{iter-keeps}
 use Rattle.track.specs.declared.Counts.{Counts}
 use Rattle.track.specs.Codes.{innerRoute}
-use Rattle.track.specs.Sizes.{mostSections, mostPoints, mostSignals, mostLines, mostBlocks, mostTrainRoutes, mostConflicts, mostListed, mostOverlap}
+use Rattle.track.specs.Sizes.{mostSections, mostPoints, mostSignals, mostLines, mostBlocks, mostDistants, mostTrainRoutes, mostConflicts, mostListed, mostOverlap, lastVersion}
+use Rattle.track.specs.SignalNumbers.{signalCount}
 use Rattle.fields.specs.declared.Cursor.{Cursor}
-use Rattle.fields.specs.Fields.{failed, code, reference}
+use Rattle.fields.specs.Fields.{failed, code, reference, noneOrReference}
 use Rattle.fields.specs.Lists.{items, points}
 use Rattle.fields.proofs.Ranges.{code-most}
 use Rattle.file_objects.specs.declared.Owned.{Owned}
 use Rattle.file_objects.specs.declared.OneLine.{OneLine}
 use Rattle.file_objects.specs.declared.Lines.{Lines}
+use Rattle.file_objects.specs.declared.distants.Distants.{Distants}
 use Rattle.file_objects.specs.declared.End.{End}
 use Rattle.file_objects.specs.declared.Head.{Head}
 use Rattle.file_objects.specs.declared.OneRoute.{OneRoute}
 use Rattle.file_objects.specs.declared.Routes.{Routes}
 use Rattle.file_objects.specs.Sections.{sectionTurn, sections}
 use Rattle.file_objects.specs.Lines.{aLine, noLines, lineTurn, linesFrom, lines}
+use Rattle.file_objects.specs.Distants.{distantsVersion, noDistants, withoutDistants, distantTurn, distantsFrom, distants}
 use Rattle.file_objects.specs.Routes.{anEnd, lineAndEnd, routeHead, aRoute, noRoutes, routeTurn, routesFrom, routes}
 use Rattle.pairs.specs.declared.Pair.{Pair}
 use Rattle.pairs.specs.declared.PairRead.{PairRead}
@@ -31,8 +34,9 @@ use Rattle.pairs.proofs.Laws.{named-few}
 use Rattle.layout.specs.declared.file.Heading.{Heading}
 use Rattle.layout.specs.declared.file.Whole.{Whole}
 use Rattle.layout.specs.Load.{start, heading, countsOf, whole}
-use Rattle.layout_file.specs.Lengths.{lineSpan, headSpan, routeSpan, headingSpan, linesSpan, routesSpan, pairsSpan, wholeSpan}
-use Rattle.layout_file.proofs.Near.{Alike, Near, code-near, count-near, reference-near, list-near, items-near, points-near, sections-near}
+use Rattle.layout.proofs.Laws.{few-signals}
+use Rattle.layout_file.specs.Lengths.{lineSpan, headSpan, routeSpan, headingSpan, linesSpan, distantsSpan, routesSpan, pairsSpan, wholeSpan}
+use Rattle.layout_file.proofs.Near.{Alike, Near, code-near, count-near, reference-near, reference-two-near, list-near, items-near, points-near, sections-near}
 
 -- ---- no more than there may be
 
@@ -127,6 +131,29 @@ module _ {s s′ : List ℕ} {k : ℕ} (A : Alike s s′ k) where
         c 1 mostLines (λ f. code f c 0 mostLines) (λ d. record { cur = d; count = d .value; line = noLines }) (λ d. refl)
         (code-most s c 0 mostLines refl) (code-near A c 0 mostLines (omega arith) (omega arith)) h
 
+  -- ---- distants
+
+  module _ (signals : ℕ) (few : signals < 256) where
+    -- a distant
+    distant-near : (i : ℕ) (t : Distants) → t .cur .at + 4 ≤ k → Near A (λ (t : Distants). t .cur) (t .cur) 4 (λ f. distantTurn f signals i t)
+    unfolding distantTurn noneOrReference
+    distant-near i t h =
+        let a = reference-two-near A (t .cur) (signals + 1) (omega arith) (omega arith) in
+        let d = reference-two-near A (reference s (t .cur) (signals + 1)) signals (omega arith) (omega arith) in
+        record { same = rw (a .same, d .same); moved = omega arith }
+
+    -- all distants, where the version lists them
+    distants-near : (version : ℕ) (c : Cursor) → c .at + distantsSpan ≤ k → Near A (λ (t : Distants). t .cur) c distantsSpan (λ f. distants f version signals c)
+    unfolding distants withoutDistants distantsFrom
+    distants-near version c h =
+        let p = list-near A (λ (t : Distants). t .cur) (λ f. distantTurn f signals) 4 distant-near
+        c 1 mostDistants (λ f. code f c 0 mostDistants) (λ d. record { cur = d; count = d .value; carrier = noDistants; announced = noDistants }) (λ d. refl)
+        (code-most s c 0 mostDistants refl) (code-near A c 0 mostDistants (omega arith) (omega arith)) h in
+        record {
+          same = rw (p .same);
+          moved = if-both (λ (t : Distants). t .cur .at ≤ c .at + distantsSpan) (ltb version distantsVersion) (λ t. omega arith) (λ t. p .moved);
+        }
+
   -- all routes
   routes-near : (n : Counts) → Few n → (c : Cursor) → c .at + routesSpan ≤ k → Near A (λ (t : Routes). t .cur) c routesSpan (λ f. routes f n c)
   unfolding routes routesFrom routeTurn
@@ -161,8 +188,8 @@ module _ {s s′ : List ℕ} {k : ℕ} (A : Alike s s′ k) where
   heading-near : headingSpan ≤ k → Near A (λ (t : Heading). t .cur) start headingSpan heading
   unfolding heading
   heading-near h =
-      let a = code-near A start 1 1 (omega arith) (omega arith) in
-      let d : Cursor = code s start 1 1 in
+      let a = code-near A start 1 lastVersion (omega arith) (omega arith) in
+      let d : Cursor = code s start 1 lastVersion in
       let n = code-near A d 1 mostSections (omega arith) (omega arith) in
       let e : Cursor = code s d 1 mostSections in
       let m = code-most s d 1 mostSections refl in
@@ -182,9 +209,12 @@ module _ {s s′ : List ℕ} {k : ℕ} (A : Alike s s′ k) where
       let a = heading-near (omega arith) in
       let m : Counts = countsOf (heading s) 0 in
       let l = lines-near m (heading-few 0 (omega arith)) (heading s .cur) (omega arith) in
-      let d : Lines = lines s m (heading s .cur) in
-      let few = heading-few (d .count) (lines-few s m (heading s .cur)) in
-      let r = routes-near (countsOf (heading s) (d .count)) few (d .cur) (omega arith) in
-      let e : Routes = routes s (countsOf (heading s) (d .count)) (d .cur) in
+      let b : Lines = lines s m (heading s .cur) in
+      let signals : ℕ = signalCount (heading s .signals) (b .count) (b .line) in
+      let x = distants-near signals (few-signals s (heading s) m b refl refl) (heading s .version) (b .cur) (omega arith) in
+      let d : Distants = distants s (heading s .version) signals (b .cur) in
+      let few = heading-few (b .count) (lines-few s m (heading s .cur)) in
+      let r = routes-near (countsOf (heading s) (b .count)) few (d .cur) (omega arith) in
+      let e : Routes = routes s (countsOf (heading s) (b .count)) (d .cur) in
       let p = pairs-near (e .count) (e .cur) (omega arith) in
-      record { same = rw (a .same, l .same, r .same, p .same); moved = omega arith }
+      record { same = rw (a .same, l .same, x .same, r .same, p .same); moved = omega arith }

@@ -1,7 +1,7 @@
 -- A list of the file, one entry in each turn: with no fault the entries that were stored stand in the file; and entries that stand there are stored.
 use Prim.Native.Nat.{ℕ, suc, _<_, _≤_}
-use mathlib.Core.Path.{_≡_, sym, ap, _∙_}
-use mathlib.Core.List.{List}
+use mathlib.Core.Path.{_≡_, sym, ap, ap₂, _∙_}
+use mathlib.Core.List.{List, [], _∷_}
 use native.Mathlib.Nat.{not-suc-le-zero}
 use native.Mathlib.Decide.{decLt}
 use native.Mathlib.Omega.{arith}
@@ -55,6 +55,23 @@ module _ (s : List ℕ) {T B : Type 0} (cur : T → Cursor) (list : T → List B
       (λ i t l e. rw (stores i t) (length-set (list t) i (value t) ∙ e))
       (λ i t l e k h. rw (stores i t) (ap each (sym (getD-set-other (list t) i k (value t) none (λ z. let d : k ≡ i = z in omega arith)))))
       (λ i t l e. rw (stores i t, getD-set-same (list t) i (value t) none (let d : length (list t) ≡ size = e in omega arith)) (reads i t))
+
+-- so where it stores one number each in two lists and reads both, with no fault the numbers of both lists stand in the file, by turns
+module _ (s : List ℕ) {T : Type 0} (cur : T → Cursor) (first second : T → List ℕ) (a b : T → ℕ) (turn : ℕ → T → T)
+    (stores : (i : ℕ) (t : T) → (first (turn i t) ≡ set (first t) i (a t)) × (second (turn i t) ≡ set (second t) i (b t))) (size : ℕ) where
+  pub both-read : (n : ℕ) (begun : T) → (length (first begun) ≡ size) × (length (second begun) ≡ size) → n ≤ size
+      → ((i : ℕ) (t : T) → Over s cur t (a t ∷ b t ∷ []) (turn i t))
+      → Over s cur begun (join n (λ k. getD (first (iter turn n begun)) k 0 ∷ getD (second (iter turn n begun)) k 0 ∷ [])) (iter turn n begun)
+  both-read n begun long few reads =
+      turns-read s cur turn (λ t. (length (first t) ≡ size) × (length (second t) ≡ size)) (λ t k. getD (first t) k 0 ∷ getD (second t) k 0 ∷ []) n begun long
+      (λ i t l q. rw (stores i t .0, stores i t .1) (length-set (first t) i (a t) ∙ q .0, length-set (second t) i (b t) ∙ q .1))
+      (λ i t l q k h.
+      let d : k ≡ i → ⊥ = λ z. (let z′ : k ≡ i = z in omega arith) in
+      rw (stores i t .0, stores i t .1)
+      (ap₂ (λ x y. x ∷ y ∷ []) (sym (getD-set-other (first t) i k (a t) 0 d)) (sym (getD-set-other (second t) i k (b t) 0 d))))
+      (λ i t l q.
+      let here : i < size = omega arith in
+      rw (stores i t .0, stores i t .1, getD-set-same (first t) i (a t) 0 (omega (arith, q .0)), getD-set-same (second t) i (b t) 0 (omega (arith, q .1))) (reads i t))
 
 -- ---- what stands there is read
 

@@ -5,7 +5,7 @@ use lib.ListN.{length}
 use Rattle.track.specs.declared.Line.{Line}
 use Rattle.track.specs.declared.Route.{Route}
 use Rattle.track.specs.Codes.{endA, innerRoute}
-use Rattle.track.specs.Sizes.{mostPoints, mostLines, mostTrainRoutes, mostPairs, mostListed}
+use Rattle.track.specs.Sizes.{mostPoints, mostLines, mostDistants, mostTrainRoutes, mostPairs, mostListed}
 use Rattle.layout.specs.declared.Layout.{Layout}
 use Rattle.layout.specs.Layout.{lineIn, routeIn}
 use Rattle.layout_facts.specs.Loaded.{NoneTold, ZeroPast}
@@ -28,6 +28,8 @@ pub record Tables (L : Layout) : Type 0 where
   pub pointsection : length (L .pointsection) ≡ mostPoints
   pub line : length (L .line) ≡ mostLines
   pub lines : (l : ℕ) → LineTables (lineIn L l)
+  pub carrier : length (L .carrier) ≡ mostDistants
+  pub announced : length (L .announced) ≡ mostDistants
   pub route : length (L .route) ≡ mostTrainRoutes
   pub routes : (r : ℕ) → RouteTables (routeIn L r)
   pub conflict : length (L .conflict) ≡ mostPairs

@@ -1,4 +1,4 @@
--- A layout whose file is the longest: as many of each as there may be, but one block fewer in each line; and every two routes conflict.
+-- A layout whose file is the longest: as many of each as there may be, but one line fewer; and every two routes conflict.
 use Prim.Native.Nat.{ℕ, _+_, _-_, _*_, _/_, _%_}
 use mathlib.Core.List.{List}
 use lib.Dec.{eqb, ltb}
@@ -8,7 +8,8 @@ use Rattle.laws.specs.Tables.{table}
 use Rattle.track.specs.declared.Line.{Line}
 use Rattle.track.specs.declared.Route.{Route}
 use Rattle.track.specs.Codes.{left, endB, exitRoute}
-use Rattle.track.specs.Sizes.{mostSections, mostPoints, mostSignals, mostLines, mostBlocks, mostTrainRoutes, mostRoutes, mostPairs, mostListed, mostOverlap}
+use Rattle.track.specs.Sizes.{mostSections, mostPoints, mostSignals, mostLines, mostBlocks, mostDistants, mostTrainRoutes, mostRoutes, mostPairs, mostListed, mostOverlap, lastVersion}
+use Rattle.track.specs.Objects.{noLine}
 use Rattle.layout.specs.declared.Layout.{Layout}
 use Rattle.layout.specs.Layout.{noneFitted}
 
@@ -24,15 +25,15 @@ allLeft = replicate mostListed left
 abbrev inside : ℕ
 inside = mostListed
 
--- the blocks of a line: one fewer than there may be, since 64 sections have no more
-abbrev blocksEach : ℕ
-blocksEach = mostBlocks - 1
+-- the lines: one fewer than there may be, since 64 sections have no more blocks
+abbrev pub fullLines : ℕ
+fullLines = mostLines - 1
 
 -- line l, between the first and the last of the sections inside, with two signals of its own
 unfoldable pub fullLine : ℕ → Line
 fullLine l = record {
-  blocks = blocksEach;
-  block = upFrom (inside + blocksEach * l) blocksEach;
+  blocks = mostBlocks;
+  block = upFrom (inside + mostBlocks * l) mostBlocks;
   innera = 0;
   innerb = inside - 1;
   entrancea = 2 * l;
@@ -42,10 +43,14 @@ fullLine l = record {
   position = allLeft;
 }
 
+-- the last signal's number (L2): the main signals, then in each line a block signal each way between each two blocks
+abbrev pub lastSignal : ℕ
+lastSignal = mostSignals + fullLines * (2 * (mostBlocks - 1)) - 1
+
 -- every route: over all sections inside to the end B of line 0, from a signal that is no line's
 unfoldable pub fullRoute : Route
 fullRoute = record {
-  entry = 2 * mostLines;
+  entry = 2 * fullLines;
   kind = exitRoute;
   line = 0;
   end = endB;
@@ -63,15 +68,19 @@ fullRoute = record {
 unfoldable pub fullConflict : ℕ → ℕ
 fullConflict k = if eqb (k / mostRoutes) (k % mostRoutes) then 0 else 1
 
--- the layout
+-- the layout; each distant is on the last signal's mast and announces the signal before it (L2)
 unfoldable pub fullLayout : Layout
 fullLayout = record {
+  version = lastVersion;
   sections = mostSections;
   points = mostPoints;
   pointsection = replicate mostPoints 0;
   signals = mostSignals;
-  lines = mostLines;
-  line = table mostLines fullLine;
+  lines = fullLines;
+  line = table mostLines (λ l. if ltb l fullLines then fullLine l else noLine);
+  distants = mostDistants;
+  carrier = replicate mostDistants (lastSignal + 1);
+  announced = replicate mostDistants (lastSignal - 1);
   routes = mostTrainRoutes;
   route = replicate mostTrainRoutes fullRoute;
   conflict = table mostPairs fullConflict;

@@ -5,10 +5,10 @@ use mathlib.Core.List.{List}
 use lib.ListN.{length}
 use Rattle.numbers.specs.Number.{maxGroups}
 use Rattle.numbers.specs.Form.{Bytes}
-use Rattle.track.specs.Sizes.{mostPoints, mostLines, mostBlocks, mostTrainRoutes, mostConflicts, mostListed, mostOverlap}
+use Rattle.track.specs.Sizes.{mostPoints, mostLines, mostBlocks, mostDistants, mostTrainRoutes, mostConflicts, mostListed, mostOverlap}
 use Rattle.layout.specs.Load.{load}
 
--- ---- the most bytes that are read of each part: one for each number, two for the number of conflicts
+-- ---- the most bytes that are read of each part: one for each number, two for the number of conflicts and for the numbers of a distant's signals (L2)
 
 -- a list of at most so many objects; points with positions
 abbrev pub itemsSpan : ℕ → ℕ
@@ -32,9 +32,12 @@ routeSpan = headSpan + itemsSpan mostListed + itemsSpan mostOverlap + pointsSpan
 abbrev pub headingSpan : ℕ
 headingSpan = 3 + itemsSpan mostPoints
 
--- lines; routes; conflicts
+-- lines; distants (L2), since there may be more than 128 signals; routes; conflicts
 abbrev pub linesSpan : ℕ
 linesSpan = 1 + mostLines * lineSpan
+
+abbrev pub distantsSpan : ℕ
+distantsSpan = 1 + mostDistants * 4
 
 abbrev pub routesSpan : ℕ
 routesSpan = 1 + mostTrainRoutes * routeSpan
@@ -42,11 +45,11 @@ routesSpan = 1 + mostTrainRoutes * routeSpan
 abbrev pub pairsSpan : ℕ
 pairsSpan = 2 + mostConflicts * 2
 
--- the whole file: 4,264
+-- the whole file: 4,393
 abbrev pub wholeSpan : ℕ
-wholeSpan = headingSpan + linesSpan + routesSpan + pairsSpan
+wholeSpan = headingSpan + linesSpan + distantsSpan + routesSpan + pairsSpan
 
--- and the bytes of a number that begins there: in a file of at least so many bytes, 4,267, reading stops before the end
+-- and the bytes of a number that begins there: in a file of at least so many bytes, 4,396, reading stops before the end
 abbrev pub enough : ℕ
 enough = wholeSpan + maxGroups
 
@@ -56,9 +59,10 @@ buffer = 65536
 
 -- ---- the most bytes of a file that loads
 
--- all blocks and the sections of one path are different sections: beside paths of eight there are eight blocks fewer than the span has, so 4,256
+-- all blocks and the sections of one path are different sections: beside paths of eight there are eight blocks fewer than the span has. A whole line of
+-- eight is missing, and not a block of each of eight lines, since only seven lines of eight blocks have more than 128 signals (L2); so 4,363
 abbrev pub longest : ℕ
-longest = wholeSpan - mostListed
+longest = wholeSpan - lineSpan
 
 -- m is the most bytes of a file that loads: no such file has more, and one has as many
 pub record IsLongest (m : ℕ) : Type 0 where

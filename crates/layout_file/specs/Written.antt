@@ -10,6 +10,7 @@ use Rattle.numbers.specs.Form.{encode}
 use Rattle.track.specs.declared.Line.{Line}
 use Rattle.track.specs.declared.Route.{Route}
 use Rattle.track.specs.Codes.{innerRoute}
+use Rattle.file_objects.specs.Distants.{distantsVersion}
 use Rattle.pairs.specs.declared.Pair.{Pair}
 use Rattle.layout.specs.declared.Layout.{Layout}
 use Rattle.layout.specs.Layout.{lineIn, routeIn, conflict}
@@ -28,7 +29,7 @@ itemNumbers n items = listing n (λ i. getD items i 0 ∷ [])
 unfoldable pub pointNumbers : ℕ → List ℕ → List ℕ → List ℕ
 pointNumbers n points positions = listing n (λ i. getD points i 0 ∷ getD positions i 0 ∷ [])
 
--- ---- lines and routes
+-- ---- lines, distants and routes
 
 -- a line: blocks and their sections from end A to end B, inner section at A, at B, entrance signal at A, at B, points
 unfoldable pub lineNumbers : Line → List ℕ
@@ -37,6 +38,11 @@ lineNumbers a = flatten (
     ∷ (a .innera ∷ a .innerb ∷ a .entrancea ∷ a .entranceb ∷ [])
     ∷ pointNumbers (a .points) (a .point) (a .position)
     ∷ [])
+
+-- distants (L2), from version 2 on: each 0 if free-standing or the carrying signal plus 1, then the signal announced
+unfoldable pub distantNumbers : ℕ → ℕ → List ℕ → List ℕ → List ℕ
+distantNumbers version n carriers announced =
+    if ltb version distantsVersion then [] else listing n (λ d. getD carriers d 0 ∷ getD announced d 0 ∷ [])
 
 -- for kinds 1 and 2 the line and the end
 unfoldable pub endNumbers : Route → List ℕ
@@ -69,18 +75,15 @@ pairNumbers ps = flatMap (λ (p : Pair). p .first ∷ p .second ∷ []) ps
 
 -- ---- the file
 
--- the version of a layout's file: there is one, 1
-abbrev pub versionOf : Layout → ℕ
-versionOf L = 1
-
--- the parts of a file in their order: version and number of sections; points, each with its own section; number of signals; lines; routes; conflicts.
--- What a later version of the file adds is a part more, or more in one
+-- the parts of a file in their order: version and number of sections; points, each with its own section; number of signals; lines; distants (L2); routes;
+-- conflicts. What a later version of the file adds is a part more, or more in one
 unfoldable pub parts : Layout → List (List ℕ)
 parts L =
-    (versionOf L ∷ L .sections ∷ [])
+    (L .version ∷ L .sections ∷ [])
     ∷ itemNumbers (L .points) (L .pointsection)
     ∷ (L .signals ∷ [])
     ∷ listing (L .lines) (λ l. lineNumbers (lineIn L l))
+    ∷ distantNumbers (L .version) (L .distants) (L .carrier) (L .announced)
     ∷ listing (L .routes) (λ r. routeNumbers (routeIn L r))
     ∷ (length (pairsOf L) ∷ pairNumbers (pairsOf L))
     ∷ []
