@@ -1,29 +1,43 @@
--- What the signal of a number shows, as the code finds it: main signals first, then the block signals line by line.
+-- What the signal of a number shows: by the signals that stand alone; and as the code finds it, main signals first, then the block signals line by line.
 use Prim.Native.Nat.{ℕ, _+_, _-_, _<_, _≤_}
-use mathlib.Core.Path.{_≡_, refl, sym, ap, _∙_}
+use mathlib.Core.Path.{_≡_, refl, sym, ap, _∙_, fun-ext}
 use mathlib.Core.Bool.{Bool}
 use mathlib.Core.List.{List}
 use native.Mathlib.Omega.{arith}
 use native.Mathlib.Decide.{decLt}
 use borrow.Author.Needs.{needs}
+use borrow.Author.Tests.{ltb-true}
+use lib.Dec.{ltb}
 use lib.ListN.{length}
 use Rattle.laws.specs.Choice.{if_then_else_}
 use Rattle.laws.specs.Tests.{_or_}
 use Rattle.laws.specs.Tables.{read}
-use Rattle.laws.proofs.Choice.{if-lt, if-ge}
+use Rattle.laws.proofs.Choice.{if-lt, if-ge, if-both, chosen, passed-over}
 use Rattle.track.specs.declared.Line.{Line}
 use Rattle.track.specs.Codes.{aToB, bToA}
 use Rattle.track.specs.Sizes.{mostSignals}
 use Rattle.track.specs.Objects.{line}
-use Rattle.track.specs.Signal.{Signal, main, into}
-use Rattle.track.specs.SignalNumbers.{signalCount, betweenBlocks}
-use Rattle.track.proofs.SignalNumbers.{Is, number-main, number-first, number-then, count-mains, count-line}
+use Rattle.track.specs.Signal.{Signal, main, into, Stands}
+use Rattle.track.specs.SignalNumbers.{signalCount, signalOf, betweenBlocks}
+use Rattle.track.proofs.SignalNumbers.{number-stands, Is, number-main, number-first, number-then, count-mains, count-line}
 use Rattle.tables.specs.Readings.{linePlaced}
 use Rattle.tables.specs.Locks.{direction}
 use Rattle.signals.specs.Aspects.{dark}
 use Rattle.signals.specs.Signals.{enterableBy, enterable}
 use Rattle.signals.specs.BlockSignals.{blockShows, blockShownWhere}
 use Rattle.signals.specs.Shows.{showsWith, numberShows, lineSignalShown, numberShownBy}
+
+-- ---- by the signals that stand
+
+-- where two say the same of each signal that stands, each number shows the same: it is such a signal's, or dark
+pub numbers-same : (m n : ℕ) (ls : List Line) (f g : Signal → ℕ) → ((x : Signal) → Stands m n ls x → f x ≡ g x)
+    → numberShows m n ls f ≡ numberShows m n ls g
+unfolding numberShows
+numbers-same m n ls f g same =
+    fun-ext (λ k.
+    if-both (λ v. v ≡ numberShows m n ls g k) (ltb k (signalCount m n ls))
+    (λ t. same _ (number-stands m n ls k (ltb-true k _ t)) ∙ sym (chosen _ (g (signalOf m n ls k)) dark t))
+    (λ t. sym (passed-over _ (g (signalOf m n ls k)) dark t)))
 
 -- ---- a block signal of one line
 

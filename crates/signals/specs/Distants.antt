@@ -1,5 +1,7 @@
 -- What a distant shows (L2): it warns drivers of its main signal.
-use Prim.Native.Nat.{ℕ, _-_}
+use Prim.Native.Nat.{ℕ, _+_, _-_}
+use mathlib.Core.Path.{_≡_}
+use mathlib.Core.Logic.{_⊎_}
 use mathlib.Core.Bool.{Bool, not}
 use lib.Dec.{eqb}
 use Rattle.laws.specs.Choice.{if_then_else_}
@@ -22,3 +24,14 @@ carrierDarkens shown carrier = not (eqb carrier 0) and stopOrDark (shown (carrie
 -- L2: what a distant shows
 unfoldable pub distantShows : (ℕ → ℕ) → ℕ → ℕ → ℕ
 distantShows shown carrier announced = if carrierDarkens shown carrier then dark else warning (shown announced)
+
+-- ---- what that means for a driver
+
+-- a distant that shows v is never more permissive than its main signal, the one announced; on the mast of a signal at stop or dark it is dark; and it shows
+-- 23, 24, 25 or nothing (L2)
+pub record Warns (shown : ℕ → ℕ) (carrier announced v : ℕ) : Type 0 where
+  pub ofStop : v ≡ warnsOfStop → shown announced ≡ stop
+  pub ofDiverging : v ≡ warnsOfDiverging → shown announced ≡ proceedDiverging
+  pub ofProceed : v ≡ warnsOfProceed → shown announced ≡ proceed
+  pub carried : (k : ℕ) → carrier ≡ k + 1 → (shown k ≡ stop) ⊎ (shown k ≡ dark) → v ≡ dark
+  pub only : (v ≡ dark) ⊎ (v ≡ warnsOfStop) ⊎ (v ≡ warnsOfDiverging) ⊎ (v ≡ warnsOfProceed)
