@@ -29,6 +29,7 @@ pub mod SignalBytes
 pub mod Alone
 pub mod Demand3
 pub mod Exact
+pub mod Distants
 pub mod HeadsTold
 pub mod Counts
 pub mod Passing
@@ -53,4 +54,5 @@ pub mod Only
 pub mod OnlyEvents
 pub mod WrongGrants
 pub mod WrongHeads
+pub mod WrongDistants
 pub mod Sense

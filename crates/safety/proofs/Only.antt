@@ -1,7 +1,7 @@
 -- Exactness leaves no second log: after the same events, answered the same, each byte of an image that shows exactly is what the history tells, and the
 -- history tells it without the image.
 use Prim.Native.Nat.{ℕ, _<_, _≤_}
-use mathlib.Core.Path.{_≡_, refl, sym, ap, _∙_}
+use mathlib.Core.Path.{_≡_, refl, sym, ap, _∙_, fun-ext}
 use mathlib.Core.Logic.{_≢_, _⊎_, _↔_, inl, inr, ⊎-elim}
 use mathlib.Core.HLevel.{dec→stable}
 use mathlib.Core.Bool.{Bool, true, false}
@@ -15,7 +15,9 @@ use Rattle.laws.specs.Choice.{if_then_else_}
 use Rattle.laws.proofs.Tests.{and-left, and-right, or-cases}
 use Rattle.track.specs.Signal.{Signal, main, into}
 use Rattle.layout.specs.declared.Layout.{Layout}
-use Rattle.layout.specs.Layout.{lineIn}
+use Rattle.signals.specs.Shows.{numberShows}
+use Rattle.signals.specs.Distants.{distantShows}
+use Rattle.layout.specs.Layout.{lineIn, carrierOf, announcedBy}
 use Rattle.layout.specs.Sound.{sound}
 use Rattle.layout_facts.proofs.Sound.{sound-says}
 use Rattle.fitted.proofs.InUse.{in-use-sound}
@@ -127,6 +129,13 @@ module _ (L : Layout) (m : Moment) (h : History) (a b : List ℕ) (x : Exact L (
       into-same l i w (ltb-true l (L .lines) (and-left _ _ t)) (ltb-true i (lineIn L l .blocks) (and-left _ _ u))
       (⊎-elim (λ e. inl (eqb-true w 1 e)) (λ e. inr (eqb-true w 2 e)) (or-cases _ _ (and-right _ _ u))))
 
+  -- a distant shows what L2 says of the signals that show with it
+  distant-same : (d : ℕ) → d < L .distants → panel L a .distant d ≡ panel L b .distant d
+  unfolding shown
+  distant-same d c =
+      x .distants d c
+      ∙ ap (λ (f : Signal → ℕ). distantShows (numberShows (L .signals) (L .lines) (L .line) f) (carrierOf L d) (announcedBy L d)) (fun-ext signal-same) ∙ sym (y .distants d c)
+
   -- a passage looks at the newest image for the line and the far signal alone
   passage-same : (l i w : ℕ) → Passage L l i w (showing m a ∷ h) → Passage L l i w (showing m b ∷ h)
   unfolding Since shown reads gaveSection
@@ -163,6 +172,7 @@ module _ (L : Layout) (m : Moment) (h : History) (a b : List ℕ) (x : Exact L (
     points = λ p c. x .points p c ∙ sym (y .points p c);
     signals = signal-same L m h a b x y;
     routes = route-same L m h a b x y;
+    distants = distant-same L m h a b x y;
     lines = line-same L m h a b x y;
     blocks = block-same;
   }

@@ -20,7 +20,7 @@ use Rattle.interlocking.specs.declared.Answer.{Answer}
 use Rattle.interlocking.specs.Rows.{sectionRow, throwRow, setRow, secureRow, manualRow, rowWith, rowOf}
 use Rattle.interlocking.specs.Step.{rowRefusal, stepInRun, refusal, own, gives, after}
 use Rattle.signals.specs.BlockSignals.{blockShows}
-use Rattle.panel.specs.Panel.{blockBytes, lineBytes, image}
+use Rattle.panel.specs.Panel.{distantByte, blockBytes, lineBytes, image}
 use Rattle.step_facts.proofs.Step.{step-done, step-refused}
 use Rattle.step_facts.specs.Run.{Event, boxInRun}
 use Rattle.safety.specs.WrongBoxes.{answersBy, stepBy, refuses, does, readBy, moveBy, secured, endBy}
@@ -72,6 +72,6 @@ unfolding lineRelease directionsAfter directionAfter lineIn
 own-release L before s = refl
 
 -- the panel image
-pub own-image : (L : Layout) (s : State) → imageBy itsWay L s ≡ image L s
+pub own-image : (L : Layout) (s : State) → imageBy itsWay distantByte L s ≡ image L s
 unfolding image lineBytes blockBytes blockShows
 own-image L s = refl

@@ -13,8 +13,10 @@ use Rattle.laws.specs.Choice.{if_then_else_}
 use Rattle.track.specs.Codes.{neutral, aToB, bToA, openBlock, stage1, stage2}
 use Rattle.track.specs.Signal.{main, into}
 use Rattle.signals.specs.Aspects.{dark, stop}
+use Rattle.signals.specs.Shows.{numberShows}
+use Rattle.signals.specs.Distants.{distantShows}
 use Rattle.layout.specs.declared.Layout.{Layout}
-use Rattle.layout.specs.Layout.{lineIn, routeIn}
+use Rattle.layout.specs.Layout.{lineIn, routeIn, carrierOf, announcedBy}
 use Rattle.fitted.specs.InUse.{InUse}
 use Rattle.step_facts.specs.Run.{Event}
 use Rattle.panel.specs.Shown.{showsIdle, showsLocked, showsCancelling}
@@ -71,7 +73,8 @@ pub record MainSignalExact (L : Layout) (h : History) (x : ℕ) : Type 0 where
 
 -- ---- all of them
 
--- each section and point shows what it reads (section 1), and the rest is as told above
+-- each section and point shows what it reads (section 1); each distant what L2 says of the signals as they show after the same event, which `Distants` tells
+-- signal by signal; and the rest is as told above
 pub record Exact (L : Layout) (h : History) : Type 0 where
   pub sections : (g : ℕ) → g < L .sections → shown L h .section g ≡ sectionReads L g h
   pub points : (p : ℕ) → p < L .points → shown L h .point p ≡ position p h
@@ -80,6 +83,8 @@ pub record Exact (L : Layout) (h : History) : Type 0 where
   pub routes : (r : ℕ) → r < L .routes → RouteExact L h r
   pub mains : (x : ℕ) → x < L .signals → MainSignalExact L h x
   pub blockSignals : (l i w : ℕ) → l < L .lines → i < lineIn L l .blocks → (w ≡ aToB) ⊎ (w ≡ bToA) → BlockSignalExact L h l i w
+  pub distants : (d : ℕ) → d < L .distants
+      → shown L h .distant d ≡ distantShows (numberShows (L .signals) (L .lines) (L .line) (shown L h .signal)) (carrierOf L d) (announcedBy L d)
 
 -- on every layout in use, after every list of events from the cold start
 abbrev pub ShowsExactly : Type 0

@@ -24,7 +24,7 @@ use Rattle.safety.specs.History.{History, sectionReads, shown}
 use Rattle.safety.specs.Lights.{position}
 use Rattle.safety.specs.Exact.{BlockExact, LineExact, RouteExact, MainSignalExact, BlockSignalExact}
 use Rattle.safety.specs.WrongBoxes.{Box, stepBy, refuses, does, readBy, readsBy, refusesNone, waits89}
-use Rattle.safety.specs.WrongPanels.{imageBy, neverLit}
+use Rattle.safety.specs.WrongPanels.{litBy, neverLit}
 use Rattle.safety.specs.WrongRuns.{Run, readings, released, opened, letOut, gone, onT, drawnBy, broughtBack, overlapKept, wronglyEnded}
 
 -- ---- points
@@ -138,5 +138,5 @@ late aMain =
     ∷ []
 late aBlockSignal =
     -- panel: block signals are dark always
-    drawnBy (imageBy neverLit) opened
+    drawnBy (litBy neverLit) opened
     ∷ []

@@ -7,6 +7,7 @@ pub mod Secured
 pub mod Lights
 pub mod Demand3
 pub mod Exact
+pub mod Distants
 pub mod HeadsTold
 pub mod Stories
 pub mod Passing
@@ -24,3 +25,4 @@ pub mod Only
 pub mod OnlyEvents
 pub mod WrongGrants
 pub mod WrongHeads
+pub mod WrongDistants

@@ -3,7 +3,7 @@ use Prim.Native.Nat.{ℕ}
 use mathlib.Core.Bool.{Bool}
 use mathlib.Core.List.{List, [], _∷_}
 use Rattle.layout.specs.declared.Layout.{Layout}
-use Rattle.layout.specs.Rules.{rule1, rule2, rule3, rule4, rule5, rule6}
+use Rattle.layout.specs.Rules.{rule1, rule2, rule3, rule4, rule5, rule6, rule7}
 
 -- ---- they load
 
@@ -15,6 +15,19 @@ twoBlocks =
     ∷ 2
     ∷ 0 ∷ 2 ∷ 0 ∷ 0 ∷ 0 ∷ 1 ∷ 0 ∷ 0 ∷ 0
     ∷ 2 ∷ 1 ∷ 0 ∷ 1 ∷ 0 ∷ 2 ∷ 3 ∷ 4 ∷ 0 ∷ 0
+    ∷ 0
+    ∷ []
+
+-- `twoBlocks` in version 2 with six distants (L2), its route in at B diverging. Its block signals are 3, A to B, and 4, B to A; free-standing distants announce
+-- 2, 3 and 4, one on the mast of 0 announces 3, one on that of 3 announces 2, and one on that of 2 announces 3
+abbrev pub withDistants : List ℕ
+withDistants =
+    2 ∷ 5 ∷ 0 ∷ 3 ∷ 1
+    ∷ 2 ∷ 1 ∷ 2 ∷ 0 ∷ 3 ∷ 1 ∷ 2 ∷ 0
+    ∷ 6 ∷ 0 ∷ 2 ∷ 0 ∷ 3 ∷ 0 ∷ 4 ∷ 1 ∷ 3 ∷ 4 ∷ 2 ∷ 3 ∷ 3
+    ∷ 2
+    ∷ 0 ∷ 2 ∷ 0 ∷ 0 ∷ 0 ∷ 1 ∷ 0 ∷ 0 ∷ 0
+    ∷ 2 ∷ 1 ∷ 0 ∷ 1 ∷ 1 ∷ 2 ∷ 3 ∷ 4 ∷ 0 ∷ 0
     ∷ 0
     ∷ []
 
@@ -130,6 +143,10 @@ unlistedExits =
     ∷ 0
     ∷ []
 
--- which of the six rules a layout keeps
+-- rule 7 is broken: the distant of one signal stands on that signal's mast (L2)
+abbrev pub announcesItself : List ℕ
+announcesItself = 2 ∷ 1 ∷ 0 ∷ 1 ∷ 0 ∷ 1 ∷ 1 ∷ 0 ∷ 0 ∷ 0 ∷ []
+
+-- which of the seven rules a layout keeps
 abbrev pub kept : Layout → List Bool
-kept L = rule1 L ∷ rule2 L ∷ rule3 L ∷ rule4 L ∷ rule5 L ∷ rule6 L ∷ []
+kept L = rule1 L ∷ rule2 L ∷ rule3 L ∷ rule4 L ∷ rule5 L ∷ rule6 L ∷ rule7 L ∷ []

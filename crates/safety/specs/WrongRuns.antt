@@ -18,7 +18,7 @@ use Rattle.safety.specs.Broken.{Clause, apart, exits, directions, backed
 use Rattle.safety.specs.OtherLayouts.{twoBlocks, twoLines, twoExits, withOverlap, innerIsBlock, sharedBlock, sharedSecond, sharedEntrance, innerPassedBy, unlistedExits}
 use Rattle.safety.specs.WrongBoxes.{Box, refusesNone, opensFree, passesNone, takesNone, keepsStage1, countsStopped, asksNoSignal, asksNoArrival, passesFarNone, asksNoEntry, movesInNeutral, neverFalls, bringsBack, releasesAll, neverCancels, waits89, asksNoSecond, keepsOverlap, neverEnds, endsLocked, endsHeld, endsBarred, endsUnpassed, coldOpen, coldFree}
 use Rattle.safety.specs.WrongOrders.{releasesLocked, releasesTaken, securesAnew, asksNoConflict, asksLower, setsUnsecured, asksNoOverlap, throwsLocked}
-use Rattle.safety.specs.WrongPanels.{Image, imageBy, bothWays, inNeutral, allSecured}
+use Rattle.safety.specs.WrongPanels.{Image, litBy, bothWays, inNeutral, allSecured}
 
 -- A run asks soundness before its first event (`boxInRun`; step_facts proves `asked-once`: on an accepted layout it is the box). A rule is off where the
 -- layout is taken as the file tells it, whatever loading answers.
@@ -133,8 +133,8 @@ unsafe secured =
     -- set route: 9 is not asked. The line is neutral
     ∷ onT setsUnsecured (released ++ (event 4 0 0 ∷ []))
     -- panel: block signals lit both ways; lit in neutral
-    ∷ drawnBy (imageBy bothWays) opened
-    ∷ drawnBy (imageBy inNeutral) released
+    ∷ drawnBy (litBy bothWays) opened
+    ∷ drawnBy (litBy inNeutral) released
     ∷ []
 unsafe showsSecured =
     -- line release: a locked exit route is not asked. A train is let into the first of two blocks while one before it leaves the second

@@ -2,13 +2,14 @@
 use Prim.Native.Nat.{ℕ, _+_, _-_}
 use mathlib.Core.Path.{_≡_, refl, sym, ap, _∙_}
 use mathlib.Core.Bool.{Bool, true, false, not, _||_}
-use mathlib.Core.Logic.{_⊎_, inl, inr}
+use mathlib.Core.Logic.{_⊎_, inl, inr, ⊎-elim}
+use native.Mathlib.Decide.{ℕ-discrete}
 use native.Mathlib.Omega.{arith}
 use borrow.Author.Tests.{eq-eqb, ne-eqb, eqb-true}
 use lib.Dec.{eqb}
 use Rattle.laws.specs.Tests.{_and_, _or_}
 use Rattle.laws.proofs.Choice.{if-true, if-false, if-both}
-use Rattle.laws.proofs.Tests.{and-both, or-left, or-right}
+use Rattle.laws.proofs.Tests.{and-both, or-left, or-right, or-cases, fails-from}
 use Rattle.signals.specs.Aspects.{dark, stop, proceedDiverging, proceed, warnsOfStop, warnsOfDiverging, warnsOfProceed}
 use Rattle.signals.specs.Distants.{warning, stopOrDark, carrierDarkens, distantShows, Warns}
 
@@ -89,6 +90,11 @@ unfolding stopOrDark
 stop-or-dark x (inl e) = or-left _ _ (eq-eqb x stop e)
 stop-or-dark x (inr e) = or-right _ _ (eq-eqb x dark e)
 
+-- and the other way
+dark-or-stop : (x : ℕ) → stopOrDark x ≡ true → (x ≡ stop) ⊎ (x ≡ dark)
+unfolding stopOrDark
+dark-or-stop x t = ⊎-elim (λ e. inl (eqb-true x stop e)) (λ e. inr (eqb-true x dark e)) (or-cases _ _ t)
+
 module _ (shown : ℕ → ℕ) (carrier announced : ℕ) where
   -- dark, or the warning of the signal announced
   shows-tells : Tells (shown announced) (distantShows shown carrier announced)
@@ -102,6 +108,17 @@ module _ (shown : ℕ → ℕ) (carrier announced : ℕ) where
       let there : carrier ≡ 0 → ⊥ = λ z. omega arith in
       let back : carrier - 1 ≡ k = omega arith in
       sym (darkened shown carrier announced true (sym (and-both _ _ (ap not (ne-eqb carrier 0 there)) (ap (λ j. stopOrDark (shown j)) back ∙ stop-or-dark (shown k) d))) refl)
+
+  -- unless a carrier is at stop or dark it shows the warning of the signal announced: free-standing, or on the mast of another
+  pub unless-carried : ((k : ℕ) → carrier ≡ k + 1 → ¬ ((shown k ≡ stop) ⊎ (shown k ≡ dark))) → distantShows shown carrier announced ≡ warning (shown announced)
+  unfolding stopOrDark _or_
+  unless-carried lights = go (ℕ-discrete carrier 0)
+    where
+      go : Dec (carrier ≡ 0) → distantShows shown carrier announced ≡ warning (shown announced)
+      go (yes z) = sym (warned shown carrier announced false (free-standing shown carrier z) _ _ refl refl refl)
+      go (no z) =
+          let lit : stopOrDark (shown (carrier - 1)) ≡ false = fails-from _ (λ t. lights (carrier - 1) (omega arith) (dark-or-stop _ t)) in
+          sym (warned shown carrier announced false (sym (sym (carrier-asked shown carrier _ z refl) ∙ lit)) _ _ refl refl refl)
 
   -- a distant warns as a driver may trust it
   pub distant-warns : Warns shown carrier announced (distantShows shown carrier announced)

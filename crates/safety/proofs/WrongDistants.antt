@@ -1,0 +1,102 @@
+-- The panels that are wrong in distants mislead a driver, or tell him something else than L2 says, by computation; and exactness refuses each.
+use Prim.Native.Nat.{ℕ, _+_, _-_, _<_}
+use mathlib.Core.Path.{_≡_, refl, sym, _∙_}
+use mathlib.Core.Logic.{_≢_, inl, inr, ⊎-elim}
+use mathlib.Core.Bool.{Bool, true, false, not}
+use mathlib.Core.List.{List, [], _∷_}
+use native.Mathlib.Omega.{arith}
+use borrow.Author.Tests.{eqb-true, eqb-false, ltb-true, not-true}
+use lib.Dec.{eqb, ltb}
+use Rattle.laws.specs.Tests.{_and_, _or_, anyBelow}
+use Rattle.laws.proofs.Tests.{and-left, and-right, or-cases, any-some}
+use Rattle.signals.specs.Aspects.{dark, stop}
+use Rattle.signals.specs.Distants.{distantShows, Warns}
+use Rattle.signals.proofs.DistantLaws.{distant-warns}
+use Rattle.layout.specs.declared.Layout.{Layout}
+use Rattle.layout.specs.Layout.{carrierOf, announcedBy}
+use Rattle.layout_facts.specs.Plain.{CarriedBy}
+use Rattle.panel.specs.Distants.{numberShown}
+use Rattle.safety.specs.History.{History, shown}
+use Rattle.safety.specs.Exact.{Exact}
+use Rattle.safety.specs.WrongDistants.{Fault, permissive, litAtStop, unlike, Misled, layoutD, misleading}
+use Rattle.safety.proofs.Computed.{runComputed, distantsComputed}
+
+-- ---- exactness refuses what misleads
+
+module _ (L : Layout) (h : History) (X : Exact L h) where
+  -- an exact distant warns as a driver may trust it
+  warns : (d : ℕ) → d < L .distants → Warns (numberShown L (shown L h)) (carrierOf L d) (announcedBy L d) (shown L h .distant d)
+  warns d b = rw (X .distants d b) (distant-warns _ (carrierOf L d) (announcedBy L d))
+
+  -- so it misleads nobody
+  pub none-misled : (f : Fault) → Misled f L h → ⊥
+  unfolding CarriedBy
+  none-misled permissive (d, b, m) = ⊎-elim (λ p. p .1 (warns d b .ofDiverging (p .0))) (λ p. p .1 (warns d b .ofProceed (p .0))) m
+  none-misled litAtStop (d, b, k, e, c, lit) = lit (warns d b .carried k e c)
+  none-misled unlike (d, b, other) = other (X .distants d b)
+
+-- ---- tests
+
+module _ (L : Layout) (h : History) where
+  -- what shows of the signal of each number
+  abbrev numbered : ℕ → ℕ
+  numbered = numberShown L (shown L h)
+
+  -- some distant is so
+  abbrev misledTest : Fault → Bool
+  misledTest permissive =
+      anyBelow (L .distants) (λ d. (eqb (shown L h .distant d) 24 and not (eqb (numbered (announcedBy L d)) 21)) or (eqb (shown L h .distant d) 25 and not (eqb (numbered (announcedBy L d)) 22)))
+  misledTest litAtStop =
+      anyBelow (L .distants) (λ d. ltb 0 (carrierOf L d) and ((eqb (numbered (carrierOf L d - 1)) stop or eqb (numbered (carrierOf L d - 1)) dark) and not (eqb (shown L h .distant d) dark)))
+  misledTest unlike = anyBelow (L .distants) (λ d. not (eqb (shown L h .distant d) (distantShows numbered (carrierOf L d) (announcedBy L d))))
+
+  -- where the test says so
+  is-misled : (f : Fault) → misledTest f ≡ true → Misled f L h
+  unfolding CarriedBy
+  is-misled permissive t =
+      let (d, b, u) = any-some _ _ t in (
+        d,
+        b,
+        ⊎-elim (λ v. inl (eqb-true _ 24 (and-left _ _ v), eqb-false _ 21 (not-true _ (and-right _ _ v))))
+            (λ v. inr (eqb-true _ 25 (and-left _ _ v), eqb-false _ 22 (not-true _ (and-right _ _ v)))) (or-cases _ _ u),
+      )
+  is-misled litAtStop t =
+      let (d, b, u) = any-some _ _ t in
+      let some : 0 < carrierOf L d = ltb-true 0 _ (and-left _ _ u) in
+      let v = and-right _ _ u in (
+        d,
+        b,
+        carrierOf L d - 1,
+        omega arith,
+        ⊎-elim (λ w. inl (eqb-true _ stop w)) (λ w. inr (eqb-true _ dark w)) (or-cases _ _ (and-left _ _ v)),
+        eqb-false _ dark (not-true _ (and-right _ _ v)),
+      )
+  is-misled unlike t = let (d, b, u) = any-some _ _ t in (d, b, eqb-false _ _ (not-true _ u))
+
+-- ---- the runs
+
+-- what is true of each history of a list
+abbrev pub EachHistory : (History → Type 0) → List History → Type 0
+EachHistory P [] = Unit {0}
+EachHistory P (h ∷ hs) = P h × EachHistory P hs
+
+-- each passes the test
+abbrev passes : Fault → List History → Bool
+passes f [] = true
+passes f (h ∷ hs) = misledTest layoutD h f and passes f hs
+
+-- and so is as it says
+each-misled : (f : Fault) (hs : List History) → passes f hs ≡ true → EachHistory (Misled f layoutD) hs
+each-misled f [] t = tt
+each-misled f (h ∷ hs) t = (is-misled layoutD h f (and-left _ _ t), each-misled f hs (and-right _ _ t))
+
+-- computed
+tested : (f : Fault) → passes f (misleading f) ≡ true
+unfolding runComputed distantsComputed
+tested permissive = refl
+tested litAtStop = refl
+tested unlike = refl
+
+-- after each of the runs a driver is misled
+pub wrong-distants-mislead : (f : Fault) → EachHistory (Misled f layoutD) (misleading f)
+wrong-distants-mislead f = each-misled f (misleading f) (tested f)
