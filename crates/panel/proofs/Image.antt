@@ -32,7 +32,7 @@ use Rattle.interlocking.specs.declared.State.{State}
 use Rattle.panel.specs.Panel.{blocks, blockBytes, lineBytes, image}
 use Rattle.panel.specs.Panel as drawn
 use Rattle.panel.proofs.Blocks.{length-lines}
-use Rattle.panel.specs.Shown.{blockFrom, sectionShown, pointShown, signalShown, routeShown, lineShown, blockShown, panel}
+use Rattle.panel.specs.Shown.{blockFrom, sectionShown, pointShown, signalShown, routeShown, distantShown, lineShown, blockShown, panel}
 use Rattle.laws.proofs.Choice.{chosen}
 
 -- ---- lists
@@ -89,6 +89,11 @@ module _ (L : Layout) (s : State) where
   unfolding routeShown image
   shows-route r b =
       chosen _ _ _ (lt-ltb r (L .routes) b) ∙ simp (append-assoc, add-assoc, past-table) (in-table _ (λ k. drawn.routeByte (phase (s .phase) k)) _ r b)
+
+  -- a distant: what it shows
+  pub shows-distant : (d : ℕ) → d < L .distants → panel L (image L s) .distant d ≡ drawn.distantByte L s d
+  unfolding distantShown image
+  shows-distant d b = chosen _ _ _ (lt-ltb d (L .distants) b) ∙ simp (append-assoc, add-assoc, past-table) (in-table _ (drawn.distantByte L s) _ d b)
 
   -- a line: its direction
   pub shows-line : (l : ℕ) → l < L .lines → panel L (image L s) .line l ≡ direction (s .direction) l

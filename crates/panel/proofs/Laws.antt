@@ -16,9 +16,10 @@ use Rattle.signals.specs.MainSignals.{mainShows}
 use Rattle.layout.specs.declared.Layout.{Layout}
 use Rattle.interlocking.specs.declared.State.{State}
 use Rattle.panel.specs.Panel.{routeByte, lineBytes, image, panelLength}
-use Rattle.panel.specs.Writes.{Wrote, FitsTables, readingBytes, objectBytes}
+use Rattle.panel.specs.Writes.{Wrote, FitsTables, distantBy, readingBytes, objectBytes}
 use Rattle.panel.proofs.Blocks.{length-lines}
 use Rattle.panel.proofs.Writes.{wrote-then}
+use Rattle.panel.proofs.DistantLaws.{distants-by}
 
 -- ---- tables, as the code copies them
 
@@ -52,17 +53,19 @@ module _ (L : Layout) (s : State) (w : FitsTables L) where
   readings-made a b c k m p q =
       rw (← table-read (λ x. x) (L .sections) mostSections readsNone (s .section) (w .sections), ← table-read (λ x. x) (L .points) mostPoints readsNone (s .point) (w .points)) (wrote-then p q)
 
-  -- signals, routes and lines, written one after the other, are the second part
-  pub objects-made : (a b c e shown : List ℕ) (k m i j : ℕ) → shown ≡ table mostSignals (mainShows (L .routes) (L .route) (s .phase))
+  -- signals, routes, distants and lines, written one after the other, are the second part
+  pub objects-made : (a b c d e shown : List ℕ) (k m i n j : ℕ) → shown ≡ table mostSignals (mainShows (L .routes) (L .route) (s .phase))
       → Wrote a k (table (L .signals) (λ x. getD shown x 0)) b m → Wrote b m (table (L .routes) (λ r. routeByte (getD (s .phase) r 0))) c i
-      → Wrote c i (table (L .lines) (λ l. getD (s .direction) l 0)) e j → Wrote a k (objectBytes L s) e j
+      → Wrote c i (table (L .distants) (distantBy L s shown)) d n → Wrote d n (table (L .lines) (λ l. getD (s .direction) l 0)) e j
+      → Wrote a k (objectBytes L s) e j
   unfolding objectBytes
-  objects-made a b c e shown k m i j q f g h =
+  objects-made a b c d e shown k m i n j q f g t h =
       rw (
         ← table-made (L .signals) mostSignals _ shown q (w .signals),
         ← table-read routeByte (L .routes) mostRoutes idle (s .phase) (w .routes),
+        ← distants-by L s shown q (w .signals),
         ← table-read (λ x. x) (L .lines) mostLines neutral (s .direction) (w .lines),
-      ) (wrote-then (wrote-then f g) h)
+      ) (wrote-then (wrote-then (wrote-then f g) t) h)
 
 -- ---- the places after them
 
@@ -72,8 +75,8 @@ module _ (L : Layout) (s : State) {a b : List ℕ} {k m : ℕ} where
   unfolding readingBytes
   readings-next p = p .place ∙ ap (λ w. k + w) (simp (length-append, length-table))
 
-  -- after the second part: a byte for each signal, route and line
-  pub objects-next : Wrote a k (objectBytes L s) b m → m ≡ k + (L .signals + L .routes + L .lines)
+  -- after the second part: a byte for each signal, route, distant and line
+  pub objects-next : Wrote a k (objectBytes L s) b m → m ≡ k + (L .signals + L .routes + L .distants + L .lines)
   unfolding objectBytes
   objects-next p = p .place ∙ ap (λ w. k + w) (simp (length-append, length-table))
 

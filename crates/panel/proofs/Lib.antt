@@ -4,4 +4,5 @@ pub mod Laws
 pub mod Answers
 pub mod Unique
 pub mod Image
+pub mod DistantLaws
 pub mod Whole

@@ -1,5 +1,5 @@
 -- What shows leaves no byte out: two images of the layout's length that show the same are the same. Each byte is that of a section, a point, a signal, a
--- route or a line, or one of the three of a block (section 7).
+-- route, a distant or a line, or one of the three of a block (section 7).
 use Prim.Native.Nat.{ℕ, zero, suc, _+_, _-_, _*_, _/_, _%_, _<_, _≤_}
 use mathlib.Core.Path.{_≡_, refl, sym, _∙_}
 use mathlib.Core.Bool.{Bool, true}
@@ -24,12 +24,14 @@ use Rattle.panel.specs.Shown.{
   pointsFrom,
   signalsFrom,
   routesFrom,
+  distantsFrom,
   linesFrom,
   blockFrom,
   sectionShown,
   pointShown,
   signalShown,
   routeShown,
+  distantShown,
   lineShown,
   blockShown,
 }
@@ -62,31 +64,36 @@ of-block ls (suc n) k b = go (of-block ls n k) (decLt k (3 * blocks n ls))
         let few : j % 3 < 3 = mod-lt j (omega arith) in
         record { l = n; i = j / 3; w = j % 3; there = omega arith; inside = omega arith; three = few; stands = omega arith }
 
--- byte k of the image is that of a section, a point, a signal, a route, a line, or of a block
+-- byte k of the image is that of a section, a point, a signal, a route, a distant, a line, or of a block
 data OfImage (L : Layout) (k : ℕ) : Type 0 where
   ofSection : k < L .sections → OfImage L k
   ofPoint : (p : ℕ) → p < L .points → k ≡ pointsFrom L + p → OfImage L k
   ofSignal : (x : ℕ) → x < L .signals → k ≡ signalsFrom L + x → OfImage L k
   ofRoute : (r : ℕ) → r < L .routes → k ≡ routesFrom L + r → OfImage L k
+  ofDistant : (d : ℕ) → d < L .distants → k ≡ distantsFrom L + d → OfImage L k
   ofLine : (l : ℕ) → l < L .lines → k ≡ linesFrom L + l → OfImage L k
   ofBlock : (j : ℕ) → OfBlock (L .line) (L .lines) j → k ≡ linesFrom L + L .lines + j → OfImage L k
 
--- by where it stands: before the end of the sections, of the points, of the signals, of the routes, of the lines, or after all of them
+-- by where it stands: before the end of the sections, of the points, of the signals, of the routes, of the distants, of the lines, or after all of them
 of-image : (L : Layout) (k : ℕ) → k < panelLength L → OfImage L k
 unfolding panelLength
 of-image L k b = one (decLt k (L .sections))
   where
-    five : linesFrom L ≤ k → Dec (k < linesFrom L + L .lines) → OfImage L k
-    five c (yes d) = ofLine (k - linesFrom L) (omega arith) (omega arith)
-    five c (no d) = let j : ℕ = k - (linesFrom L + L .lines) in ofBlock j (of-block (L .line) (L .lines) j (omega arith)) (omega arith)
+    six : linesFrom L ≤ k → Dec (k < linesFrom L + L .lines) → OfImage L k
+    six c (yes d) = ofLine (k - linesFrom L) (omega arith) (omega arith)
+    six c (no d) = let j : ℕ = k - (linesFrom L + L .lines) in ofBlock j (of-block (L .line) (L .lines) j (omega arith)) (omega arith)
 
-    four : routesFrom L ≤ k → Dec (k < linesFrom L) → OfImage L k
+    five : distantsFrom L ≤ k → Dec (k < linesFrom L) → OfImage L k
+    five c (yes d) = ofDistant (k - distantsFrom L) (omega arith) (omega arith)
+    five c (no d) = six (omega arith) (decLt k (linesFrom L + L .lines))
+
+    four : routesFrom L ≤ k → Dec (k < distantsFrom L) → OfImage L k
     four c (yes d) = ofRoute (k - routesFrom L) (omega arith) (omega arith)
-    four c (no d) = five (omega arith) (decLt k (linesFrom L + L .lines))
+    four c (no d) = five (omega arith) (decLt k (linesFrom L))
 
     three : signalsFrom L ≤ k → Dec (k < routesFrom L) → OfImage L k
     three c (yes d) = ofSignal (k - signalsFrom L) (omega arith) (omega arith)
-    three c (no d) = four (omega arith) (decLt k (linesFrom L))
+    three c (no d) = four (omega arith) (decLt k (distantsFrom L))
 
     two : pointsFrom L ≤ k → Dec (k < signalsFrom L) → OfImage L k
     two c (yes d) = ofPoint (k - pointsFrom L) (omega arith) (omega arith)
@@ -104,6 +111,7 @@ pub record ShowSame (L : Layout) (a b : List ℕ) : Type 0 where
   pub points : (p : ℕ) → p < L .points → panel L a .point p ≡ panel L b .point p
   pub signals : (x : Signal) → panel L a .signal x ≡ panel L b .signal x
   pub routes : (r : ℕ) → r < L .routes → panel L a .route r ≡ panel L b .route r
+  pub distants : (d : ℕ) → d < L .distants → panel L a .distant d ≡ panel L b .distant d
   pub lines : (l : ℕ) → panel L a .line l ≡ panel L b .line l
   pub blocks : (l i : ℕ) → l < L .lines → i < lineIn L l .blocks → panel L a .block l i ≡ panel L b .block l i
 
@@ -132,11 +140,12 @@ module _ (L : Layout) (a b : List ℕ) (same : ShowSame L a b) where
 
   -- any byte, by what it is of
   byte-same : (k : ℕ) → OfImage L k → getD a k 0 ≡ getD b k 0
-  unfolding sectionShown pointShown signalShown routeShown lineShown lineIn
+  unfolding sectionShown pointShown signalShown routeShown distantShown lineShown lineIn
   byte-same k (ofSection c) = under _ _ _ _ (lt-ltb k (L .sections) c) (same .sections k c)
   byte-same k (ofPoint p c q) = rw q (under _ _ _ _ (lt-ltb p (L .points) c) (same .points p c))
   byte-same k (ofSignal x c q) = rw q (under _ _ _ _ (lt-ltb x (L .signals) c) (same .signals (main x)))
   byte-same k (ofRoute r c q) = rw q (under _ _ _ _ (lt-ltb r (L .routes) c) (same .routes r c))
+  byte-same k (ofDistant d c q) = rw q (under _ _ _ _ (lt-ltb d (L .distants) c) (same .distants d c))
   byte-same k (ofLine l c q) = rw q (under _ _ _ _ (lt-ltb l (L .lines) c) (same .lines l))
   byte-same k (ofBlock j x q) =
       let at : k ≡ blockFrom L (x .l) (x .i) + x .w = omega (arith, x .stands) in

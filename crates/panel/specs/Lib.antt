@@ -1,3 +1,4 @@
 pub mod Panel
 pub mod Writes
 pub mod Shown
+pub mod Distants

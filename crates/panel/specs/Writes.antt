@@ -14,7 +14,10 @@ use Rattle.tables.specs.Blocks.{place}
 use Rattle.tables.specs.Locks.{direction, phase}
 use Rattle.signals.specs.MainSignals.{mainShows}
 use Rattle.signals.specs.BlockSignals.{blockShownWhere}
+use Rattle.signals.specs.Shows.{numberShownBy}
+use Rattle.signals.specs.Distants.{distantShows}
 use Rattle.layout.specs.declared.Layout.{Layout}
+use Rattle.layout.specs.Layout.{carrierOf, announcedBy}
 use Rattle.interlocking.specs.declared.State.{State}
 use Rattle.panel.specs.Panel.{routeByte, distantByte}
 
@@ -34,6 +37,11 @@ blockBy stages bars n way placed l i =
 -- the bytes of line l, which is b
 unfoldable pub lineBy : Line → List ℕ → List ℕ → List ℕ → List ℕ → ℕ → List ℕ
 lineBy b directions points stages bars l = join (b .blocks) (blockBy stages bars (b .blocks) (direction directions l) (linePlaced points b) l)
+
+-- distant d, by the table of what each main signal shows
+unfoldable pub distantBy : Layout → State → List ℕ → ℕ → ℕ
+distantBy L s mains d =
+    distantShows (numberShownBy (L .signals) (L .lines) (L .line) mains (s .direction) (s .point) (s .stage) (s .bar)) (carrierOf L d) (announcedBy L d)
 
 -- section and point readings
 unfoldable pub readingBytes : Layout → State → List ℕ

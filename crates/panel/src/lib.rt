@@ -1,4 +1,5 @@
 // The panel image into a lent buffer (section 7).
+mod distants;
 mod lines;
 mod objects;
 
@@ -6,6 +7,7 @@ use interlocking::Core;
 use interlocking::State;
 use interlocking::parts::core_of;
 use layout::Layout;
+use track::sizes::MOST_DISTANTS;
 use track::sizes::MOST_LINES;
 use track::sizes::MOST_POINTS;
 use track::sizes::MOST_SECTIONS;
@@ -36,7 +38,8 @@ fn panel_length(l: Layout) -> usize
     let ls = l.line;
     let blocks = lines::count_blocks(l.lines, ls);
     let readings = l.sections as usize + l.points as usize;
-    readings + l.signals as usize + l.routes as usize + l.lines as usize + 3 * blocks
+    let objects = l.signals as usize + l.routes as usize + l.distants as usize + l.lines as usize;
+    readings + objects + 3 * blocks
 }
 
 // The image, over the first bytes of the buffer.
@@ -103,8 +106,9 @@ pub fn panel(state: State, layout: Layout, buffer: &mut [u8]) -> Drawn
 fn is_drawable(l: Layout) -> bool
     ensures { λ r. ⌜ r ≡ panelAskedInRun l ⌝ }
 {
-    let ways = (l.routes <= MOST_TRAIN_ROUTES) & ((l.lines <= MOST_LINES) & (l.lacking == 0));
-    let objects = (l.points <= MOST_POINTS) & ((l.signals <= MOST_SIGNALS) & ways);
+    let lines = (l.distants <= MOST_DISTANTS) & ((l.lines <= MOST_LINES) & (l.lacking == 0));
+    let ways = (l.signals <= MOST_SIGNALS) & ((l.routes <= MOST_TRAIN_ROUTES) & lines);
+    let objects = (l.points <= MOST_POINTS) & ways;
     (1 <= l.sections) & (l.sections <= MOST_SECTIONS) & objects
 }
 

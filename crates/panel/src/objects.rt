@@ -1,4 +1,5 @@
-// The bytes of sections, points, signals, routes and lines.
+// The bytes of sections, points, signals, routes and lines; those of distants stand in distants.rt.
+use crate::distants::put_distants;
 use interlocking::Core;
 use layout::Layout;
 use track::codes::CANCELLING;
@@ -65,14 +66,15 @@ pub fn put_readings(l: Layout, s: Core, buffer: &mut [u8]) -> usize
     copy(&s.point, l.points, buffer, next)
 }
 
-// The bytes of signals, routes and lines, over the buffer from a place on; the place after them.
+// The bytes of signals, routes, distants and lines, over the buffer from a place on; the place after them.
 pub fn put_objects(l: Layout, s: Core, buffer: &mut [u8], at: usize) -> usize
-    requires { ⌜ FitsTables l × (at + (l .signals + l .routes + l .lines) ≤ length (now buffer)) ⌝ }
+    requires { ⌜ FitsTables l × (at + (l .signals + l .routes + l .distants + l .lines) ≤ length (now buffer)) ⌝ }
     ensures { λ r. ⌜ Wrote (now (buffer .entry)) at (objectBytes l (bare s)) (now (buffer .exit)) r ⌝ }
 {
     let rs = l.route;
     let shown = signals::main_shown(l.routes, rs, &s.phase);
     let routes = copy(&shown, l.signals, buffer, at);
-    let lines = put_routes(&s.phase, l.routes, buffer, routes);
+    let distants = put_routes(&s.phase, l.routes, buffer, routes);
+    let lines = put_distants(l, s, &shown, buffer, distants);
     copy(&s.direction, l.lines, buffer, lines)
 }

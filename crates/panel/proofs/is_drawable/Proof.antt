@@ -1,4 +1,4 @@
--- The seven tests, put together as the definition has them.
+-- The eight tests, put together as the definition has them.
 use mathlib.Core.Path.{refl}
 use Rattle.laws.specs.Tests.{_and_, every}
 use Rattle.track.specs.Lists.{between}

@@ -7,16 +7,16 @@ use Rattle.panel.proofs.panel_length.Tie as tie
 
 -- three for each block fit
 mul-result : tie.Need-mul-result
-mul-result c = record { fits = omega (arith, c .before .before .before .before .before .count-blocks .ensures .1) }
+mul-result c = record { fits = omega (arith, c .before .before .before .before .before .before .count-blocks .ensures .1) }
 
 -- so does the whole sum
-add-result-4 : tie.Need-add-result-4
-add-result-4 c = record { fits = omega (arith, c .before .before .before .before .before .count-blocks .ensures .1) }
+add-result-2 : tie.Need-add-result-2
+add-result-2 c = record { fits = omega (arith, c .before .before .before .before .before .before .count-blocks .ensures .1) }
 
 -- the sum is the length
 returns : tie.Need-returns
 unfolding panelLength
-returns c = omega (arith, c .before .before .before .before .before .count-blocks .ensures .0)
+returns c = omega (arith, c .before .before .before .before .before .before .count-blocks .ensures .0)
 
 pub panel-length-spec : {M : Type 1} → statement M
-panel-length-spec = tie.close (tie.spec (λ c κs. search needs) (λ c. search needs) (λ c. search needs) (λ c. search needs) (λ c. search needs) (λ c. search needs) (λ c. search needs) (λ c. search needs) (λ c. search needs) (λ c. search needs) mul-result add-result-4 returns)
+panel-length-spec = tie.close (tie.spec (λ c κs. search needs) (λ c. search needs) (λ c. search needs) (λ c. search needs) (λ c. search needs) (λ c. search needs) (λ c. search needs) (λ c. search needs) (λ c. search needs) (λ c. search needs) (λ c. search needs) (λ c. search needs) mul-result add-result-2 returns)
