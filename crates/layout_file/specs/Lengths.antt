@@ -60,7 +60,7 @@ buffer = 65536
 -- ---- the most bytes of a file that loads
 
 -- all blocks and the sections of one path are different sections: beside paths of eight there are eight blocks fewer than the span has. A whole line of
--- eight is missing, and not a block of each of eight lines, since only seven lines of eight blocks have more than 128 signals (L2); so 4,363
+-- eight is missing, and not a block of each line, since 56 blocks in seven lines have more than 128 signals, and in eight lines not (L2); so 4,363
 abbrev pub longest : ℕ
 longest = wholeSpan - lineSpan
 
