@@ -8,7 +8,7 @@ use Rattle.sets.specs.Sets.{holds, joined, mergedSet, addEntry, setOf}
 use Rattle.tables.specs.Readings.{recorded, given, reading, blockGiven, blockReading, pointReading, allFree, inPosition, linePlaced, routePlaced}
 use Rattle.track.specs.Objects.{nearest}
 use Rattle.track.specs.Signal.{hasSignal}
-use Rattle.track.specs.SignalNumbers.{lineSignals, blockSignals, allSignals, signalCount, signalOf, numberOf}
+use Rattle.track.specs.SignalNumbers.{lineSignals, blockSignals, allSignals, signalCount, signalOf}
 use Rattle.track.specs.Blocks.{inBlock, facing, blockDetail, lineSections}
 use Rattle.tables.specs.Blocks.{place, isOpen, unbarred}
 use Rattle.signals.specs.Signals.{enterableBy, enterable, letsOut, clear, fallen, routeProceeds, mainProceeds, blockProceeds}
@@ -20,6 +20,9 @@ use Rattle.passage.specs.Passage.{ownStage, departure, arrival, beyond, section
 use Rattle.line_block.specs.FarSections.{drops, farMoved, farStageAt, farStages}
 use Rattle.line_block.specs.LineRelease.{lastBlock, passable, wasInStage2, endsBy, directionAfter, directionsAfter}
 use Rattle.release.specs.Release.{watchedSection, watchedBlock, exitPair, pathPair, watchedPair, stepsAfter, toVacate, endReading, vacated, secondsAfter, goes, lockingAfter}
+use Rattle.fields.specs.Fields.{noneOrReference}
+use Rattle.file_objects.specs.Distants.{noDistants, distantTurn, distantsFrom}
+use Rattle.rules.specs.Rules.{announcesCarrier}
 use Rattle.layout.specs.Layout.{carrierOf, announcedBy, isFitted}
 use Rattle.layout_facts.specs.Plain.{innerSection, entranceSignal, nearestBlock, path, overlap, routePoint, routePosition, linePoint, linePosition}
 use Rattle.layout_facts.specs.Plain as plain
@@ -75,8 +78,8 @@ runComputed = 0
 
 -- whoever unfolds this besides unfolds all that distants are made of (L2)
 unfoldable pub distantsComputed : ℕ
-unfolding lineSignals blockSignals allSignals signalCount signalOf numberOf numberShows warning stopOrDark carrierDarkens distantShows
-    carrierOf announcedBy signalByte distantByte
+unfolding noneOrReference noDistants distantTurn distantsFrom announcesCarrier carrierOf announcedBy lineSignals blockSignals allSignals signalCount signalOf
+    numberShows warning stopOrDark carrierDarkens distantShows signalByte distantByte
 distantsComputed = 0
 
 -- whoever unfolds this besides unfolds all that fitted sections, heads and the logs of them are made of (L1)

@@ -6,6 +6,7 @@ use mathlib.Core.Bool.{Bool, true, false}
 use native.Mathlib.Decide.{ℕ-discrete}
 use native.Mathlib.Omega.{arith}
 use lib.Dec.{eqb}
+use Rattle.laws.specs.Choice.{if_then_else_}
 use Rattle.laws.proofs.Choice.{if-lt}
 use Rattle.track.specs.Signal.{Signal, Stands}
 use Rattle.track.specs.SignalNumbers.{signalCount, signalOf, numberOf}
@@ -63,7 +64,7 @@ module _ (L : Layout) (h : History) where
 
     -- of the signal that it announces
     tells-of : (x : Signal) → Announces L d x → TellsOf L h d x
-    unfolding CarriedBy warning
+    unfolding CarriedBy warning if_then_else_
     tells-of x n =
         let same : numbered (announcedBy L d) ≡ shown L h .signal x = number-shows x (announcedBy L d) n in
         record {

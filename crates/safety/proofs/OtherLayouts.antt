@@ -19,12 +19,12 @@ use Rattle.safety.specs.OtherLayouts.{
   announcesItself,
   kept,
 }
-use Rattle.safety.proofs.Computed.{runComputed}
+use Rattle.safety.proofs.Computed.{runComputed, distantsComputed}
 
 -- they are accepted
 pub others-load : (load twoBlocks .number ≡ 0) × (load twoLines .number ≡ 0) × (load twoExits .number ≡ 0) × (load withOverlap .number ≡ 0)
     × (load withLinePoint .number ≡ 0) × (load withDistants .number ≡ 0)
-unfolding runComputed
+unfolding runComputed distantsComputed
 others-load = (refl, refl, refl, refl, refl, refl)
 
 -- these break rule 1 and keep the rest
@@ -51,11 +51,11 @@ rule-6-off = refl
 
 -- this one rule 7
 pub rule-7-off : kept (whole announcesItself .layout) ≡ true ∷ true ∷ true ∷ true ∷ true ∷ true ∷ false ∷ []
-unfolding runComputed
+unfolding runComputed distantsComputed
 rule-7-off = refl
 
 -- for nothing else are they refused: 25 comes after all other faults
 pub only-by-rules : (load innerIsBlock .number ≡ 25) × (load sharedBlock .number ≡ 25) × (load sharedSecond .number ≡ 25) × (load sharedEntrance .number ≡ 25)
     × (load innerPassedBy .number ≡ 25) × (load unlistedExits .number ≡ 25) × (load announcesItself .number ≡ 25)
-unfolding runComputed
+unfolding runComputed distantsComputed
 only-by-rules = (refl, refl, refl, refl, refl, refl, refl)
