@@ -139,7 +139,7 @@ fn changed_distants(given: Layout, c: Change) -> Layout {
     t
 }
 
-// A layout with a point's section, a conflict or the heads of a section changed.
+// A layout with a point's section or a conflict changed.
 fn changed_tables(given: Layout, c: Change) -> Layout {
     let mut t = given;
     if c.field == 3 {
@@ -152,6 +152,12 @@ fn changed_tables(given: Layout, c: Change) -> Layout {
         put(&mut xs, c.place, c.byte);
         t.conflict = xs;
     }
+    t
+}
+
+// A layout with the heads of a section changed.
+fn changed_fitted(given: Layout, c: Change) -> Layout {
+    let mut t = given;
     if c.field == 13 {
         let mut xs = given.fitted;
         put(&mut xs, c.place, c.byte);
@@ -191,7 +197,8 @@ fn changed_plan(plan: Layout, c: Change) -> Layout {
     if c.record == 0 {
         let a = changed_counts(plan, c);
         let b = changed_distants(a, c);
-        return changed_tables(b, c);
+        let d = changed_tables(b, c);
+        return changed_fitted(d, c);
     }
     if c.record == 2 {
         return changed_at_line(plan, c);
