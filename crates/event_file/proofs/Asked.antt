@@ -41,7 +41,7 @@ module _ (L : Layout) (d : L .lacking ≡ 0 → ⊥) where
   -- an event finds the layout unsound, whatever the state
   lacking-unsound : (s : State) → sound L and inRange s ≡ false
   unfolding sound fits _and_
-  lacking-unsound s = ap (λ t. t and inRange s) (fails-from (sound L) (λ e. d (eqb-true _ 0 (every-at _ (every-at _ e 0) 9))))
+  lacking-unsound s = ap (λ t. t and inRange s) (fails-from (sound L) (λ e. d (eqb-true _ 0 (every-at _ (every-at _ e 0) 12))))
 
   -- a run finds it so for its steps
   lacking-asked : askedInRun L ≡ false
@@ -51,7 +51,7 @@ module _ (L : Layout) (d : L .lacking ≡ 0 → ⊥) where
   -- and for its panels
   lacking-panel : panelAskedInRun L ≡ false
   unfolding panelAskedInRun
-  lacking-panel = fails-from _ (λ e. d (eqb-true _ 0 (every-at _ e 5)))
+  lacking-panel = fails-from _ (λ e. d (eqb-true _ 0 (every-at _ e 6)))
 
   -- so all find it unsound
   lacking-once : AskedOnce L

@@ -1,4 +1,4 @@
--- The panel of a sound layout has at most 376 bytes, so a line with the panel shows all of it.
+-- The panel of a sound layout has at most 408 bytes, so a line with the panel shows all of it.
 use Prim.Native.Nat.{ℕ, zero, suc, _*_, _≤_}
 use mathlib.Core.Path.{_≡_, refl, sym, ap}
 use mathlib.Core.Bool.{true}
@@ -29,13 +29,13 @@ module _ (L : Layout) (w : Ranges L) where
   blocks-most zero h = omega arith
   blocks-most (suc n) h = let before = blocks-most n (omega arith) in let here = w .lines n h .blockCount in omega arith
 
-  -- 64 sections, 32 points, 32 signals, 48 routes, 8 lines, and three bytes for each of 64 blocks
-  length-most : panelLength L ≤ 376
+  -- 64 sections, 32 points, 32 signals, 48 routes, 32 distants (L2), 8 lines, and three bytes for each of 64 blocks
+  length-most : panelLength L ≤ 408
   unfolding panelLength
   length-most =
       let most = blocks-most (L .lines) (omega arith) in
       let lines = w .lineCount in
-      omega (arith, w .sectionCount .1, w .pointCount, w .signalCount, w .routeCount)
+      omega (arith, w .sectionCount .1, w .pointCount, w .signalCount, w .routeCount, w .distantCount)
 
 module _ (L : Layout) (s : State) (h : sound L ≡ true) (e : inRange s ≡ true) where
   -- what a run shows is what the panel shows
@@ -43,8 +43,8 @@ module _ (L : Layout) (s : State) (h : sound L ≡ true) (e : inRange s ≡ true
   unfolding shownInRun shown
   shown-same = ap (λ (d : Drawn). shownBy d (image L s)) (run-answer-same L s h e 512)
 
-  -- 376 bytes are enough, so the answer is 0 with the image's length
-  pub drawn-whole : (room : ℕ) → 376 ≤ room → record { number = 0; length = length (image L s) } ≡ answer L s room
+  -- 408 bytes are enough, so the answer is 0 with the image's length
+  pub drawn-whole : (room : ℕ) → 408 ≤ room → record { number = 0; length = length (image L s) } ≡ answer L s room
   unfolding answer answerWhere _and_
   drawn-whole room enough =
       if-false _ _ _ _ (rw (h, e)) (if-ge room (length (image L s)) _ _ _ (omega (arith, length-image L s, length-most L (sound-says L h .ranges))) refl)
