@@ -81,7 +81,7 @@ module _ (buffer : List ℕ) where
 
   -- ---- on a sound layout the log is the history of the run
 
-  module _ (enough : 376 ≤ length buffer) where
+  module _ (enough : 408 ≤ length buffer) where
     -- the image that is drawn then is the state's, whole
     drawn-then : (L : Layout) (s : State) → sound L ≡ true → inRange s ≡ true → drawnThen buffer (records L s) ≡ image L s
     unfolding drawnThen tells ofPanel drawn drawnWhere answer if_then_else_

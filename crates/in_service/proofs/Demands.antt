@@ -110,6 +110,7 @@ module _ (ns : List ℕ) where
     routes = λ r b. absurd (omega arith);
     mains = λ x b. absurd (omega arith);
     blockSignals = λ l i w b. absurd (omega arith);
+    distants = λ d b. absurd (omega arith);
   }
 
   -- nothing is given

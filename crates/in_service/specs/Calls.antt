@@ -43,6 +43,6 @@ pub record InService (buffer : List ℕ) (cs : List Call) : Type 0 where
   pub now : InUse (recordsAfter cs .layout) → drawnThen buffer (recordsAfter cs) ≡ lastImage (recordsAfter cs .layout) (logOf buffer cs)
   pub unserved : Lacking cs → Throughout Unserved (logOf buffer cs) × (drawnThen buffer (recordsAfter cs) ≡ [])
 
--- after any calls, with or without a layout, whatever buffer is lent for the images that has room for the longest, 376 bytes
+-- after any calls, with or without a layout, whatever buffer is lent for the images that has room for the longest, 408 bytes
 abbrev pub EveryCall : Type 0
-EveryCall = (buffer : List ℕ) → 376 ≤ length buffer → (cs : List Call) → InService buffer cs
+EveryCall = (buffer : List ℕ) → 408 ≤ length buffer → (cs : List Call) → InService buffer cs
