@@ -13,6 +13,11 @@ enum { PAGE = 65536, STACK = 49152, UNTOUCHED = 0xEE };
 static const uint8_t branch_t[] = {1, 4, 1, 2, 4, 1, 1, 1, 0, 2, 1, 2, 0, 3, 0, 2, 0, 0, 0, 1, 0, 0, 0, 2, 1,
                                    0, 1, 0, 2, 2, 3, 0, 1, 0, 1, 3, 2, 0, 1, 0, 1, 2, 0, 1, 0, 1, 1, 1, 2};
 
+/* branches/two-blocks.layout: four main and two block signals, and from byte 14 on a list of six distants (request L2). */
+static const uint8_t two_blocks[] = {2, 6, 1, 4, 4, 1, 2, 2, 3, 1, 4, 1, 2, 0, 6, 0, 1, 0, 2, 1, 4, 5, 2, 0, 5, 6, 1, 4, 0, 2, 0, 0, 0, 1, 1, 0, 0, 1,
+                                     1, 0, 0, 0, 2, 1, 0, 0, 0, 2, 1, 0, 1, 1, 2, 4, 5, 0, 1, 0, 2, 3, 2, 0, 1, 1, 1, 4, 0, 1, 0, 2, 2, 0, 1, 2, 3};
+enum { LIST = 14, AFTER_LIST = 27 };
+
 /* So many bytes, the last right before a page that may not be touched; what stands before them is UNTOUCHED. */
 static uint8_t *before_a_wall(size_t count) {
     uint8_t *pages = mmap(NULL, 2 * PAGE, PROT_READ | PROT_WRITE, MAP_PRIVATE | MAP_ANONYMOUS, -1, 0);
@@ -78,23 +83,55 @@ static struct hiruketawha_load_reply told(const uint8_t *bytes, size_t length) {
     return reply;
 }
 
-/* Cut files, each beginning of branch T; none at all; one with a byte too many; one of another version. P8 is the cut at 48. */
-static void test_files(void) {
-    for (size_t length = 0; length < sizeof branch_t; length++) {
+/* Each beginning of a file. */
+static void cut(const uint8_t *bytes, size_t whole) {
+    for (size_t length = 0; length < whole; length++) {
         uint8_t *file = before_a_wall(length);
-        memcpy(file, branch_t, length);
+        memcpy(file, bytes, length);
         refused(file, length, HIRUKETAWHA_FILE_ENDS, length);
+        EXPECT(munmap(file + length - PAGE, 2 * PAGE) == 0);
     }
+}
+
+/* Cut files; none at all; one with a byte too many; one of a version that there is not. P8 is the cut of branch T at 48. */
+static void test_files(void) {
+    cut(branch_t, sizeof branch_t);
+    cut(two_blocks, sizeof two_blocks);
     refused(NULL, 0, HIRUKETAWHA_FILE_ENDS, 0);
     uint8_t *file = before_a_wall(sizeof branch_t + 1);
     memcpy(file, branch_t, sizeof branch_t);
     file[sizeof branch_t] = 0;
     refused(file, sizeof branch_t + 1, HIRUKETAWHA_BYTES_LEFT, sizeof branch_t);
-    file[0] = 2;
+    file[0] = 3;
     refused(file, sizeof branch_t, HIRUKETAWHA_OUT_OF_RANGE, 0);
     uint8_t *without_end = before_a_wall(3);
     memset(without_end, 0xFF, 3);
     refused(without_end, 3, HIRUKETAWHA_BAD_NUMBER, 0);
+}
+
+/* The line of two blocks with another list of distants: a count, and the same entry so many times. */
+static uint8_t listed[256];
+
+static size_t relisted(int count, uint8_t carrier, uint8_t announced) {
+    size_t at = LIST;
+    memcpy(listed, two_blocks, LIST);
+    listed[at++] = count;
+    for (int i = 0; i < count; i++) {
+        listed[at++] = carrier;
+        listed[at++] = announced;
+    }
+    memcpy(listed + at, two_blocks + AFTER_LIST, sizeof two_blocks - AFTER_LIST);
+    return at + sizeof two_blocks - AFTER_LIST;
+}
+
+/* Lists of distants: too long, of and on signals that there are not, rule 7. */
+static void test_lists(void) {
+    refused(listed, relisted(33, 0, 1), HIRUKETAWHA_OUT_OF_RANGE, LIST);
+    refused(listed, relisted(1, 7, 1), HIRUKETAWHA_NO_REFERENCE, LIST + 1);
+    refused(listed, relisted(1, 127, 1), HIRUKETAWHA_NO_REFERENCE, LIST + 1);
+    refused(listed, relisted(32, 0, 6), HIRUKETAWHA_NO_REFERENCE, LIST + 2);
+    refused(listed, relisted(1, 0, 127), HIRUKETAWHA_NO_REFERENCE, LIST + 2);
+    for (int signal = 0; signal < 6; signal++) refused(listed, relisted(32, signal + 1, signal), HIRUKETAWHA_RULE_BROKEN, 7);
 }
 
 /* An event: one of its numbers; a refusal leaves the state as it was; the layout stays. */
@@ -167,6 +204,25 @@ static void test_buffers(void) {
     }
     struct hiruketawha_drawn drawn = hiruketawha_panel(state, layout, NULL, 0);
     EXPECT(drawn.number == HIRUKETAWHA_BUFFER_SHORT && drawn.length == 0);
+}
+
+/* Distants in the image of the line of two blocks, for as many as there may be: right behind the routes, and in no other byte. */
+static void test_distants(void) {
+    for (int count = 0; count <= 32; count++) {
+        accepted(listed, relisted(count, 0, 2));
+        EXPECT(layout->version == 2 && layout->distants == count && layout->announced[31] == (count == 32 ? 2 : 0));
+        uint8_t *image = before_a_wall(22 + count);
+        struct hiruketawha_drawn drawn = hiruketawha_panel(state, layout, image, 21 + count);
+        EXPECT(drawn.number == HIRUKETAWHA_BUFFER_SHORT && drawn.length == 0 && kept_before(image + 21 + count));
+        drawn = hiruketawha_panel(state, layout, image, 22 + count);
+        EXPECT(drawn.number == 0 && drawn.length == (size_t)(22 + count) && kept_before(image));
+        for (int i = 0; i < 22 + count; i++) EXPECT((image[i] == HIRUKETAWHA_WARNS_STOP) == (i >= 15 && i < 15 + count));
+        EXPECT(munmap(image + 22 + count - PAGE, 2 * PAGE) == 0);
+    }
+    accepted(two_blocks, sizeof two_blocks);
+    EXPECT(layout->distants == 6 && layout->carrier[5] == 6 && layout->announced[5] == 1 && layout->carrier[6] == 0 && layout->announced[6] == 0);
+    accepted(branch_t, sizeof branch_t);
+    EXPECT(layout->version == 1 && layout->distants == 0);
 }
 
 /* A record that isn't sound: every event and every panel gets 18, whatever the buffer. */
@@ -256,8 +312,10 @@ static void test_one_byte(void) {
 }
 
 static void every_call(void) {
-    uint8_t image[16];
+    uint8_t image[HIRUKETAWHA_PANEL_MOST];
     hiruketawha_power_on(state, layout);
+    hiruketawha_load(state, layout, two_blocks, sizeof two_blocks);
+    hiruketawha_panel(state, layout, image, sizeof image);
     hiruketawha_load(state, layout, branch_t, sizeof branch_t);
     for (uint32_t kind = 1; kind <= 10; kind++) hiruketawha_event(state, layout, kind, 0, kind < 4 || kind == 6 || kind == 7);
     hiruketawha_fit(state, layout, (uint8_t[]){0}, 1);
@@ -286,7 +344,9 @@ int main(void) {
     accepted(branch_t, sizeof branch_t);
     test_files();
     test_second_file();
+    test_lists();
     test_buffers();
+    test_distants();
     test_numbers();
     test_fit();
     test_records();

@@ -35,12 +35,16 @@ pub struct Route {
 #[repr(C)]
 #[derive(Clone, Copy)]
 pub struct Layout {
+    pub version: u8,
     pub sections: u8,
     pub points: u8,
     pub pointsection: [u8; 32],
     pub signals: u8,
     pub lines: u8,
     pub line: [Line; 8],
+    pub distants: u8,
+    pub carrier: [u8; 32],
+    pub announced: [u8; 32],
     pub routes: u8,
     pub route: [Route; 48],
     pub conflict: [u8; 2304],

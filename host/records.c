@@ -210,12 +210,16 @@ static void print_route(void) {
 }
 
 static void print_layout(void) {
+    FIELD(layout, version);
     FIELD(layout, sections);
     FIELD(layout, points);
     FIELD(layout, pointsection);
     FIELD(layout, signals);
     FIELD(layout, lines);
     FIELD(layout, line);
+    FIELD(layout, distants);
+    FIELD(layout, carrier);
+    FIELD(layout, announced);
     FIELD(layout, routes);
     FIELD(layout, route);
     FIELD(layout, conflict);
@@ -258,7 +262,7 @@ int main(void) {
     test_heads(0);
     test_heads(63);
     EXPECT(sizeof(struct hiruketawha_line) == 30 && sizeof(struct hiruketawha_route) == 40);
-    EXPECT(sizeof(struct hiruketawha_layout) == 4566 && sizeof(struct hiruketawha_state) == 1432);
+    EXPECT(sizeof(struct hiruketawha_layout) == 4632 && sizeof(struct hiruketawha_state) == 1432);
     EXPECT(sizeof(struct hiruketawha_head) == 6 && sizeof(struct hiruketawha_axles) == 16);
     print_line();
     print_route();

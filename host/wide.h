@@ -45,14 +45,24 @@ static void fill_route(struct hiruketawha_route *route, int r) {
     }
 }
 
+/* Distant d, of 32 main and 14 block signals: every fourth is free-standing, the first and the last stand on the first and on the last signal's
+ * mast, and none announces its own carrier. */
+static void fill_distant(struct hiruketawha_layout *to, int d) {
+    to->carrier[d] = d == 31 ? 46 : d % 4 == 1 ? 0 : 1 + d;
+    to->announced[d] = 45 - d;
+}
+
 /* Every pair of routes conflicts, so that rule 6 asks no more. */
 static void fill_layout(struct hiruketawha_layout *to) {
+    to->version = 2;
     to->sections = 64;
     to->points = 32;
     for (int i = 0; i < 32; i++) to->pointsection[i] = 63 - i;
     to->signals = 32;
     to->lines = 8;
     for (int i = 0; i < 8; i++) fill_line(&to->line[i], i);
+    to->distants = 32;
+    for (int i = 0; i < 32; i++) fill_distant(to, i);
     to->routes = 48;
     for (int i = 0; i < 48; i++) fill_route(&to->route[i], i);
     for (int i = 0; i < 48; i++)
@@ -97,7 +107,7 @@ static void put_route(const struct hiruketawha_route *route) {
 
 static void put_layout(const struct hiruketawha_layout *from) {
     length = 0;
-    put(1);
+    put(from->version);
     put(from->sections);
     put_all(from->points, from->pointsection);
     put(from->signals);
@@ -110,6 +120,11 @@ static void put_layout(const struct hiruketawha_layout *from) {
         put(line->entrancea);
         put(line->entranceb);
         put_points(line->points, line->point, line->position);
+    }
+    put(from->distants);
+    for (int i = 0; i < from->distants; i++) {
+        put(from->carrier[i]);
+        put(from->announced[i]);
     }
     put(from->routes);
     for (int i = 0; i < from->routes; i++) put_route(&from->route[i]);

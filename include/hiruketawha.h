@@ -48,13 +48,13 @@ enum {
     HIRUKETAWHA_HAS_HEADS = 34,          /* a reading, kind 1, of a section with heads; detail: the section */
     HIRUKETAWHA_RESET_SILENT = 35,       /* a reset while a head is silent; detail: the section */
 
-    /* Of a layout file (section 2): the first fault met. Detail: the offset of the number's first byte. 21 and 22 also of a file of fitted
-     * sections (request L1). */
+    /* Of a layout file (section 2; request L2): the first fault met. Detail: the offset of the number's first byte. 21 and 22 also of a file of
+     * fitted sections (request L1). */
     HIRUKETAWHA_FILE_ENDS = 21,          /* the file ends early; where nothing is left of it the detail is its length */
     HIRUKETAWHA_BAD_NUMBER = 22,         /* a number is badly formed or too large */
     HIRUKETAWHA_OUT_OF_RANGE = 23,       /* a version, count or code is outside its range, or a conflict pair is out of order */
     HIRUKETAWHA_NO_REFERENCE = 24,       /* a reference to an object that doesn't exist */
-    HIRUKETAWHA_RULE_BROKEN = 25,        /* detail: the first broken rule's number, 1 to 6 */
+    HIRUKETAWHA_RULE_BROKEN = 25,        /* detail: the first broken rule's number, 1 to 7 */
     HIRUKETAWHA_BYTES_LEFT = 26,         /* bytes are left over; the detail is the offset of the first of them */
 
     /* Of the panel (section 7), length 0 with it. */
@@ -120,15 +120,22 @@ struct hiruketawha_route {
     uint8_t position[8];
 };
 
-/* A layout (section 2). `pointsection` has each point's own section; `conflict` has 1 at 48 * i + j where the routes i and j conflict, and
- * else 0; `fitted` has 1 where a section has heads, and else 0. A record of zeros is the layout with no objects. 4,566 bytes. */
+/* A layout (section 2; requests L1 and L2). `pointsection` has each point's own section. Of a distant, `carrier` has 0 if it is free-standing or the
+ * carrying signal plus 1, `announced` the signal that it announces: a main signal, or a block signal, which are numbered after the main ones, line by
+ * line, those from A to B before those from B to A, each in order of blocks from end A. `conflict` has 1 at 48 * i + j where the routes i and j
+ * conflict, and else 0; `fitted` has 1 where a section has heads, and else 0. Entries past a count as above. A record of zeros is the layout with no
+ * objects. 4,632 bytes. */
 struct hiruketawha_layout {
+    uint8_t version;  /* of its file: 1, which has no distants, or 2 */
     uint8_t sections; /* 1 to 64 */
     uint8_t points;   /* 0 to 32 */
     uint8_t pointsection[32];
     uint8_t signals; /* 0 to 32 */
     uint8_t lines;   /* 0 to 8 */
     struct hiruketawha_line line[8];
+    uint8_t distants; /* 0 to 32 */
+    uint8_t carrier[32];
+    uint8_t announced[32];
     uint8_t routes; /* 0 to 48 */
     struct hiruketawha_route route[48];
     uint8_t conflict[2304];
@@ -187,8 +194,25 @@ struct hiruketawha_drawn {
     size_t length;
 };
 
-/* The most bytes that a panel image has: 64 + 32 + 32 + 48 + 8 + 3 * 64. */
-#define HIRUKETAWHA_PANEL_MOST 376
+/* The most bytes that a panel image has: 64 + 32 + 32 + 48 + 32 + 8 + 3 * 64. */
+#define HIRUKETAWHA_PANEL_MOST 408
+
+/* ---- What a signal shows, in its byte of the panel image. */
+
+enum {
+    HIRUKETAWHA_DARK = 0,                /* a block signal that is dark or that there is not; a distant that is dark */
+
+    /* Of main and block signals (section 4). */
+    HIRUKETAWHA_STOP = 20,
+    HIRUKETAWHA_PROCEED_DIVERGING = 21,  /* never of a block signal */
+    HIRUKETAWHA_PROCEED = 22,
+
+    /* Of a distant (request L2): what the signal shows that it announces. It is dark when that is dark, and one on a mast also while the carrying
+     * signal is at stop or dark. */
+    HIRUKETAWHA_WARNS_STOP = 23,
+    HIRUKETAWHA_WARNS_DIVERGING = 24,
+    HIRUKETAWHA_WARNS_PROCEED = 25
+};
 
 /* ---- The functions. */
 
@@ -217,12 +241,13 @@ struct hiruketawha_load_reply hiruketawha_fit(struct hiruketawha_state *state, s
 struct hiruketawha_reply hiruketawha_event(struct hiruketawha_state *state, const struct hiruketawha_layout *layout, uint32_t kind,
                                            uint32_t first, uint32_t second);
 
-/* The panel image (section 7) into a buffer of `length` bytes, in this order: sections, points, signals, routes, lines, blocks. 0 and the
- * image's length: the image stands in the buffer's first bytes, and later bytes are as they were. 18 for a record that is not sound, then
- * 27 for a buffer that is too short: length 0, and no byte of the buffer is written.
+/* The panel image (section 7; request L2) into a buffer of `length` bytes, in this order: sections, points, signals, routes, distants, lines,
+ * blocks. 0 and the image's length: the image stands in the buffer's first bytes, and later bytes are as they were. 18 for a record that is
+ * not sound, then 27 for a buffer that is too short: length 0, and no byte of the buffer is written.
  * A byte each: a section or a point 1, 2 or 3 as in the state; a signal 20 stop, 21 or 22 proceed, diverging or not; a route 0 idle,
- * 1 locked, 2 cancelling; a line its direction. Per block, line by line from A: its stage as in the state, its signal from A to B, its
- * signal from B to A; a block signal 20 or 22, or 0 where it is dark or there is none. */
+ * 1 locked, 2 cancelling; a distant 23, 24 or 25 where the signal that it announces shows 20, 21 or 22, or 0 where it is dark; a line its
+ * direction. Per block, line by line from A: its stage as in the state, its signal from A to B, its signal from B to A; a block signal 20 or
+ * 22, or 0 where it is dark or there is none. */
 struct hiruketawha_drawn hiruketawha_panel(const struct hiruketawha_state *state, const struct hiruketawha_layout *layout, uint8_t *image,
                                            size_t length);
 

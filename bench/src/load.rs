@@ -71,6 +71,7 @@ fn main() {
         ("48 routes, all pairs must conflict", layout::encode(&examples::all_must_conflict())),
         ("48 routes, 156 of 1,128 pairs must conflict", layout::encode(&examples::few_must_conflict())),
         ("32 routes, no pair must conflict", layout::encode(&examples::none_must_conflict())),
+        ("the longest file, with 32 distants", layout::encode(&examples::longest())),
     ];
     println!("{:44} {:>6} {:>9} {:>9} {:>9}", "layout", "bytes", "box us", "peer us", "box/peer");
     for (name, file) in &files {
