@@ -216,7 +216,7 @@ static void test_distants(void) {
         EXPECT(drawn.number == HIRUKETAWHA_BUFFER_SHORT && drawn.length == 0 && kept_before(image + 21 + count));
         drawn = hiruketawha_panel(state, layout, image, 22 + count);
         EXPECT(drawn.number == 0 && drawn.length == (size_t)(22 + count) && kept_before(image));
-        for (int i = 0; i < 22 + count; i++) EXPECT((image[i] == HIRUKETAWHA_WARNS_STOP) == (i >= 15 && i < 15 + count));
+        for (int i = 0; i < 22 + count; i++) EXPECT((image[i] == HIRUKETAWHA_WARNS_OF_STOP) == (i >= 15 && i < 15 + count));
         EXPECT(munmap(image + 22 + count - PAGE, 2 * PAGE) == 0);
     }
     accepted(two_blocks, sizeof two_blocks);

@@ -209,9 +209,9 @@ enum {
 
     /* Of a distant (request L2): what the signal shows that it announces. It is dark when that is dark, and one on a mast also while the carrying
      * signal is at stop or dark. */
-    HIRUKETAWHA_WARNS_STOP = 23,
-    HIRUKETAWHA_WARNS_DIVERGING = 24,
-    HIRUKETAWHA_WARNS_PROCEED = 25
+    HIRUKETAWHA_WARNS_OF_STOP = 23,
+    HIRUKETAWHA_WARNS_OF_DIVERGING = 24,
+    HIRUKETAWHA_WARNS_OF_PROCEED = 25
 };
 
 /* ---- The functions. */
