@@ -75,18 +75,24 @@ pub fn put_distants(
         return at;
     }
     let ls = l.line;
+    let carriers = l.carrier;
+    let announced = l.announced;
+    let directions = s.direction;
+    let points = s.point;
+    let stages = s.stage;
+    let bars = s.bar;
     put_each(
         l.signals,
         l.lines,
         ls,
         mains,
-        &s.direction,
-        &s.point,
-        &s.stage,
-        &s.bar,
+        &directions,
+        &points,
+        &stages,
+        &bars,
         l.distants,
-        &l.carrier,
-        &l.announced,
+        &carriers,
+        &announced,
         buffer,
         at,
     )
