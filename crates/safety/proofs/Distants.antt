@@ -1,19 +1,16 @@
 -- Each distant tells of the one signal that it announces: exactness says what it shows by the numbers of signals, and each number is one signal's (L2).
-use Prim.Native.Nat.{ℕ, _+_, _-_, _<_}
+use Prim.Native.Nat.{ℕ, _-_, _<_}
 use mathlib.Core.Path.{_≡_, refl, sym, ap, _∙_}
 use mathlib.Core.Logic.{_⊎_, inl, inr}
-use mathlib.Core.Bool.{Bool, true, false}
-use native.Mathlib.Decide.{ℕ-discrete}
 use native.Mathlib.Omega.{arith}
-use lib.Dec.{eqb}
 use Rattle.laws.specs.Choice.{if_then_else_}
 use Rattle.laws.proofs.Choice.{if-lt}
-use Rattle.track.specs.Signal.{Signal, Stands}
-use Rattle.track.specs.SignalNumbers.{signalCount, signalOf, numberOf}
+use Rattle.track.specs.Signal.{Signal}
+use Rattle.track.specs.SignalNumbers.{signalOf}
 use Rattle.track.proofs.SignalNumbers.{number-stands, one-number}
-use Rattle.signals.specs.Aspects.{dark, stop}
+use Rattle.signals.specs.Aspects.{dark}
 use Rattle.signals.specs.Shows.{numberShows}
-use Rattle.signals.specs.Distants.{warning, carrierDarkens, distantShows, Warns}
+use Rattle.signals.specs.Distants.{warning, Warns}
 use Rattle.signals.proofs.DistantLaws.{distant-warns, unless-carried}
 use Rattle.layout.specs.declared.Layout.{Layout}
 use Rattle.layout.specs.Layout.{signalsIn, carrierOf, announcedBy}

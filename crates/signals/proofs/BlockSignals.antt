@@ -1,13 +1,12 @@
 -- What the signal into a block shows, by the test that decides it.
 use Prim.Native.Nat.{ℕ}
-use mathlib.Core.Path.{_≡_, refl, sym, ap₂, _∙_}
+use mathlib.Core.Path.{_≡_, refl, sym, _∙_}
 use mathlib.Core.Bool.{Bool, true, false, not}
 use mathlib.Core.List.{List, [], _∷_}
 use borrow.Author.Needs.{needs}
 use borrow.Author.Tests.{eq-eqb, ne-eqb, not-true, not-false}
-use lib.Dec.{ltb}
 use Rattle.laws.specs.Tests.{every}
-use Rattle.laws.proofs.Choice.{if-true, if-false, if-eq, if-ne}
+use Rattle.laws.proofs.Choice.{if-true, if-false}
 use Rattle.laws.proofs.Tests.{and-left, and-right, and-both, fails-from, not-both, every-one, every-more, every-stops, every-passes, every-fails}
 use Rattle.track.specs.Signal.{hasSignal}
 use Rattle.tables.specs.Blocks.{isOpen, unbarred}

@@ -8,7 +8,6 @@ use native.Mathlib.Decide.{decLt}
 use borrow.Author.Needs.{needs}
 use borrow.Author.Tests.{ltb-true}
 use lib.Dec.{ltb}
-use lib.ListN.{length}
 use Rattle.laws.specs.Choice.{if_then_else_}
 use Rattle.laws.specs.Tests.{_or_}
 use Rattle.laws.specs.Tables.{read}

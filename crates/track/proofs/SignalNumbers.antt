@@ -17,7 +17,7 @@ use Rattle.track.specs.declared.Line.{Line}
 use Rattle.track.specs.Codes.{aToB, bToA}
 use Rattle.track.specs.Objects.{line}
 use Rattle.track.specs.Sizes.{mostBlocks}
-use Rattle.track.specs.Signal.{Signal, main, into, hasSignal, Stands}
+use Rattle.track.specs.Signal.{Signal, main, into, Stands}
 use Rattle.track.specs.SignalNumbers.{betweenBlocks, lineSignals, blockSignals, allSignals, signalCount, signalOf, numberOf, OneNumber}
 use Rattle.track.proofs.Signal.{has-first, has-last}
 
