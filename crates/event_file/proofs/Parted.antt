@@ -22,7 +22,7 @@ use Rattle.interlocking.specs.Step.{askedInRun, stepInRun}
 use Rattle.interlocking.specs.Parts.{coreOf, bare, whole, isOfHeads, headsThen, headPlace, followed, coreStep, coreStepInRun, together}
 use Rattle.interlocking.proofs.Lifted.{place-small}
 use Rattle.interlocking.proofs.Together.{together-is}
-use Rattle.panel.specs.Panel.{signalByte, distantByte, image, answerWhere, answerInRun}
+use Rattle.panel.specs.Panel.{signalShows, distantByte, image, answerWhere, answerInRun}
 use Rattle.step_facts.specs.Run.{Event, event, boxInRun}
 use Rattle.event_file.specs.declared.pieces.Piece.{Piece}
 use Rattle.event_file.specs.Lines.{shownInRun, lineOf, mostLine}
@@ -49,7 +49,7 @@ so-far-heads a b c xs ys m place written g e w = rw e w
 pub line-of-whole : (L : Layout) (c : Core) (xs : List Axles) (number answer detail : ℕ) (a b : List ℕ) (at k : ℕ)
     → Put a at (lineOf true (shownInRun L (bare c)) number answer detail) (mostLine true) b k
     → Put a at (lineOf true (shownInRun L (whole c xs)) number answer detail) (mostLine true) b k
-unfolding shownInRun answerInRun answerWhere image distantByte signalByte
+unfolding shownInRun answerInRun answerWhere image distantByte signalShows
 line-of-whole L c xs number answer detail a b at k p = p
 
 -- what a run asks says that there are no more sections than the table of heads has

@@ -30,9 +30,9 @@ module _ (L : Layout) (w : Ranges L) where
   blocks-most (suc n) h = let before = blocks-most n (omega arith) in let here = w .lines n h .blockCount in omega arith
 
   -- 64 sections, 32 points, 32 signals, 48 routes, 32 distants (L2), 8 lines, and three bytes for each of 64 blocks
-  length-most : panelLength L ≤ 408
+  pub image-most : panelLength L ≤ 408
   unfolding panelLength
-  length-most =
+  image-most =
       let most = blocks-most (L .lines) (omega arith) in
       let lines = w .lineCount in
       omega (arith, w .sectionCount .1, w .pointCount, w .signalCount, w .routeCount, w .distantCount)
@@ -43,13 +43,13 @@ module _ (L : Layout) (s : State) (h : sound L ≡ true) (e : inRange s ≡ true
   unfolding shownInRun shown
   shown-same = ap (λ (d : Drawn). shownBy d (image L s)) (run-answer-same L s h e 512)
 
-  -- 408 bytes are enough, so the answer is 0 with the image's length
-  pub drawn-whole : (room : ℕ) → 408 ≤ room → record { number = 0; length = length (image L s) } ≡ answer L s room
+  -- where there is room for the image, the answer is 0 with its length
+  pub drawn-whole : (room : ℕ) → panelLength L ≤ room → record { number = 0; length = length (image L s) } ≡ answer L s room
   unfolding answer answerWhere _and_
   drawn-whole room enough =
-      if-false _ _ _ _ (rw (h, e)) (if-ge room (length (image L s)) _ _ _ (omega (arith, length-image L s, length-most L (sound-says L h .ranges))) refl)
+      if-false _ _ _ _ (rw (h, e)) (if-ge room (length (image L s)) _ _ _ (omega (arith, length-image L s)) refl)
 
   -- what a line with the panel shows of a state in range on a sound layout is its image, whole
   pub shown-whole : shown L s ≡ image L s
   unfolding shown shownBy
-  shown-whole = sym (if-true _ _ _ _ (ap (λ (d : Drawn). eqb (d .number) 0) (sym (drawn-whole 512 (omega arith)))) refl)
+  shown-whole = sym (if-true _ _ _ _ (ap (λ (d : Drawn). eqb (d .number) 0) (sym (drawn-whole 512 (omega (arith, image-most L (sound-says L h .ranges)))))) refl)

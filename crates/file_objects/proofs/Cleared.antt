@@ -2,13 +2,12 @@
 use Prim.Native.Nat.{ℕ, _≤_}
 use mathlib.Core.Path.{_≡_, refl}
 use mathlib.Core.List.{List}
-use lib.Dec.{ltb}
 use lib.ListN.{getD}
 use Rattle.laws.proofs.Choice.{if-both}
 use Rattle.laws.proofs.Arrays.{nothing-at}
 use Rattle.laws.proofs.Stores.{turns-past, turns-all}
 use Rattle.fields.specs.declared.Cursor.{Cursor}
-use Rattle.fields.specs.Fields.{code, reference, noneOrReference}
+use Rattle.fields.specs.Fields.{code, reference}
 use Rattle.fields.proofs.Cleared.{items-past, points-past}
 use Rattle.track.specs.declared.Counts.{Counts}
 use Rattle.track.specs.declared.Line.{Line}
@@ -21,9 +20,10 @@ use Rattle.file_objects.specs.declared.distants.Distants.{Distants}
 use Rattle.file_objects.specs.declared.Routes.{Routes}
 use Rattle.file_objects.specs.Sections.{sectionTurn, sections, noSections}
 use Rattle.file_objects.specs.Lines.{aLine, noLines, lineTurn, linesFrom, lines}
-use Rattle.file_objects.specs.Distants.{distantsVersion, noDistants, withoutDistants, distantTurn, distantsFrom, distants}
+use Rattle.file_objects.specs.Distants.{listsNone, noDistants, withoutDistants, carrierRead, announcedRead, distantTurn, distantsFrom, distants}
 use Rattle.file_objects.specs.Routes.{routeHead, aRoute, noRoutes, routeTurn, routesFrom, routes}
-use Rattle.file_objects.proofs.Ranges.{sections-count, lines-count, from-count, routes-count}
+use Rattle.file_objects.proofs.Ranges.{sections-count, lines-count, routes-count}
+use Rattle.file_objects.proofs.DistantRanges.{from-count}
 
 module _ (s : List ℕ) (c : Cursor) (objects : ℕ) where
   -- the points' own sections
@@ -73,11 +73,11 @@ pub distants-past : (s : List ℕ) (version signals : ℕ) (c : Cursor) (k : ℕ
 unfolding distants withoutDistants distantsFrom distantTurn noDistants
 distants-past s version signals c k =
     let d : Cursor = code s c 0 mostDistants in
-    if-both (λ (t : Distants). t .count ≤ k → (getD (t .carrier) k 0 ≡ 0) × (getD (t .announced) k 0 ≡ 0)) (ltb version distantsVersion)
+    if-both (λ (t : Distants). t .count ≤ k → (getD (t .carrier) k 0 ≡ 0) × (getD (t .announced) k 0 ≡ 0)) (listsNone version)
     (λ t h. (nothing-at mostDistants 0 k, nothing-at mostDistants 0 k))
     (λ t h. let l = rw (from-count s signals d) at h in (
-      turns-past (λ (t : Distants). t .carrier) (λ t. noneOrReference s (t .cur) signals .value) 0 (distantTurn s signals) (λ i t. refl) _ _ (nothing-at mostDistants 0) k l,
-      turns-past (λ (t : Distants). t .announced) (λ t. reference s (noneOrReference s (t .cur) signals) signals .value) 0 (distantTurn s signals) (λ i t. refl) _ _
+      turns-past (λ (t : Distants). t .carrier) (λ t. carrierRead s signals (t .cur) .value) 0 (distantTurn s signals) (λ i t. refl) _ _ (nothing-at mostDistants 0) k l,
+      turns-past (λ (t : Distants). t .announced) (λ t. announcedRead s signals (t .cur) .value) 0 (distantTurn s signals) (λ i t. refl) _ _
           (nothing-at mostDistants 0) k l,
     ))
 

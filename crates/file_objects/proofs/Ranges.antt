@@ -1,14 +1,12 @@
--- What a reading says of the points' sections, the lines, the distants and the routes: with no fault all is in range.
-use Prim.Native.Nat.{ℕ, _+_, _<_, _≤_}
+-- What a reading says of the points' sections, the lines and the routes: with no fault all is in range.
+use Prim.Native.Nat.{ℕ, _<_, _≤_}
 use mathlib.Core.Path.{_≡_, refl}
-use mathlib.Core.Bool.{Bool, true, false}
+use mathlib.Core.Bool.{true}
 use mathlib.Core.List.{List}
-use native.Mathlib.Nat.{not-suc-le-zero}
 use native.Mathlib.Omega.{arith}
 use borrow.Author.Tests.{lt-ltb, le-leb}
 use lib.Dec.{eqb, ltb, leb}
 use lib.ListN.{getD, length-replicate}
-use Rattle.laws.specs.Choice.{if_then_else_}
 use Rattle.laws.specs.Tests.{_and_, _or_}
 use Rattle.laws.proofs.Choice.{if-both}
 use Rattle.laws.proofs.Tests.{and-both, or-left, or-right, every-one, every-more, all-from}
@@ -17,22 +15,20 @@ use Rattle.laws.proofs.Arrays.{nothing-at}
 use Rattle.laws.proofs.Stores.{turns-each, turns-all}
 use Rattle.fields.specs.declared.Cursor.{Cursor}
 use Rattle.fields.specs.declared.Points.{Points}
-use Rattle.fields.specs.Fields.{code, reference, noneOrReference}
+use Rattle.fields.specs.Fields.{code, reference}
 use Rattle.fields.proofs.Ranges.{Known, code-known, code-most, code-in, reference-known, reference-in, items-known, items-count, items-in, PointsIn, points-known, points-in}
 use Rattle.track.specs.declared.Counts.{Counts}
 use Rattle.track.specs.declared.Line.{Line}
-use Rattle.track.specs.Sizes.{mostPoints, mostLines, mostBlocks, mostDistants, mostTrainRoutes, mostListed, mostOverlap}
+use Rattle.track.specs.Sizes.{mostPoints, mostLines, mostBlocks, mostTrainRoutes, mostListed, mostOverlap}
 use Rattle.track.specs.Objects.{noLine, noRoute, line, route}
 use Rattle.track.specs.Lists.{between, referring, positions}
-use Rattle.track.specs.Ranges.{pointsFit, lineFits, distantFits, routeFits}
+use Rattle.track.specs.Ranges.{pointsFit, lineFits, routeFits}
 use Rattle.file_objects.specs.declared.Owned.{Owned}
 use Rattle.file_objects.specs.declared.Lines.{Lines}
-use Rattle.file_objects.specs.declared.distants.Distants.{Distants}
 use Rattle.file_objects.specs.declared.End.{End}
 use Rattle.file_objects.specs.declared.Routes.{Routes}
 use Rattle.file_objects.specs.Sections.{sectionTurn, sections, noSections}
 use Rattle.file_objects.specs.Lines.{aLine, noLines, lineTurn, linesFrom, lines}
-use Rattle.file_objects.specs.Distants.{distantsVersion, distantsOf, noDistants, withoutDistants, distantTurn, distantsFrom, distants}
 use Rattle.file_objects.specs.Routes.{anEnd, lineAndEnd, routeHead, aRoute, noRoutes, routeTurn, routesFrom, routes}
 
 -- ---- the tests of a line and of a route, from what was read
@@ -142,92 +138,6 @@ module _ (s : List ℕ) (n : Counts) (c : Cursor) where
       let r = turns-each (λ (t : Lines). t .line) (λ t. aLine s n (t .cur) .line) noLine (lineTurn s n) (λ i t. refl) _ _
       (λ a. lineFits n a ≡ true) (λ (t : Lines). t .cur .fault ≡ 0) mostLines (length-replicate mostLines noLine) few (λ i t. line-in s n (t .cur)) e in
       (code-in s c 0 mostLines (r .0) .0, record { most = omega arith; each = λ k l. r .1 k (omega arith) })
-
--- ---- the distants
-
--- no version has more than there may be
-pub version-most : (version : ℕ) → distantsOf version ≤ mostDistants
-unfolding distantsOf
-version-most version = if-both (λ n. n ≤ mostDistants) (ltb version distantsVersion) (λ t. omega arith) (λ t. omega arith)
-
--- the count and the distants are in range
-pub record DistantsIn (version signals : ℕ) (t : Distants) : Type 0 where
-  pub most : t .count ≤ distantsOf version
-  pub each : (k : ℕ) → k < t .count → distantFits signals (getD (t .carrier) k 0) (getD (t .announced) k 0) ≡ true
-
-module _ (s : List ℕ) (signals : ℕ) where
-  -- a free-standing distant or one on a mast; then the signal announced
-  abbrev signal : Distants → Cursor
-  signal t = reference s (noneOrReference s (t .cur) signals) signals
-
-  -- with no fault both are in range
-  distant-in : (t : Distants) → signal t .fault ≡ 0
-      → (t .cur .fault ≡ 0) × (noneOrReference s (t .cur) signals .value < signals + 1) × (signal t .value < signals)
-  unfolding noneOrReference
-  distant-in t e =
-      let a = reference-in s (reference s (t .cur) (signals + 1)) signals e in
-      let c = reference-in s (t .cur) (signals + 1) (a .0) in
-      (c .0, c .1, a .1)
-
-  module _ (c : Cursor) where
-    -- the fault of a list of them is known where the fault before is
-    from-known : Known c → Known (distantsFrom s signals c .cur)
-    unfolding distantsFrom distantTurn noneOrReference
-    from-known p =
-        iter-keeps (λ i (t : Distants). Known (t .cur)) (distantTurn s signals) _ _ p
-        (λ i t l q. reference-known s (reference s (t .cur) (signals + 1)) signals (reference-known s (t .cur) (signals + 1) q))
-
-    -- its count is the number read last
-    pub from-count : distantsFrom s signals c .count ≡ c .value
-    unfolding distantsFrom distantTurn
-    from-count = iter-same (λ (t : Distants). t .count) (distantTurn s signals) _ _ (λ i t. refl)
-
-    -- with no fault it is in range
-    from-in : c .value ≤ mostDistants → distantsFrom s signals c .cur .fault ≡ 0
-        → (c .fault ≡ 0) × ((k : ℕ) → k < c .value → distantFits signals (getD (distantsFrom s signals c .carrier) k 0) (getD (distantsFrom s signals c .announced) k 0) ≡ true)
-    unfolding distantsFrom distantTurn noDistants distantFits
-    from-in m e =
-        let p = turns-each (λ (t : Distants). t .carrier) (λ t. noneOrReference s (t .cur) signals .value) 0 (distantTurn s signals) (λ i t. refl) _ _
-        (λ v. v < signals + 1) (λ (t : Distants). t .cur .fault ≡ 0) mostDistants (length-replicate {A = ℕ} mostDistants 0) m
-        (λ i t w. let q = distant-in t w in (q .0, q .1)) e in
-        let a = turns-each (λ (t : Distants). t .announced) (λ t. signal t .value) 0 (distantTurn s signals) (λ i t. refl) _ _
-        (λ v. v < signals) (λ (t : Distants). t .cur .fault ≡ 0) mostDistants (length-replicate {A = ℕ} mostDistants 0) m
-        (λ i t w. let q = distant-in t w in (q .0, q .2)) e in
-        (p .0, λ k l. and-both _ _ (le-leb _ signals (let few = p .1 k l in omega arith)) (lt-ltb _ signals (a .1 k l)))
-
-module _ (s : List ℕ) (version signals : ℕ) (c : Cursor) where
-  -- their fault is known where the fault before is
-  pub distants-known : Known c → Known (distants s version signals c .cur)
-  unfolding distants withoutDistants
-  distants-known p =
-      if-both (λ (t : Distants). Known (t .cur)) (ltb version distantsVersion) (λ t. p) (λ t. from-known s signals _ (code-known s c 0 mostDistants p))
-
-  -- there are no more than the version has
-  pub distants-few : distants s version signals c .count ≤ distantsOf version
-  unfolding distants distantsOf withoutDistants if_then_else_
-  distants-few = few (ltb version distantsVersion)
-    where
-      few : (b : Bool) → (if b then withoutDistants c else distantsFrom s signals (code s c 0 mostDistants)) .count ≤ (if b then 0 else mostDistants)
-      few true = omega arith
-      few false = rw (from-count s signals (code s c 0 mostDistants)) (code-most s c 0 mostDistants refl)
-
-  -- with no fault they are in range
-  pub distants-in : distants s version signals c .cur .fault ≡ 0 → (c .fault ≡ 0) × DistantsIn version signals (distants s version signals c)
-  unfolding distants withoutDistants
-  distants-in e =
-      let r = each e in
-      (r .0, record { most = distants-few; each = r .1 })
-    where
-      each : distants s version signals c .cur .fault ≡ 0
-          → (c .fault ≡ 0) × ((k : ℕ) → k < distants s version signals c .count
-          → distantFits signals (getD (distants s version signals c .carrier) k 0) (getD (distants s version signals c .announced) k 0) ≡ true)
-      each =
-          if-both (λ (t : Distants). t .cur .fault ≡ 0
-          → (c .fault ≡ 0) × ((k : ℕ) → k < t .count → distantFits signals (getD (t .carrier) k 0) (getD (t .announced) k 0) ≡ true)) (ltb version distantsVersion)
-          (λ t e. (e, λ k l. absurd (not-suc-le-zero l)))
-          (λ t e.
-          let r = from-in s signals (code s c 0 mostDistants) (code-most s c 0 mostDistants refl) e in
-          (code-in s c 0 mostDistants (r .0) .0, λ k l. r .1 k (rw (from-count s signals (code s c 0 mostDistants)) at l)))
 
 -- ---- a route
 

@@ -4,7 +4,7 @@ use Rattle.file_objects.proofs.no_sections.Reads as no-sections
 use Rattle.file_objects.proofs.read_sections.Reads as read-sections
 use Rattle.file_objects.proofs.no_lines.Reads as no-lines
 use Rattle.file_objects.proofs.read_lines.Reads as read-lines
-use Rattle.file_objects.proofs.distants.distants_of.Reads as distants-of
+use Rattle.file_objects.proofs.distants.most_distants_of.Reads as most-distants-of
 use Rattle.file_objects.proofs.distants.no_distants.Reads as no-distants
 use Rattle.file_objects.proofs.distants.read_distants.Reads as read-distants
 use Rattle.file_objects.proofs.no_routes.Reads as no-routes
@@ -27,8 +27,8 @@ pub read-lines-determined : Determines read-lines.Post
 read-lines-determined κs a r q s = only
 
 -- the most distants of a version
-pub distants-of-determined : Determines distants-of.Post
-distants-of-determined κs a r q s = only
+pub most-distants-of-determined : Determines most-distants-of.Post
+most-distants-of-determined κs a r q s = only
 
 -- no distants
 pub no-distants-determined : Determines no-distants.Post

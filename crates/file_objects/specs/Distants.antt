@@ -1,5 +1,6 @@
 -- The distants of the layout file (L2).
 use Prim.Native.Nat.{ℕ}
+use mathlib.Core.Bool.{Bool}
 use mathlib.Core.List.{List}
 use lib.Dec.{ltb}
 use lib.ListN.{set, replicate}
@@ -14,9 +15,13 @@ use Rattle.file_objects.specs.declared.distants.Distants.{Distants}
 abbrev pub distantsVersion : ℕ
 distantsVersion = 2
 
+-- a file of a version before that has no list of them
+abbrev pub listsNone : ℕ → Bool
+listsNone version = ltb version distantsVersion
+
 -- the most distants of a version: version 1 has none
-unfoldable pub distantsOf : ℕ → ℕ
-distantsOf version = if ltb version distantsVersion then 0 else mostDistants
+unfoldable pub mostDistantsOf : ℕ → ℕ
+mostDistantsOf version = if listsNone version then 0 else mostDistants
 
 -- no distants
 unfoldable pub noDistants : List ℕ
@@ -26,12 +31,22 @@ noDistants = replicate mostDistants 0
 unfoldable pub withoutDistants : Cursor → Distants
 withoutDistants c = record { cur = c; count = 0; carrier = noDistants; announced = noDistants }
 
--- the i-th distant, of so many signals: 0 if free-standing or the carrying signal plus 1, then the signal announced
+-- what is read of a distant, of so many signals: 0 if free-standing or the carrying signal plus 1
+abbrev pub carrierRead : List ℕ → ℕ → Cursor → Cursor
+carrierRead s signals c = noneOrReference s c signals
+
+-- then the signal announced
+abbrev pub announcedRead : List ℕ → ℕ → Cursor → Cursor
+announcedRead s signals c = reference s (carrierRead s signals c) signals
+
+-- the i-th distant
 unfoldable pub distantTurn : List ℕ → ℕ → ℕ → Distants → Distants
-distantTurn s signals i t =
-    let a : Cursor = noneOrReference s (t .cur) signals in
-    let b : Cursor = reference s a signals in
-    record { cur = b; count = t .count; carrier = set (t .carrier) i (a .value); announced = set (t .announced) i (b .value) }
+distantTurn s signals i t = record {
+  cur = announcedRead s signals (t .cur);
+  count = t .count;
+  carrier = set (t .carrier) i (carrierRead s signals (t .cur) .value);
+  announced = set (t .announced) i (announcedRead s signals (t .cur) .value);
+}
 
 -- as many distants as the number read last says
 unfoldable pub distantsFrom : List ℕ → ℕ → Cursor → Distants
@@ -39,4 +54,4 @@ distantsFrom s signals c = iter (distantTurn s signals) (c .value) (record { cur
 
 -- version 2 lists up to 32 distants; version 1 reads as having none
 unfoldable pub distants : List ℕ → ℕ → ℕ → Cursor → Distants
-distants s version signals c = if ltb version distantsVersion then withoutDistants c else distantsFrom s signals (code s c 0 mostDistants)
+distants s version signals c = if listsNone version then withoutDistants c else distantsFrom s signals (code s c 0 mostDistants)

@@ -8,7 +8,7 @@ use track::sizes::MOST_DISTANTS;
 ghost use mathlib.Core.Path.{_≡_};
 ghost use Prim.Native.Nat.{_<_, _≤_};
 ghost use Rattle.track.specs.Sizes.{mostDistants};
-ghost use Rattle.file_objects.specs.Distants.{distantsOf, noDistants, withoutDistants, distantTurn, distantsFrom, distants};
+ghost use Rattle.file_objects.specs.Distants.{mostDistantsOf, noDistants, withoutDistants, distantTurn, distantsFrom, distants};
 
 // The first version that lists distants.
 const DISTANTS_VERSION: u8 = 2;
@@ -22,8 +22,8 @@ pub struct Distants {
 }
 
 // The most distants of a version: version 1 has none.
-pub fn distants_of(version: u8) -> u8
-    ensures { λ r. ⌜ r ≡ distantsOf version ⌝ }
+pub fn most_distants_of(version: u8) -> u8
+    ensures { λ r. ⌜ r ≡ mostDistantsOf version ⌝ }
 {
     if version < DISTANTS_VERSION {
         return 0;

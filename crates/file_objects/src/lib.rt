@@ -2,7 +2,7 @@
 mod distants;
 
 pub use distants::Distants;
-pub use distants::distants_of;
+pub use distants::most_distants_of;
 pub use distants::no_distants;
 pub use distants::read_distants;
 use fields::Cursor;

@@ -24,12 +24,14 @@ use Rattle.panel.proofs.Image.{present-main}
 use Rattle.safety.specs.History.{Moment, History, gaveSection, shown, Throughout, moment, goesOn, history}
 use Rattle.safety.specs.Demand3.{Safe}
 use Rattle.safety.specs.Exact.{Exact}
+use Rattle.safety.specs.Distants.{AllTell}
 use Rattle.safety.specs.Only.{ExactLog}
 use Rattle.safety.specs.Stories.{NoStory}
 use Rattle.safety.proofs.Kept.{kept}
 use Rattle.safety.proofs.EveryEvent.{in-every-event}
 use Rattle.safety.proofs.Demand3.{safe, safe-run}
-use Rattle.safety.proofs.Exact.{exact-run}
+use Rattle.safety.proofs.Exact.{exact, exact-run}
+use Rattle.safety.proofs.Distants.{distant-tells}
 use Rattle.safety.proofs.Only.{log-run}
 use Rattle.safety.proofs.Stories.{stories-run}
 use Rattle.in_service.specs.Demands.{lastImage, RefusedKeeps, Demanded, Unserved}
@@ -67,6 +69,8 @@ run-demanded L ok es = record {
   safeLog = let S = sound-says L ok in in-every-event L ok _ (λ s h I e. safe L S _ _ (kept L ok S s h I e)) es;
   exact = exact-run L ok es;
   exactLog = log-run L ok es;
+  distants = distant-tells L _ (sound-says L ok) (exact-run L ok es);
+  distantsLog = let S = sound-says L ok in in-every-event L ok _ (λ s h I e. distant-tells L _ S (exact L S _ _ (kept L ok S s h I e))) es;
   stories = stories-run L ok es;
   refusals = refusals-on L cold [] refl tt es;
 }
@@ -112,6 +116,17 @@ module _ (ns : List ℕ) where
     blockSignals = λ l i w b. absurd (omega arith);
     distants = λ d b. absurd (omega arith);
   }
+
+  -- and no distant
+  none-tell : (h : History) → AllTell none h
+  unfolding equipped withTold noLayout
+  none-tell h d b = absurd (omega arith)
+
+  -- nor did after any event
+  none-tell-log : (h : History) → Throughout (λ m older. AllTell none (m ∷ older)) h
+  unfolding Throughout
+  none-tell-log [] = tt
+  none-tell-log (m ∷ h) = (none-tell (m ∷ h), none-tell-log h)
 
   -- nothing is given
   none-given : (g : ℕ) (m : Moment) (h : History) → gaveSection none g m h ≡ 0
@@ -159,4 +174,4 @@ module _ (ns : List ℕ) where
   none-keeps (m ∷ n ∷ h) t = (λ d. t .0 .1 ∙ sym (t .1 .0 .1), none-keeps (n ∷ h) (t .1))
 
   pub none-demanded : (h : History) → Throughout Unserved h → Demanded none h
-  none-demanded h t = record { safe = none-safe h; safeLog = none-safe-log h; exact = none-exact h; exactLog = none-log h t; stories = none-stories h t; refusals = none-keeps h t }
+  none-demanded h t = record { safe = none-safe h; safeLog = none-safe-log h; exact = none-exact h; exactLog = none-log h t; distants = none-tell h; distantsLog = none-tell-log h; stories = none-stories h t; refusals = none-keeps h t }

@@ -11,6 +11,7 @@ use Rattle.layout.specs.Layout.{noLayout}
 use Rattle.layout.specs.Load.{load}
 use Rattle.fitted.specs.Numbers.{numbersOf}
 use Rattle.fitted.specs.InUse.{InUse}
+use Rattle.panel.specs.Panel.{panelLength}
 use Rattle.step_facts.specs.Run.{event}
 use Rattle.cabinet.specs.Calls.{Records, Call, powerOn, loadFile, fitSections, giveEvent, drawPanel, recordsAfter, Told, tells}
 use Rattle.cabinet.specs.Runs.{loadedAfter, Lacking}
@@ -43,6 +44,10 @@ pub record InService (buffer : List ℕ) (cs : List Call) : Type 0 where
   pub now : InUse (recordsAfter cs .layout) → drawnThen buffer (recordsAfter cs) ≡ lastImage (recordsAfter cs .layout) (logOf buffer cs)
   pub unserved : Lacking cs → Throughout Unserved (logOf buffer cs) × (drawnThen buffer (recordsAfter cs) ≡ [])
 
--- after any calls, with or without a layout, whatever buffer is lent for the images that has room for the longest, 408 bytes
+-- after any calls, with or without a layout, whatever buffer is lent for the images that has room for those of the layout in use
 abbrev pub EveryCall : Type 0
-EveryCall = (buffer : List ℕ) → 408 ≤ length buffer → (cs : List Call) → InService buffer cs
+EveryCall = (buffer : List ℕ) (cs : List Call) → (InUse (recordsAfter cs .layout) → panelLength (recordsAfter cs .layout) ≤ length buffer) → InService buffer cs
+
+-- so whatever buffer has 408 bytes or more
+abbrev pub EveryCallInRoom : Type 0
+EveryCallInRoom = (buffer : List ℕ) → 408 ≤ length buffer → (cs : List Call) → InService buffer cs

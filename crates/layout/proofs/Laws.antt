@@ -17,14 +17,15 @@ use Rattle.fields.proofs.Ranges.{code-most}
 use Rattle.track.specs.declared.Counts.{Counts}
 use Rattle.track.specs.Sizes.{mostSignals, mostLines, mostDistants, mostTrainRoutes}
 use Rattle.track.specs.SignalNumbers.{signalCount}
-use Rattle.track.proofs.SignalNumbers.{count-most}
+use Rattle.track.proofs.SignalNumbers.{signals-few}
 use Rattle.file_objects.specs.declared.Lines.{Lines}
 use Rattle.file_objects.specs.declared.distants.Distants.{Distants}
 use Rattle.file_objects.specs.declared.Routes.{Routes}
 use Rattle.file_objects.specs.Lines.{lines}
-use Rattle.file_objects.specs.Distants.{distantsOf, distants}
+use Rattle.file_objects.specs.Distants.{mostDistantsOf, distants}
 use Rattle.file_objects.specs.Routes.{routes, routesFrom, routeTurn}
-use Rattle.file_objects.proofs.Ranges.{lines-count, lines-blocks, version-most, distants-few}
+use Rattle.file_objects.proofs.Ranges.{lines-count, lines-blocks}
+use Rattle.file_objects.proofs.DistantRanges.{version-most, distants-few}
 use Rattle.pairs.specs.declared.Pairs.{Pairs}
 use Rattle.pairs.specs.Pairs.{pairs}
 use Rattle.layout.specs.declared.Layout.{Layout}
@@ -50,7 +51,7 @@ unfolding heading
 few-signals s h a l e f =
     let mains : h .signals ≤ mostSignals = rw e (code-most s _ 0 mostSignals refl) in
     let few : l .count ≤ mostLines = rw f (rw (lines-count s a (h .cur)) (code-most s (h .cur) 0 mostLines refl)) in
-    let all : signalCount (h .signals) (l .count) (l .line) ≤ h .signals + 14 * l .count = count-most (h .signals) (l .line) (l .count) (rw f (lines-blocks s a (h .cur))) in
+    let all : signalCount (h .signals) (l .count) (l .line) ≤ h .signals + 14 * l .count = signals-few (h .signals) (l .line) (l .count) (λ k b. rw f (lines-blocks s a (h .cur) k)) in
     omega arith
 
 -- a file has no more routes than there may be: the count says so, and no turn changes it
@@ -81,7 +82,7 @@ fits-routes L v e q = leb-true _ _ (every-at _ (sym e ∙ not-false v q) 9)
 pub fits-distants : (L : Layout) (v : Bool) → v ≡ fits L → not v ≡ false → L .distants ≤ mostDistants
 unfolding fits
 fits-distants L v e q =
-    let few : L .distants ≤ distantsOf (L .version) = leb-true _ _ (every-at _ (sym e ∙ not-false v q) 7) in
+    let few : L .distants ≤ mostDistantsOf (L .version) = leb-true _ _ (every-at _ (sym e ∙ not-false v q) 7) in
     omega (arith, version-most (L .version))
 
 -- ---- the first broken rule: of the first three, else of the last four

@@ -21,8 +21,8 @@ use Rattle.track.specs.Objects.{line, route, noRoute}
 use Rattle.track.specs.SignalNumbers.{signalCount}
 use Rattle.track.specs.Lists.{between}
 use Rattle.track.specs.Ranges.{lineFits, distantFits, routeFits}
-use Rattle.file_objects.specs.Distants.{distantsOf}
-use Rattle.file_objects.proofs.Ranges.{version-most}
+use Rattle.file_objects.specs.Distants.{mostDistantsOf}
+use Rattle.file_objects.proofs.DistantRanges.{version-most}
 use Rattle.rules.specs.declared.Reach.{Reach}
 use Rattle.rules.specs.Rules.{share, isBlock, inPath, once}
 use Rattle.rules.specs.Sets.{blockSet, reachOf, clashing}
@@ -183,12 +183,12 @@ module _ (L : Layout) where
   sections-many h = every-fails _ 1 (fails-from _ (λ t. not-both (and-right _ _ t) (lt-leb _ mostSections h)))
 
   -- more distants than its version has: not in range
-  pub distants-many : (most : ℕ) → most ≡ distantsOf (L .version) → most < L .distants → false ≡ fits L
+  pub distants-many : (most : ℕ) → most ≡ mostDistantsOf (L .version) → most < L .distants → false ≡ fits L
   unfolding fits
-  distants-many most e h = every-fails _ 7 (lt-leb (L .distants) (distantsOf (L .version)) (omega arith))
+  distants-many most e h = every-fails _ 7 (lt-leb (L .distants) (mostDistantsOf (L .version)) (omega arith))
 
   -- no more: as many as there may be, or fewer
-  pub few-distants : (most : ℕ) → most ≡ distantsOf (L .version) → L .distants ≤ most → L .distants ≤ mostDistants
+  pub few-distants : (most : ℕ) → most ≡ mostDistantsOf (L .version) → L .distants ≤ most → L .distants ≤ mostDistants
   few-distants most e h = omega (arith, version-most (L .version))
 
   -- the walks over lines, distants and routes, with the other tests, are the whole test
@@ -196,7 +196,7 @@ module _ (L : Layout) where
       → d ≡ allBelow (L .lines) (lineKeeps 0 (counts L) (L .line)) → n ≡ signalCount (L .signals) (L .lines) (L .line)
       → g ≡ allBelow (L .distants) (distantKeeps 0 n (L .carrier) (L .announced))
       → e ≡ allBelow (L .routes) (λ r. routeKeeps 0 (counts L) (L .line) 0 (route (L .route) r)) → f ≡ allBelow (L .sections) (λ g. leb (getD (L .fitted) g 0) 1)
-      → v ≡ between 1 lastVersion (L .version) → most ≡ distantsOf (L .version) → L .distants ≤ most → L .routes ≤ mostTrainRoutes
+      → v ≡ between 1 lastVersion (L .version) → most ≡ mostDistantsOf (L .version) → L .distants ≤ most → L .routes ≤ mostTrainRoutes
       → v && (a && (leb (L .points) mostPoints && (b && (leb (L .signals) mostSignals && (leb (L .lines) mostLines && (d && (g && (e && (f && eqb (L .lacking) 0))))))))) ≡ fits L
   unfolding fits every signalsIn
   fits-made v a b d e f g n most p q x c w y z u m h k =

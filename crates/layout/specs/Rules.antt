@@ -37,7 +37,7 @@ rule5 L = allBelow (L .routes) (λ r. routeEnds (L .lines) (L .line) (routeIn L 
 unfoldable pub rule6 : Layout → Bool
 rule6 L = allBelow (L .routes) (λ r. allBelow r (λ q. implies (clashes (routeIn L r) (routeIn L q)) (conflict L r q)))
 
--- 7 (L2): a distant that announces its own carrier
+-- 7 (L2): no distant announces its own carrier
 unfoldable pub rule7 : Layout → Bool
 rule7 L = allBelow (L .distants) (λ d. not (announcesCarrier (carrierOf L d) (announcedBy L d)))
 

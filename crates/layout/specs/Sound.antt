@@ -8,7 +8,7 @@ use Rattle.laws.specs.Tests.{_and_, every, allBelow}
 use Rattle.track.specs.Sizes.{mostSections, mostPoints, mostSignals, mostLines, mostTrainRoutes, lastVersion}
 use Rattle.track.specs.Lists.{between}
 use Rattle.track.specs.Ranges.{lineFits, distantFits, routeFits}
-use Rattle.file_objects.specs.Distants.{distantsOf}
+use Rattle.file_objects.specs.Distants.{mostDistantsOf}
 use Rattle.layout.specs.declared.Layout.{Layout}
 use Rattle.layout.specs.Layout.{counts, lineIn, signalsIn, carrierOf, announcedBy, routeIn, entryOf}
 use Rattle.layout.specs.Rules.{broken}
@@ -28,7 +28,7 @@ fits L = every (
     ∷ leb (L .signals) mostSignals
     ∷ leb (L .lines) mostLines
     ∷ allBelow (L .lines) (λ l. lineFits (counts L) (lineIn L l))
-    ∷ leb (L .distants) (distantsOf (L .version))
+    ∷ leb (L .distants) (mostDistantsOf (L .version))
     ∷ allBelow (L .distants) (λ d. distantFits (signalsIn L) (carrierOf L d) (announcedBy L d))
     ∷ leb (L .routes) mostTrainRoutes
     ∷ allBelow (L .routes) (λ r. routeFits (counts L) (routeIn L r))

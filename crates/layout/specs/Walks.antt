@@ -34,7 +34,7 @@ routeKeeps k c ls blocks a =
     else if eqb k 4 then routeLength a
     else routeEnds (c .lines) ls a
 
--- distant d keeps rule 7; 0 for k asks that its numbers are in range, of so many signals
+-- distant d keeps rule 7 (L2); 0 for k asks that its numbers are in range, of so many signals
 unfoldable pub distantKeeps : ℕ → ℕ → List ℕ → List ℕ → ℕ → Bool
 distantKeeps k signals carriers announced d =
     if eqb k 0 then distantFits signals (getD carriers d 0) (getD announced d 0) else not (announcesCarrier (getD carriers d 0) (getD announced d 0))

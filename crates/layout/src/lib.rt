@@ -182,7 +182,7 @@ fn in_range(l: Layout) -> bool
     if MOST_POINTS < l.points {
         return false;
     }
-    if file_objects::distants_of(l.version) < l.distants {
+    if file_objects::most_distants_of(l.version) < l.distants {
         return false;
     }
     if MOST_TRAIN_ROUTES < n {

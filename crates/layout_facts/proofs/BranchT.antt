@@ -14,7 +14,7 @@ use Rattle.track.specs.Lists.{among, allDiffer, between, referring, positions}
 use Rattle.track.specs.Ranges.{pointsFit, lineFits, routeFits}
 use Rattle.file_objects.specs.Sections.{noSections, sectionTurn, sections}
 use Rattle.file_objects.specs.Lines.{aLine, noLines, lineTurn, linesFrom, lines}
-use Rattle.file_objects.specs.Distants.{distantsOf, withoutDistants, distants}
+use Rattle.file_objects.specs.Distants.{mostDistantsOf, withoutDistants, distants}
 use Rattle.file_objects.specs.Routes.{anEnd, lineAndEnd, routeHead, aRoute, noRoutes, routeTurn, routesFrom, routes}
 use Rattle.pairs.specs.Pairs.{placeOf, noPairs, counted, pairCount, comesAfter, inOrder, pairOf, ordered, aPair, listed, pairTurn, noPair, pairsFrom, named, pairs}
 use Rattle.rules.specs.Rules.{share, hasBlock, isBlock, hasInner, isInner, inPath, hasEntrance, isEntrance, once, lineEnds, linePoints, routeLists, routeLength, routeEnds, hasPoint, clashes}
@@ -29,7 +29,7 @@ unfoldable pub computed : ℕ
 unfolding if_then_else_ _and_ _or_ implies every allBelow anyBelow iter
     groupsAt atMost numberAt failed judge field code reference itemTurn items pointTurn points
     noLine noRoute line route inner entrance inBlock blocksDiffer among allDiffer between referring positions pointsFit lineFits routeFits
-    noSections sectionTurn sections aLine noLines lineTurn linesFrom lines distantsOf withoutDistants distants anEnd lineAndEnd routeHead aRoute noRoutes routeTurn routesFrom routes
+    noSections sectionTurn sections aLine noLines lineTurn linesFrom lines mostDistantsOf withoutDistants distants anEnd lineAndEnd routeHead aRoute noRoutes routeTurn routesFrom routes
     placeOf noPairs counted pairCount comesAfter inOrder pairOf ordered aPair listed pairTurn noPair pairsFrom named pairs
     share hasBlock isBlock hasInner isInner inPath hasEntrance isEntrance once lineEnds linePoints routeLists routeLength routeEnds hasPoint clashes
     noneFitted counts lineIn routeIn entryOf conflict rule1 rule2 rule3 rule4 rule5 rule6 rule7 firstFailed broken

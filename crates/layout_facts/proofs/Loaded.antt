@@ -16,7 +16,8 @@ use Rattle.track.specs.Sizes.{mostSections, mostPoints, mostSignals, mostLines,
 use Rattle.track.specs.Lists.{between}
 use Rattle.track.specs.Ranges.{lineFits}
 use Rattle.fields.proofs.Ranges.{Known, code-known, code-most, code-in}
-use Rattle.file_objects.proofs.Ranges.{between-from, sections-known, sections-in, lines-known, lines-in, distants-known, distants-in, routes-known, routes-in}
+use Rattle.file_objects.proofs.Ranges.{between-from, sections-known, sections-in, lines-known, lines-in, routes-known, routes-in}
+use Rattle.file_objects.proofs.DistantRanges.{distants-known, distants-in}
 use Rattle.pairs.proofs.Ranges.{Said, neither, both, pairs-known, pairs-in}
 use Rattle.layout.specs.declared.Loaded.{Loaded}
 use Rattle.layout.specs.declared.file.Whole.{Whole}

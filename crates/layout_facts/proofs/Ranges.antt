@@ -16,7 +16,7 @@ use Rattle.track.specs.Sizes.{mostDistants, mostListed}
 use Rattle.track.specs.Objects.{inner, entrance}
 use Rattle.track.specs.Ranges.{pointsFit, lineFits, distantFits, routeFits}
 use Rattle.track.proofs.OnlySection.{only-in, in-only}
-use Rattle.file_objects.specs.Distants.{distantsVersion, distantsOf}
+use Rattle.file_objects.specs.Distants.{distantsVersion, mostDistantsOf}
 use Rattle.layout.specs.declared.Layout.{Layout}
 use Rattle.layout.specs.Layout.{counts, lineIn, signalsIn, carrierOf, announcedBy, routeIn}
 use Rattle.layout.specs.Sound.{sectionsFit, fits}
@@ -95,8 +95,8 @@ routeFits-means L r =
     )
 
 -- no more distants than the version has: at most 32, and in version 1 none
-of-version : (version distants : ℕ) → distants ≤ distantsOf version ↔ (distants ≤ mostDistants) × (version < distantsVersion → distants ≡ 0)
-unfolding distantsOf
+of-version : (version distants : ℕ) → distants ≤ mostDistantsOf version ↔ (distants ≤ mostDistants) × (version < distantsVersion → distants ≡ 0)
+unfolding mostDistantsOf
 of-version version distants =
     if-both (λ n. distants ≤ n ↔ (distants ≤ mostDistants) × (version < distantsVersion → distants ≡ 0)) (ltb version distantsVersion)
     (λ t. (λ h. (omega arith, λ l. omega arith), λ s. omega (arith, s .1 (ltb-true version distantsVersion t))))

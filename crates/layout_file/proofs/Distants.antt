@@ -4,7 +4,6 @@ use mathlib.Core.Path.{_≡_, refl, sym, subst}
 use mathlib.Core.List.{List, [], _∷_}
 use native.Mathlib.Omega.{arith}
 use borrow.Author.Tests.{ltb-true}
-use lib.Dec.{ltb}
 use lib.ListN.{getD, replicate, length-replicate}
 use Rattle.laws.specs.Choice.{if_then_else_}
 use Rattle.laws.proofs.Choice.{Is, which, holds, fails}
@@ -12,11 +11,11 @@ use Rattle.numbers.specs.Number.{largest}
 use Rattle.numbers.specs.Form.{Bytes}
 use Rattle.track.specs.Sizes.{mostDistants}
 use Rattle.fields.specs.declared.Cursor.{Cursor}
-use Rattle.fields.specs.Fields.{code, reference, noneOrReference}
+use Rattle.fields.specs.Fields.{code, noneOrReference}
 use Rattle.fields.proofs.Ranges.{code-most}
 use Rattle.file_objects.specs.declared.distants.Distants.{Distants}
-use Rattle.file_objects.specs.Distants.{distantsVersion, noDistants, withoutDistants, distantTurn, distantsFrom, distants}
-use Rattle.file_objects.proofs.Ranges.{from-count}
+use Rattle.file_objects.specs.Distants.{listsNone, noDistants, withoutDistants, carrierRead, announcedRead, distantTurn, distantsFrom, distants}
+use Rattle.file_objects.proofs.DistantRanges.{from-count}
 use Rattle.layout.specs.declared.Layout.{Layout}
 use Rattle.layout.specs.Layout.{signalsIn, carrierOf, announcedBy}
 use Rattle.layout_facts.specs.Plain.{Ranges}
@@ -29,14 +28,6 @@ use Rattle.layout_file.proofs.Turns.{both-read, copied-start, copied-al
 use Rattle.layout_file.proofs.Listings.{listing-stands, both-give}
 use Rattle.layout_file.proofs.Signals.{signals-most}
 
--- what is read of a distant: its carrier, then the signal announced
-module _ (s : List ℕ) (signals : ℕ) where
-  abbrev carrierRead : Distants → Cursor
-  carrierRead t = noneOrReference s (t .cur) signals
-
-  abbrev announcedRead : Distants → Cursor
-  announcedRead t = reference s (carrierRead t) signals
-
 -- ---- what was read stands there
 
 module _ (s : List ℕ) (b : Bytes s) (signals : ℕ) (c : Cursor) where
@@ -48,11 +39,11 @@ module _ (s : List ℕ) (b : Bytes s) (signals : ℕ) (c : Cursor) where
   unfolding distantsFrom distantTurn noDistants noneOrReference
   from-stands e =
       listing-stands s c 0 mostDistants b _ _ _ (from-count s signals (code s c 0 mostDistants))
-      (both-read s (λ (t : Distants). t .cur) (λ t. t .carrier) (λ t. t .announced) (λ t. carrierRead s signals t .value) (λ t. announcedRead s signals t .value)
+      (both-read s (λ (t : Distants). t .cur) (λ t. t .carrier) (λ t. t .announced) (λ t. carrierRead s signals (t .cur) .value) (λ t. announcedRead s signals (t .cur) .value)
       (distantTurn s signals) (λ i t. (refl, refl)) mostDistants _ _ (length-replicate {A = ℕ} mostDistants 0, length-replicate {A = ℕ} mostDistants 0)
       (code-most s c 0 mostDistants refl)
       (λ i t w.
-      let announced = reference-stands s b (carrierRead s signals t) signals w in
+      let announced = reference-stands s b (carrierRead s signals (t .cur)) signals w in
       let carrier = reference-stands s b (t .cur) (signals + 1) (announced .0) in
       (carrier .0, stand-then s (carrier .1) (announced .1))) e)
 
@@ -61,9 +52,9 @@ module _ (s : List ℕ) (b : Bytes s) (signals : ℕ) (c : Cursor) where
       → (c .fault ≡ 0) × Stand s (c .at) (distantNumbers version (distants s version signals c .count) (distants s version signals c .carrier)
       (distants s version signals c .announced)) (distants s version signals c .cur .at)
   unfolding distants withoutDistants distantNumbers if_then_else_
-  distants-stand version = by (which (ltb version distantsVersion))
+  distants-stand version = by (which (listsNone version))
     where
-      by : Is (ltb version distantsVersion) → distants s version signals c .cur .fault ≡ 0
+      by : Is (listsNone version) → distants s version signals c .cur .fault ≡ 0
           → (c .fault ≡ 0) × Stand s (c .at) (distantNumbers version (distants s version signals c .count) (distants s version signals c .carrier)
           (distants s version signals c .announced)) (distants s version signals c .cur .at)
       by (holds t) = rw t (λ e. (e, stand-none s (c .at)))
@@ -86,8 +77,8 @@ module _ (s : List ℕ) (L : Layout) (ranges : Ranges L) (bare : Bare L) (c : Cu
   from-give p =
       let few : signalsIn L + 1 ≤ largest = omega (arith, signals-most L ranges) in
       let r =
-      both-give s c 0 mostDistants (λ (t : Distants). t .cur) (λ t. t .count) (λ t. t .carrier) (λ t. t .announced) (λ t. carrierRead s (signalsIn L) t .value)
-      (λ t. announcedRead s (signalsIn L) t .value) (distantTurn s (signalsIn L)) (λ i t. (refl, refl)) (λ i t. refl) mostDistants
+      both-give s c 0 mostDistants (λ (t : Distants). t .cur) (λ t. t .count) (λ t. t .carrier) (λ t. t .announced) (λ t. carrierRead s (signalsIn L) (t .cur) .value)
+      (λ t. announcedRead s (signalsIn L) (t .cur) .value) (distantTurn s (signalsIn L)) (λ i t. (refl, refl)) (λ i t. refl) mostDistants
       (λ v. record { cur = code s c 0 mostDistants; count = v; carrier = replicate mostDistants 0; announced = replicate mostDistants 0 }) (λ v. (refl, refl, refl, refl))
       (L .carrier) (L .announced) at (L .distants) next k (omega arith) (ranges .distantCount) (omega arith) (ranges .distantCount)
       (bare .tables .carrier, bare .tables .announced) (bare .past .distants)
@@ -95,7 +86,7 @@ module _ (s : List ℕ) (L : Layout) (ranges : Ranges L) (bare : Bare L) (c : Cu
       let first = stand-first s a b (getD (L .carrier) i 0 ∷ []) (getD (L .announced) i 0 ∷ []) q in
       let rest = stand-rest s a b (getD (L .carrier) i 0 ∷ []) (getD (L .announced) i 0 ∷ []) q in
       let carrier = reference-gives s (t .cur) (signalsIn L + 1) a (getD (L .carrier) i 0) _ d first (omega (arith, carrier-few L i (ranges .distants i j))) few in
-      let announced = reference-gives s (carrierRead s (signalsIn L) t) (signalsIn L) _ (getD (L .announced) i 0) b (carrier .clear) rest (ranges .distants i j .announced) (omega arith) in
+      let announced = reference-gives s (carrierRead s (signalsIn L) (t .cur)) (signalsIn L) _ (getD (L .announced) i 0) b (carrier .clear) rest (ranges .distants i j .announced) (omega arith) in
       (announced .clear, carrier .value, announced .value)) p in
       record { clear = r .0; count = r .1; carrier = r .2; announced = r .3 }
 
@@ -103,9 +94,9 @@ module _ (s : List ℕ) (L : Layout) (ranges : Ranges L) (bare : Bare L) (c : Cu
   pub distants-give : Stand s at (distantNumbers (L .version) (L .distants) (L .carrier) (L .announced)) next
       → DistantsGiven L next (distants s (L .version) (signalsIn L) c)
   unfolding distants withoutDistants distantNumbers noDistants if_then_else_ carrierOf announcedBy
-  distants-give = by (which (ltb (L .version) distantsVersion))
+  distants-give = by (which (listsNone (L .version)))
     where
-      by : Is (ltb (L .version) distantsVersion) → Stand s at (distantNumbers (L .version) (L .distants) (L .carrier) (L .announced)) next
+      by : Is (listsNone (L .version)) → Stand s at (distantNumbers (L .version) (L .distants) (L .carrier) (L .announced)) next
           → DistantsGiven L next (distants s (L .version) (signalsIn L) c)
       by (holds t) =
           rw t (λ p.

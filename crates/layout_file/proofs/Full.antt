@@ -20,7 +20,7 @@ use Rattle.track.specs.Ranges.{pointsFit, lineFits, distantFits, routeFits}
 use Rattle.track.specs.SignalNumbers.{lineSignals, blockSignals, allSignals, signalCount}
 use Rattle.rules.specs.Rules.{share, hasBlock, isBlock, hasInner, isInner, inPath, hasEntrance, isEntrance}
 use Rattle.rules.specs.Rules.{once, lineEnds, linePoints, routeLists, routeLength, routeEnds, announcesCarrier}
-use Rattle.file_objects.specs.Distants.{distantsOf}
+use Rattle.file_objects.specs.Distants.{mostDistantsOf}
 use Rattle.pairs.specs.Pairs.{placeOf}
 use Rattle.layout.specs.Layout.{noneFitted, counts, lineIn, signalsIn, carrierOf, announcedBy, routeIn, entryOf, conflict}
 use Rattle.layout.specs.Rules.{rule1, rule2, rule3, rule4, rule5, rule6, rule7}
@@ -90,7 +90,7 @@ full-signals = refl
 
 -- every number is in its range
 full-fits : fits fullLayout ≡ true
-unfolding fits every between _and_ _or_ allBelow sectionsFit distantsOf lineFits routeFits pointsFit referring positions counts lineIn line
+unfolding fits every between _and_ _or_ allBelow sectionsFit mostDistantsOf lineFits routeFits pointsFit referring positions counts lineIn line
     table tableFrom upFrom allLeft fullLine fullRoute fullLayout noneFitted if_then_else_
 full-fits = rw (full-distants (distantFits (signalsIn fullLayout)) full-signals, full-routes (routeFits (counts fullLayout)) refl)
 

@@ -3,7 +3,6 @@ use Prim.Native.Nat.{ℕ}
 use mathlib.Core.Path.{_≡_, refl, sym, subst}
 use mathlib.Core.List.{List}
 use borrow.Author.Tests.{eq-eqb}
-use lib.Dec.{ltb}
 use lib.ListN.{length, length-replicate}
 use Rattle.laws.specs.Choice.{if_then_else_}
 use Rattle.laws.proofs.Choice.{if-both}
@@ -18,7 +17,7 @@ use Rattle.track.specs.Objects.{noLine, noRoute, line, route}
 use Rattle.fields.specs.declared.Cursor.{Cursor}
 use Rattle.fields.specs.declared.Items.{Items}
 use Rattle.fields.specs.declared.Points.{Points}
-use Rattle.fields.specs.Fields.{code, reference, noneOrReference}
+use Rattle.fields.specs.Fields.{code, reference}
 use Rattle.fields.specs.Lists.{itemTurn, items, pointTurn, points}
 use Rattle.file_objects.specs.declared.Owned.{Owned}
 use Rattle.file_objects.specs.declared.Lines.{Lines}
@@ -26,7 +25,7 @@ use Rattle.file_objects.specs.declared.distants.Distants.{Distants}
 use Rattle.file_objects.specs.declared.Routes.{Routes}
 use Rattle.file_objects.specs.Sections.{sectionTurn, sections, noSections}
 use Rattle.file_objects.specs.Lines.{aLine, noLines, lineTurn, linesFrom, lines}
-use Rattle.file_objects.specs.Distants.{distantsVersion, noDistants, withoutDistants, distantTurn, distantsFrom, distants}
+use Rattle.file_objects.specs.Distants.{listsNone, noDistants, withoutDistants, carrierRead, announcedRead, distantTurn, distantsFrom, distants}
 use Rattle.file_objects.specs.Routes.{lineAndEnd, routeHead, aRoute, noRoutes, routeTurn, routesFrom, routes}
 use Rattle.pairs.specs.declared.Pairs.{Pairs}
 use Rattle.pairs.specs.Pairs.{noPairs, aPair, pairTurn, pairsFrom, named, pairs}
@@ -71,10 +70,10 @@ module _ (s : List ℕ) (c : Cursor) where
   unfolding distants withoutDistants distantsFrom distantTurn noDistants
   distants-long version signals =
       let none = length-replicate {A = ℕ} mostDistants 0 in
-      if-both (λ (t : Distants). (length (t .carrier) ≡ mostDistants) × (length (t .announced) ≡ mostDistants)) (ltb version distantsVersion) (λ t. (none, none))
+      if-both (λ (t : Distants). (length (t .carrier) ≡ mostDistants) × (length (t .announced) ≡ mostDistants)) (listsNone version) (λ t. (none, none))
       (λ t. (
-        entries-long (λ (t : Distants). t .carrier) (λ t. noneOrReference s (t .cur) signals .value) (distantTurn s signals) (λ i t. refl) mostDistants _ _ none,
-        entries-long (λ (t : Distants). t .announced) (λ t. reference s (noneOrReference s (t .cur) signals) signals .value) (distantTurn s signals) (λ i t. refl) mostDistants _ _ none,
+        entries-long (λ (t : Distants). t .carrier) (λ t. carrierRead s signals (t .cur) .value) (distantTurn s signals) (λ i t. refl) mostDistants _ _ none,
+        entries-long (λ (t : Distants). t .announced) (λ t. announcedRead s signals (t .cur) .value) (distantTurn s signals) (λ i t. refl) mostDistants _ _ none,
       ))
 
 -- ---- lines and routes

@@ -3,7 +3,7 @@ use Prim.Native.Nat.{ℕ, _+_, _<_, _≤_}
 use mathlib.Core.Path.{refl}
 use mathlib.Core.List.{List}
 use native.Mathlib.Omega.{arith}
-use lib.Dec.{eqb, ltb}
+use lib.Dec.{eqb}
 use Rattle.laws.proofs.Choice.{if-both}
 use Rattle.laws.proofs.Loops.{iter-keeps}
 use Rattle.track.specs.declared.Counts.{Counts}
@@ -24,7 +24,7 @@ use Rattle.file_objects.specs.declared.OneRoute.{OneRoute}
 use Rattle.file_objects.specs.declared.Routes.{Routes}
 use Rattle.file_objects.specs.Sections.{sectionTurn, sections}
 use Rattle.file_objects.specs.Lines.{aLine, noLines, lineTurn, linesFrom, lines}
-use Rattle.file_objects.specs.Distants.{distantsVersion, noDistants, withoutDistants, distantTurn, distantsFrom, distants}
+use Rattle.file_objects.specs.Distants.{listsNone, noDistants, withoutDistants, distantTurn, distantsFrom, distants}
 use Rattle.file_objects.specs.Routes.{anEnd, lineAndEnd, routeHead, aRoute, noRoutes, routeTurn, routesFrom, routes}
 use Rattle.pairs.specs.declared.Pair.{Pair}
 use Rattle.pairs.specs.declared.PairRead.{PairRead}
@@ -151,7 +151,7 @@ module _ {s s′ : List ℕ} {k : ℕ} (A : Alike s s′ k) where
         (code-most s c 0 mostDistants refl) (code-near A c 0 mostDistants (omega arith) (omega arith)) h in
         record {
           same = rw (p .same);
-          moved = if-both (λ (t : Distants). t .cur .at ≤ c .at + distantsSpan) (ltb version distantsVersion) (λ t. omega arith) (λ t. p .moved);
+          moved = if-both (λ (t : Distants). t .cur .at ≤ c .at + distantsSpan) (listsNone version) (λ t. omega arith) (λ t. p .moved);
         }
 
   -- all routes

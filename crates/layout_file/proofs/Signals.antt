@@ -10,7 +10,7 @@ use Rattle.track.specs.declared.Line.{Line}
 use Rattle.track.specs.Sizes.{mostSignals, mostLines, mostBlocks}
 use Rattle.track.specs.Objects.{line}
 use Rattle.track.specs.SignalNumbers.{betweenBlocks, signalCount}
-use Rattle.track.proofs.SignalNumbers.{count-mains, count-line}
+use Rattle.track.proofs.SignalNumbers.{count-mains, count-line, signals-few}
 use Rattle.layout.specs.declared.Layout.{Layout}
 use Rattle.layout.specs.Layout.{lineIn, signalsIn}
 use Rattle.layout_facts.specs.Plain.{Ranges}
@@ -46,4 +46,5 @@ module _ (L : Layout) (R : Ranges L) where
 
   -- so there are at most 32 main signals and fourteen block signals in each of eight lines
   pub signals-most : signalsIn L ≤ mostSignals + mostLines * 14
-  signals-most = omega (arith, signals-blocks, blocks-most, R .signalCount, R .lineCount)
+  unfolding signalsIn lineIn
+  signals-most = omega (arith, signals-few (L .signals) (L .line) (L .lines) (λ l b. R .lines l b .blockCount .1), R .signalCount, R .lineCount)

@@ -25,7 +25,7 @@ allLeft = replicate mostListed left
 abbrev inside : ℕ
 inside = mostListed
 
--- the lines: one fewer than there may be, since 64 sections have no more blocks
+-- the lines: one fewer than there may be, since of 56 blocks beside a path of eight seven lines have more signals than eight (L2)
 abbrev pub fullLines : ℕ
 fullLines = mostLines - 1
 

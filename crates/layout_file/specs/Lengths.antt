@@ -59,8 +59,9 @@ buffer = 65536
 
 -- ---- the most bytes of a file that loads
 
--- all blocks and the sections of one path are different sections: beside paths of eight there are eight blocks fewer than the span has. A whole line of
--- eight is missing, and not a block of each line, since 56 blocks in seven lines have more than 128 signals, and in eight lines not (L2); so 4,363
+-- all blocks and the sections of one path are different sections, so beside paths of eight there are 56 blocks. In seven lines they make 130 signals, and
+-- both numbers of a distant take two bytes; in eight lines 128, and an announced number takes one: so a whole line is missing, and not a block of each (L2).
+-- 4,363
 abbrev pub longest : ℕ
 longest = wholeSpan - lineSpan
 

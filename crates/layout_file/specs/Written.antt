@@ -10,7 +10,7 @@ use Rattle.numbers.specs.Form.{encode}
 use Rattle.track.specs.declared.Line.{Line}
 use Rattle.track.specs.declared.Route.{Route}
 use Rattle.track.specs.Codes.{innerRoute}
-use Rattle.file_objects.specs.Distants.{distantsVersion}
+use Rattle.file_objects.specs.Distants.{listsNone}
 use Rattle.pairs.specs.declared.Pair.{Pair}
 use Rattle.layout.specs.declared.Layout.{Layout}
 use Rattle.layout.specs.Layout.{lineIn, routeIn, conflict}
@@ -42,7 +42,7 @@ lineNumbers a = flatten (
 -- distants (L2), from version 2 on: each 0 if free-standing or the carrying signal plus 1, then the signal announced
 unfoldable pub distantNumbers : ℕ → ℕ → List ℕ → List ℕ → List ℕ
 distantNumbers version n carriers announced =
-    if ltb version distantsVersion then [] else listing n (λ d. getD carriers d 0 ∷ getD announced d 0 ∷ [])
+    if listsNone version then [] else listing n (λ d. getD carriers d 0 ∷ getD announced d 0 ∷ [])
 
 -- for kinds 1 and 2 the line and the end
 unfoldable pub endNumbers : Route → List ℕ

@@ -14,8 +14,8 @@ use Rattle.laws.proofs.Choice.{if-true, if-false, if-lt, if-ge}
 use Rattle.laws.proofs.Tests.{and-left, and-right, and-both, every-at, every-one, every-more, fails-from, not-both}
 use Rattle.track.specs.Sizes.{mostDistants}
 use Rattle.track.specs.Lists.{between}
-use Rattle.file_objects.specs.Distants.{distantsOf}
-use Rattle.file_objects.proofs.Ranges.{version-most}
+use Rattle.file_objects.specs.Distants.{mostDistantsOf}
+use Rattle.file_objects.proofs.DistantRanges.{version-most}
 use Rattle.layout.specs.declared.Layout.{Layout}
 use Rattle.layout.specs.Sound.{fits, sound}
 use Rattle.interlocking.specs.declared.State.{State}
@@ -23,7 +23,7 @@ use Rattle.interlocking.specs.State.{inRange}
 use Rattle.interlocking.specs.declared.Core.{Core}
 use Rattle.interlocking.specs.Parts.{coreOf, bare}
 use Rattle.panel.specs.declared.Drawn.{Drawn}
-use Rattle.panel.specs.Panel.{signalByte, distantByte, image, panelLength, refused, answerWhere, drawnWhere, answer, drawn, panelAskedInRun, answerInRun, drawnInRun}
+use Rattle.panel.specs.Panel.{signalShows, distantByte, image, panelLength, refused, answerWhere, drawnWhere, answer, drawn, panelAskedInRun, answerInRun, drawnInRun}
 use Rattle.panel.specs.Writes.{FitsTables}
 use Rattle.panel.proofs.Laws.{length-image}
 
@@ -46,7 +46,7 @@ sound-asked : (L : Layout) → sound L ≡ true → panelAskedInRun L ≡ true
 unfolding sound fits panelAskedInRun
 sound-asked L e =
     let f : fits L ≡ true = every-at _ e 0 in
-    let few : L .distants ≤ distantsOf (L .version) = leb-true _ _ (every-at _ f 7) in
+    let few : L .distants ≤ mostDistantsOf (L .version) = leb-true _ _ (every-at _ f 7) in
     every-more _ _ _ (every-at _ f 1) (every-more _ _ _ (every-at _ f 2) (every-more _ _ _ (every-at _ f 4)
     (every-more _ _ _ (every-at _ f 9) (every-more _ _ _ (le-leb (L .distants) mostDistants (omega (arith, few, version-most (L .version))))
     (every-more _ _ _ (every-at _ f 5) (every-one _ (every-at _ f 12)))))))
@@ -137,7 +137,7 @@ module _ (L : Layout) (s : State) (buffer : List ℕ) where
 
 -- what is drawn of the nine tables is drawn of the state: the image looks at no heads
 pub core-drawn : (L : Layout) (s : State) (buffer : List ℕ) (c : Core) (r : Drawn) (after : List ℕ) → c ≡ coreOf s → Answered L (bare c) buffer true r after → Answered L s buffer true r after
-unfolding answerWhere drawnWhere image distantByte signalByte coreOf
+unfolding answerWhere drawnWhere image distantByte signalShows coreOf
 core-drawn L s buffer c r after e a = rw e at a
 
 -- ---- the panel of a run

@@ -1,6 +1,6 @@
 -- Distants (L2): by the table of main signals, and by what the panel shows of signals, each shows what it shows; so what it tells a driver holds of the
 -- panel; and the image of a layout that has none is that of document 01.
-use Prim.Native.Nat.{ℕ, _<_, _≤_}
+use Prim.Native.Nat.{ℕ, _≤_}
 use mathlib.Core.Path.{_≡_, refl, sym, ap, subst, _∙_}
 use mathlib.Core.Bool.{true}
 use mathlib.Core.List.{List, append-nil}
@@ -23,16 +23,20 @@ use Rattle.signals.specs.Shows.{showsWith, shows, numberShownBy}
 use Rattle.signals.specs.Distants.{distantShows, Warns}
 use Rattle.signals.proofs.ByNumber.{numbers-same}
 use Rattle.signals.proofs.DistantLaws.{distant-warns}
-use Rattle.file_objects.specs.Distants.{distantsOf}
+use Rattle.file_objects.specs.Distants.{mostDistantsOf}
 use Rattle.layout.specs.declared.Layout.{Layout}
 use Rattle.layout.specs.Layout.{lineIn, carrierOf, announcedBy}
 use Rattle.layout.specs.Sound.{fits, sound}
 use Rattle.interlocking.specs.declared.State.{State}
-use Rattle.panel.specs.Panel.{signalByte, distantByte, image}
+use Rattle.panel.specs.Panel.{signalShows, distantByte, image}
 use Rattle.panel.specs.Writes.{distantBy}
-use Rattle.panel.specs.Shown.{panel}
-use Rattle.panel.specs.Distants.{numberShown, DistantsWarn, imageWithoutDistants}
+use Rattle.panel.specs.Shown.{Panel, panel}
+use Rattle.panel.specs.Distants.{numberRead, DistantsShow, DistantsWarn, imageWithoutDistants}
 use Rattle.panel.proofs.Image.{shows-main, shows-into, shows-distant}
+
+-- L2: what a distant shows is what a driver may trust, on any panel
+pub shows-warn : (L : Layout) (p : Panel) → DistantsShow L p → DistantsWarn L p
+shows-warn L p show d b = subst (Warns (numberRead L p) (carrierOf L d) (announcedBy L d)) (sym (show d b)) (distant-warns _ _ _)
 
 module _ (L : Layout) (s : State) where
   -- ---- by the table of what each main signal shows
@@ -49,8 +53,8 @@ module _ (L : Layout) (s : State) where
     table-shows (into l i w) b = refl
 
     -- so of each number
-    by-table : numberShownBy (L .signals) (L .lines) (L .line) mains (s .direction) (s .point) (s .stage) (s .bar) ≡ signalByte L s
-    unfolding numberShownBy signalByte
+    by-table : numberShownBy (L .signals) (L .lines) (L .line) mains (s .direction) (s .point) (s .stage) (s .bar) ≡ signalShows L s
+    unfolding numberShownBy signalShows
     by-table = numbers-same (L .signals) (L .lines) (L .line) _ _ table-shows
 
     -- and of each distant
@@ -68,17 +72,12 @@ module _ (L : Layout) (s : State) where
   panel-shows (into l i w) (b, h, d, u) =
       shows-into L s l i w b h d ∙ sym (chosen _ _ dark (⊎-elim (λ e. or-left _ _ (eq-eqb w aToB e)) (λ e. or-right _ _ (eq-eqb w bToA e)) d))
 
-  -- a distant that shows is what a distant shows of the signals that show beside it
-  pub distant-read : (d : ℕ) → d < L .distants
-      → panel L (image L s) .distant d ≡ distantShows (numberShown L (panel L (image L s))) (carrierOf L d) (announcedBy L d)
-  unfolding distantByte signalByte
-  distant-read d b =
+  -- so each distant that the panel shows is what L2 says of the signals that it shows
+  pub distants-show : DistantsShow L (panel L (image L s))
+  unfolding distantByte signalShows
+  distants-show d b =
       shows-distant L s d b
       ∙ ap (λ (shown : ℕ → ℕ). distantShows shown (carrierOf L d) (announcedBy L d)) (sym (numbers-same (L .signals) (L .lines) (L .line) _ _ panel-shows))
-
-  -- L2: so what it tells a driver holds of what shows on the panel
-  pub distants-warn : DistantsWarn L (panel L (image L s))
-  distants-warn d b = subst (Warns (numberShown L (panel L (image L s))) (carrierOf L d) (announcedBy L d)) (sym (distant-read d b)) (distant-warns _ _ _)
 
   -- ---- a layout that has none
 
@@ -89,8 +88,8 @@ module _ (L : Layout) (s : State) where
 
   -- so is that of each sound layout of version 1, which has none
   pub version-1-image : sound L ≡ true → L .version ≡ 1 → image L s ≡ imageWithoutDistants L s
-  unfolding sound fits distantsOf if_then_else_
+  unfolding sound fits mostDistantsOf if_then_else_
   version-1-image h e =
-      let few : L .distants ≤ distantsOf (L .version) = leb-true _ _ (every-at _ (every-at _ h 0) 7) in
-      let none : distantsOf (L .version) ≡ 0 = ap distantsOf e in
+      let few : L .distants ≤ mostDistantsOf (L .version) = leb-true _ _ (every-at _ (every-at _ h 0) 7) in
+      let none : mostDistantsOf (L .version) ≡ 0 = ap mostDistantsOf e in
       without-distants (omega (arith, few, none))

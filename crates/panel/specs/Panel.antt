@@ -40,14 +40,14 @@ routeByte p = if eqb p idle then 0 else if eqb p cancelling then 2 else 1
 -- ---- distants
 
 -- what the signal of a number shows, of main and block signals (L2)
-unfoldable pub signalByte : Layout → State → ℕ → ℕ
-signalByte L s =
+unfoldable pub signalShows : Layout → State → ℕ → ℕ
+signalShows L s =
     numberShows (L .signals) (L .lines) (L .line)
     (shows (L .routes) (L .route) (s .phase) (L .line) (s .direction) (s .point) (s .stage) (s .bar))
 
 -- distant d, by what the signals show at the event's end: 23, 24, 25, or 0 if dark (L2)
 unfoldable pub distantByte : Layout → State → ℕ → ℕ
-distantByte L s d = distantShows (signalByte L s) (carrierOf L d) (announcedBy L d)
+distantByte L s d = distantShows (signalShows L s) (carrierOf L d) (announcedBy L d)
 
 -- ---- blocks
 

@@ -1,5 +1,5 @@
--- What shows after an event, read from the bytes of the panel image by the layout (section 7): section and point readings, signals, routes, distants, lines, then of
--- each block, line by line from A, its stage, its signal A to B and its signal B to A.
+-- What shows after an event, read from the bytes of the panel image by the layout (section 7, L2): section and point readings, signals, routes, distants,
+-- lines, then of each block, line by line from A, its stage, its signal A to B and its signal B to A.
 use Prim.Native.Nat.{ℕ, _+_, _*_}
 use mathlib.Core.List.{List}
 use lib.Dec.{eqb, ltb}
@@ -38,7 +38,7 @@ signalsFrom L = pointsFrom L + L .points
 abbrev pub routesFrom : Layout → ℕ
 routesFrom L = signalsFrom L + L .signals
 
--- of the distants
+-- of the distants (L2)
 abbrev pub distantsFrom : Layout → ℕ
 distantsFrom L = routesFrom L + L .routes
 

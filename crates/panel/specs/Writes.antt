@@ -38,7 +38,7 @@ blockBy stages bars n way placed l i =
 unfoldable pub lineBy : Line → List ℕ → List ℕ → List ℕ → List ℕ → ℕ → List ℕ
 lineBy b directions points stages bars l = join (b .blocks) (blockBy stages bars (b .blocks) (direction directions l) (linePlaced points b) l)
 
--- distant d, by the table of what each main signal shows
+-- distant d, by the table of what each main signal shows (L2)
 unfoldable pub distantBy : Layout → State → List ℕ → ℕ → ℕ
 distantBy L s mains d =
     distantShows (numberShownBy (L .signals) (L .lines) (L .line) mains (s .direction) (s .point) (s .stage) (s .bar)) (carrierOf L d) (announcedBy L d)
@@ -47,7 +47,7 @@ distantBy L s mains d =
 unfoldable pub readingBytes : Layout → State → List ℕ
 readingBytes L s = table (L .sections) (reading (s .section)) ++ table (L .points) (pointReading (s .point))
 
--- signals, routes, distants, lines
+-- signals, routes, distants (L2), lines
 unfoldable pub objectBytes : Layout → State → List ℕ
 objectBytes L s =
     table (L .signals) (mainShows (L .routes) (L .route) (s .phase))

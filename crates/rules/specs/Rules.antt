@@ -86,6 +86,6 @@ unfoldable pub clashes : Route → Route → Bool
 clashes a b =
     eqb (a .entry) (b .entry) or (share (inPath a) (inPath b) or (share (hasPoint left a) (hasPoint right b) or share (hasPoint right a) (hasPoint left b)))
 
--- rule 7 (L2), a distant that announces its own carrier, which is 0 if it is free-standing or the carrying signal plus 1
+-- rule 7 (L2), a distant announces its own carrier; the carrier is 0 if it is free-standing, else the carrying signal plus 1
 unfoldable pub announcesCarrier : ℕ → ℕ → Bool
 announcesCarrier carrier announced = eqb carrier (announced + 1)

@@ -253,7 +253,7 @@ pub fn clash(a: Reach, b: Reach) -> bool
     (a.entry == b.entry) | (path | (one | other))
 }
 
-// Rule 7 (request L2): whether a distant announces its own carrier, which is 0 if it is free-standing or the carrying signal plus 1.
+// Rule 7 (request L2): whether a distant announces its own carrier; the carrier is 0 if it is free-standing, else the carrying signal plus 1.
 pub fn announces_carrier(carrier: u8, announced: u8) -> bool
     ensures { λ r. ⌜ r ≡ announcesCarrier carrier announced ⌝ }
 {

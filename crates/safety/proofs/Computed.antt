@@ -44,7 +44,7 @@ use Rattle.axles.specs.Rounds.{around, signed}
 use Rattle.axles.specs.Heads.{silentHead, coldHeads, speaks, speaking, headAfter, net, number, readingOf, occupies, resets, sumAfter, proofAfter, withProof, proves, judged, axlesAfter, known, axlesReading}
 use Rattle.axles.specs.Heads as heads
 use Rattle.axles.specs.HeadLog.{says, hasTold, lastTold, bothSpeak, netTold, isReset, resetsIn, netAtReset, numberTold, occupiesTold, wasReset, provedTold, readingTold}
-use Rattle.panel.specs.Panel.{blocks, routeByte, signalByte, distantByte, blockBytes, lineBytes, image, panelLength, drawnWhere, drawn}
+use Rattle.panel.specs.Panel.{blocks, routeByte, signalShows, distantByte, blockBytes, lineBytes, image, panelLength, drawnWhere, drawn}
 use Rattle.panel.specs.Panel as panels
 use Rattle.step_facts.specs.Run.{box, boxInRun, stateAfter, answers, fromCold}
 use Rattle.panel.specs.Shown.{sectionShown, pointShown, signalShown, routeShown, distantShown, lineShown, blockShown}
@@ -79,7 +79,7 @@ runComputed = 0
 -- whoever unfolds this besides unfolds all that distants are made of (L2)
 unfoldable pub distantsComputed : ℕ
 unfolding noneOrReference noDistants distantTurn distantsFrom announcesCarrier carrierOf announcedBy lineSignals blockSignals allSignals signalCount signalOf
-    numberShows warning stopOrDark carrierDarkens distantShows signalByte distantByte
+    numberShows warning stopOrDark carrierDarkens distantShows signalShows distantByte
 distantsComputed = 0
 
 -- whoever unfolds this besides unfolds all that fitted sections, heads and the logs of them are made of (L1)

@@ -11,22 +11,23 @@ use Rattle.track.proofs.SignalNumbers.{number-stands, one-number}
 use Rattle.signals.specs.Aspects.{dark}
 use Rattle.signals.specs.Shows.{numberShows}
 use Rattle.signals.specs.Distants.{warning, Warns}
-use Rattle.signals.proofs.DistantLaws.{distant-warns, unless-carried}
+use Rattle.signals.proofs.DistantLaws.{unless-carried}
 use Rattle.layout.specs.declared.Layout.{Layout}
 use Rattle.layout.specs.Layout.{signalsIn, carrierOf, announcedBy}
 use Rattle.layout_facts.specs.Plain.{CarriedBy, Sound}
 use Rattle.layout_facts.proofs.Sound.{sound-says}
 use Rattle.fitted.proofs.InUse.{in-use-sound}
-use Rattle.panel.specs.Distants.{numberShown}
+use Rattle.panel.specs.Distants.{numberRead}
+use Rattle.panel.proofs.DistantLaws.{shows-warn}
 use Rattle.safety.specs.History.{History, shown, history}
 use Rattle.safety.specs.Exact.{Exact}
-use Rattle.safety.specs.Distants.{HasNumber, Announces, OnMast, StopOrDark, TellsOf, Distant, DistantsTell}
+use Rattle.safety.specs.Distants.{HasNumber, Announces, MayLight, TellsOf, Distant, DistantsTell}
 use Rattle.safety.proofs.Exact.{exact-run}
 
 module _ (L : Layout) (h : History) where
   -- what shows of the signal of each number
   abbrev numbered : ℕ → ℕ
-  numbered = numberShown L (shown L h)
+  numbered = numberRead L (shown L h)
 
   -- where signal x has number k, that number shows what the signal shows
   number-shows : (x : Signal) (k : ℕ) → HasNumber L x k → numbered k ≡ shown L h .signal x
@@ -48,10 +49,10 @@ module _ (L : Layout) (h : History) where
   module _ (S : Sound L) (X : Exact L h) (d : ℕ) (b : d < L .distants) where
     -- what it shows warns as a driver may trust it
     warns : Warns numbered (carrierOf L d) (announcedBy L d) (shown L h .distant d)
-    warns = rw (X .distants d b) (distant-warns numbered (carrierOf L d) (announcedBy L d))
+    warns = shows-warn L (shown L h) (X .distants) d b
 
     -- unless a mast's signal keeps it dark it shows the warning of the signal announced
-    unkept : ((y : Signal) → OnMast L d y → ¬ StopOrDark L h y) → shown L h .distant d ≡ warning (numbered (announcedBy L d))
+    unkept : MayLight L h d → shown L h .distant d ≡ warning (numbered (announcedBy L d))
     unfolding CarriedBy
     unkept free =
         X .distants d b

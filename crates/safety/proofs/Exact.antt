@@ -25,7 +25,7 @@ use Rattle.safety.specs.Locked.{Cancelled, Locked}
 use Rattle.safety.specs.Exact.{BlockExact, LineExact, RouteExact, Exact, ShowsExactly}
 use Rattle.step_facts.proofs.Entries.{phase, direction, stage}
 use Rattle.panel.proofs.Image.{shows-section, shows-point, shows-route, shows-line, shows-block}
-use Rattle.panel.proofs.DistantLaws.{distant-read}
+use Rattle.panel.proofs.DistantLaws.{distants-show}
 use Rattle.safety.proofs.Invariant.{Inv}
 use Rattle.safety.proofs.Waits.{few-stages}
 use Rattle.safety.proofs.SignalBytes.{main-exact, block-signal-exact}
@@ -118,7 +118,7 @@ module _ (L : Layout) (S : Sound L) (s : State) (h : History) (I : Inv L s h) wh
     routes = route-exact;
     mains = main-exact L s h I S;
     blockSignals = block-signal-exact L S s h I;
-    distants = λ d b. rw (I .seen) (distant-read L s d b);
+    distants = rw (I .seen) (distants-show L s);
   }
 
 -- on any sound layout

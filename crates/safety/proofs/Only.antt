@@ -134,7 +134,8 @@ module _ (L : Layout) (m : Moment) (h : History) (a b : List ℕ) (x : Exact L (
   unfolding shown
   distant-same d c =
       x .distants d c
-      ∙ ap (λ (f : Signal → ℕ). distantShows (numberShows (L .signals) (L .lines) (L .line) f) (carrierOf L d) (announcedBy L d)) (fun-ext signal-same) ∙ sym (y .distants d c)
+      ∙ ap (λ (f : Signal → ℕ). distantShows (numberShows (L .signals) (L .lines) (L .line) f) (carrierOf L d) (announcedBy L d)) (fun-ext signal-same)
+      ∙ sym (y .distants d c)
 
   -- a passage looks at the newest image for the line and the far signal alone
   passage-same : (l i w : ℕ) → Passage L l i w (showing m a ∷ h) → Passage L l i w (showing m b ∷ h)

@@ -10,23 +10,23 @@ use lib.Dec.{eqb, ltb}
 use Rattle.laws.specs.Tests.{_and_, _or_, anyBelow}
 use Rattle.laws.proofs.Tests.{and-left, and-right, or-cases, any-some}
 use Rattle.signals.specs.Aspects.{dark, stop}
-use Rattle.signals.specs.Distants.{distantShows, Warns}
-use Rattle.signals.proofs.DistantLaws.{distant-warns}
+use Rattle.signals.specs.Distants.{distantShows}
 use Rattle.layout.specs.declared.Layout.{Layout}
 use Rattle.layout.specs.Layout.{carrierOf, announcedBy}
 use Rattle.layout_facts.specs.Plain.{CarriedBy}
-use Rattle.panel.specs.Distants.{numberShown}
+use Rattle.panel.specs.Distants.{numberRead, DistantsWarn}
+use Rattle.panel.proofs.DistantLaws.{shows-warn}
 use Rattle.safety.specs.History.{History, shown}
 use Rattle.safety.specs.Exact.{Exact}
-use Rattle.safety.specs.WrongDistants.{Fault, permissive, litAtStop, unlike, Misled, layoutD, misleading}
+use Rattle.safety.specs.WrongDistants.{Fault, permissive, litAtStop, unlike, Misled, Drawn, misleading}
 use Rattle.safety.proofs.Computed.{runComputed, distantsComputed}
 
 -- ---- exactness refuses what misleads
 
 module _ (L : Layout) (h : History) (X : Exact L h) where
   -- an exact distant warns as a driver may trust it
-  warns : (d : ℕ) → d < L .distants → Warns (numberShown L (shown L h)) (carrierOf L d) (announcedBy L d) (shown L h .distant d)
-  warns d b = rw (X .distants d b) (distant-warns _ (carrierOf L d) (announcedBy L d))
+  warns : DistantsWarn L (shown L h)
+  warns = shows-warn L (shown L h) (X .distants)
 
   -- so it misleads nobody
   pub none-misled : (f : Fault) → Misled f L h → ⊥
@@ -40,7 +40,7 @@ module _ (L : Layout) (h : History) (X : Exact L h) where
 module _ (L : Layout) (h : History) where
   -- what shows of the signal of each number
   abbrev numbered : ℕ → ℕ
-  numbered = numberShown L (shown L h)
+  numbered = numberRead L (shown L h)
 
   -- some distant is so
   abbrev misledTest : Fault → Bool
@@ -75,20 +75,20 @@ module _ (L : Layout) (h : History) where
 
 -- ---- the runs
 
--- what is true of each history of a list
-abbrev pub EachHistory : (History → Type 0) → List History → Type 0
-EachHistory P [] = Unit {0}
-EachHistory P (h ∷ hs) = P h × EachHistory P hs
+-- what is true of each case of a list
+abbrev pub EachDrawn : (Drawn → Type 0) → List Drawn → Type 0
+EachDrawn P [] = Unit {0}
+EachDrawn P (c ∷ cs) = P c × EachDrawn P cs
 
 -- each passes the test
-abbrev passes : Fault → List History → Bool
+abbrev passes : Fault → List Drawn → Bool
 passes f [] = true
-passes f (h ∷ hs) = misledTest layoutD h f and passes f hs
+passes f (c ∷ cs) = misledTest (c .layout) (c .history) f and passes f cs
 
 -- and so is as it says
-each-misled : (f : Fault) (hs : List History) → passes f hs ≡ true → EachHistory (Misled f layoutD) hs
+each-misled : (f : Fault) (cs : List Drawn) → passes f cs ≡ true → EachDrawn (λ c. Misled f (c .layout) (c .history)) cs
 each-misled f [] t = tt
-each-misled f (h ∷ hs) t = (is-misled layoutD h f (and-left _ _ t), each-misled f hs (and-right _ _ t))
+each-misled f (c ∷ cs) t = (is-misled (c .layout) (c .history) f (and-left _ _ t), each-misled f cs (and-right _ _ t))
 
 -- computed
 tested : (f : Fault) → passes f (misleading f) ≡ true
@@ -98,5 +98,5 @@ tested litAtStop = refl
 tested unlike = refl
 
 -- after each of the runs a driver is misled
-pub wrong-distants-mislead : (f : Fault) → EachHistory (Misled f layoutD) (misleading f)
+pub wrong-distants-mislead : (f : Fault) → EachDrawn (λ c. Misled f (c .layout) (c .history)) (misleading f)
 wrong-distants-mislead f = each-misled f (misleading f) (tested f)

@@ -33,14 +33,18 @@ OnMast L d y = (k : ℕ) × CarriedBy L d k × HasNumber L y k
 abbrev pub StopOrDark : Layout → History → Signal → Type 0
 StopOrDark L h y = (shown L h .signal y ≡ stop) ⊎ (shown L h .signal y ≡ dark)
 
+-- no mast's signal keeps distant d dark: it is free-standing, or its carrier is lit and not at stop
+abbrev pub MayLight : Layout → History → ℕ → Type 0
+MayLight L h d = (y : Signal) → OnMast L d y → ¬ StopOrDark L h y
+
 -- ---- what it shows
 
 -- what distant d shows of signal x, which it announces
 pub record TellsOf (L : Layout) (h : History) (d : ℕ) (x : Signal) : Type 0 where
   -- "23 when that shows 20, 24 at 21, 25 at 22, dark when it is dark", unless a mast's signal keeps it dark
-  pub stops : ((y : Signal) → OnMast L d y → ¬ StopOrDark L h y) → shown L h .signal x ≡ 20 → shown L h .distant d ≡ 23
-  pub diverges : ((y : Signal) → OnMast L d y → ¬ StopOrDark L h y) → shown L h .signal x ≡ 21 → shown L h .distant d ≡ 24
-  pub proceeds : ((y : Signal) → OnMast L d y → ¬ StopOrDark L h y) → shown L h .signal x ≡ 22 → shown L h .distant d ≡ 25
+  pub stops : MayLight L h d → shown L h .signal x ≡ 20 → shown L h .distant d ≡ 23
+  pub diverges : MayLight L h d → shown L h .signal x ≡ 21 → shown L h .distant d ≡ 24
+  pub proceeds : MayLight L h d → shown L h .signal x ≡ 22 → shown L h .distant d ≡ 25
   pub darkens : shown L h .signal x ≡ dark → shown L h .distant d ≡ dark
   -- "on a main or block signal's mast also dark while that signal is at stop or dark"
   pub carried : (y : Signal) → OnMast L d y → StopOrDark L h y → shown L h .distant d ≡ dark
@@ -58,6 +62,10 @@ pub record Distant (L : Layout) (h : History) (d : ℕ) : Type 0 where
   pub one : (x : Signal) → Announces L d x → x ≡ announced
   pub tells : TellsOf L h d announced
 
--- on every layout in use, after every list of events from the cold start, every distant does
+-- every distant does
+abbrev pub AllTell : Layout → History → Type 0
+AllTell L h = (d : ℕ) → d < L .distants → Distant L h d
+
+-- on every layout in use, after every list of events from the cold start
 abbrev pub DistantsTell : Type 0
-DistantsTell = (L : Layout) → InUse L → (es : List Event) (d : ℕ) → d < L .distants → Distant L (history L es) d
+DistantsTell = (L : Layout) → InUse L → (es : List Event) → AllTell L (history L es)

@@ -13,13 +13,12 @@ use Rattle.laws.specs.Choice.{if_then_else_}
 use Rattle.track.specs.Codes.{neutral, aToB, bToA, openBlock, stage1, stage2}
 use Rattle.track.specs.Signal.{main, into}
 use Rattle.signals.specs.Aspects.{dark, stop}
-use Rattle.signals.specs.Shows.{numberShows}
-use Rattle.signals.specs.Distants.{distantShows}
 use Rattle.layout.specs.declared.Layout.{Layout}
-use Rattle.layout.specs.Layout.{lineIn, routeIn, carrierOf, announcedBy}
+use Rattle.layout.specs.Layout.{lineIn, routeIn}
 use Rattle.fitted.specs.InUse.{InUse}
 use Rattle.step_facts.specs.Run.{Event}
 use Rattle.panel.specs.Shown.{showsIdle, showsLocked, showsCancelling}
+use Rattle.panel.specs.Distants.{DistantsShow}
 use Rattle.safety.specs.History.{History, gaveBlock, sectionReads, shown, history}
 use Rattle.safety.specs.Locked.{Cancelled, Locked}
 use Rattle.safety.specs.Cleared.{Proceeds, Entered, Passage, Opened}
@@ -83,8 +82,7 @@ pub record Exact (L : Layout) (h : History) : Type 0 where
   pub routes : (r : ℕ) → r < L .routes → RouteExact L h r
   pub mains : (x : ℕ) → x < L .signals → MainSignalExact L h x
   pub blockSignals : (l i w : ℕ) → l < L .lines → i < lineIn L l .blocks → (w ≡ aToB) ⊎ (w ≡ bToA) → BlockSignalExact L h l i w
-  pub distants : (d : ℕ) → d < L .distants
-      → shown L h .distant d ≡ distantShows (numberShows (L .signals) (L .lines) (L .line) (shown L h .signal)) (carrierOf L d) (announcedBy L d)
+  pub distants : DistantsShow L (shown L h)
 
 -- on every layout in use, after every list of events from the cold start
 abbrev pub ShowsExactly : Type 0

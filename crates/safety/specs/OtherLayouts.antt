@@ -31,6 +31,18 @@ withDistants =
     ∷ 0
     ∷ []
 
+-- a line of three blocks, sections 1 to 3, and one of two, sections 5 and 6 (L2). Their block signals are 4 and 5, A to B, 6 and 7, B to A, of the first, and 8
+-- and 9 of the second; a free-standing distant announces 6
+abbrev pub threeAndTwo : List ℕ
+threeAndTwo =
+    2 ∷ 9 ∷ 0 ∷ 4 ∷ 2
+    ∷ 3 ∷ 1 ∷ 2 ∷ 3 ∷ 0 ∷ 4 ∷ 0 ∷ 1 ∷ 0
+    ∷ 2 ∷ 5 ∷ 6 ∷ 7 ∷ 8 ∷ 2 ∷ 3 ∷ 0
+    ∷ 1 ∷ 0 ∷ 6
+    ∷ 0
+    ∷ 0
+    ∷ []
+
 -- two lines, each of one block, sections 1 and 4; route 0 goes out at A of the first
 abbrev pub twoLines : List ℕ
 twoLines =

@@ -8,8 +8,10 @@ use native.Mathlib.Decide.{decLt}
 use native.Mathlib.Numerals.{add-one}
 use native.Mathlib.Omega.{arith}
 use borrow.Author.Tests.{ltb-true, lt-ltb}
+use lib.Dec.{eqb}
 use lib.ListN.{length, getD, length-append, List·getD-append}
 use lib.Seq.{getD-append-add}
+use Rattle.laws.specs.Choice.{if_then_else_}
 use Rattle.laws.specs.Tables.{table}
 use Rattle.laws.proofs.Choice.{if-eq, if-ne}
 use Rattle.laws.proofs.Tables.{length-table, table-at}
@@ -161,52 +163,7 @@ module _ (ls : List Line) where
           subst (λ i. Numbered n i (getD (allSignals m n ls) i (main k))) back
           (rw (block-at j (main k)) (block-numbered n n j (main k) (omega arith) (omega (arith, count-all))))
 
-      -- the number of a signal that stands, and that number's signal
-      abbrev Named : Signal → Type 0
-      Named x = (numberOf m ls x < signalCount m n ls) × (signalOf m n ls (numberOf m ls x) ≡ x)
-
-      -- number k of the signals of line l
-      line-named : (l k : ℕ) (x : Signal) → l < n → k < length (lineSignals ls l) → numberOf m ls x ≡ m + length (blockSignals l ls) + k
-          → ((d : Signal) → getD (lineSignals ls l) k d ≡ x) → Named x
-      unfolding signalOf
-      line-named l k x b h e f =
-          let there = on-line n l k (main (numberOf m ls x)) b h in
-          let place : m + length (blockSignals l ls) + k ≡ m + (length (blockSignals l ls) + k) = omega arith in (
-            omega (arith, count-all, there .0),
-            ap (λ i. getD (allSignals m n ls) i (main (numberOf m ls x))) (e ∙ place)
-                ∙ block-at (length (blockSignals l ls) + k) (main (numberOf m ls x)) ∙ there .1 ∙ f (main (numberOf m ls x)),
-          )
-
-      -- by what it is
-      stands-named : (x : Signal) → Stands m n ls x → Named x
-      unfolding numberOf signalOf
-      stands-named (main x) h = (omega (arith, count-all), main-at x (main x) h)
-      stands-named (into l i w) (b, h, inl e, u) =
-          let some : 0 < i = ltb-true 0 i (has-first (line ls l .blocks) i w e ∙ u) in
-          let back : i - 1 + 1 ≡ i = omega arith in
-          line-named l (i - 1) (into l i w) b (omega (arith, line-count l))
-          (ap (λ k. m + length (blockSignals l ls) + k) (sym (if-eq w aToB (i - 1) (line ls l .blocks - 1 + i) (i - 1) e refl)))
-          (λ d. at-first l (i - 1) d (omega arith) ∙ ap (λ k. into l k aToB) back ∙ ap (into l i) (sym e))
-      stands-named (into l i w) (b, h, inr e, u) =
-          let last : i + 1 < line ls l .blocks = ltb-true (i + 1) _ (has-last (line ls l .blocks) i w i (line ls l .blocks) other refl refl ∙ u) in
-          line-named l (line ls l .blocks - 1 + i) (into l i w) b (omega (arith, line-count l))
-          (ap (λ k. m + length (blockSignals l ls) + k) (sym (if-ne w aToB (i - 1) (line ls l .blocks - 1 + i) (line ls l .blocks - 1 + i) other refl)))
-          (λ d. at-then l i d (omega arith) ∙ ap (into l i) (sym e))
-        where
-          other : w ≡ aToB → ⊥
-          other z = omega arith
-
--- every number below the count is one signal that stands
-pub number-stands : (m n : ℕ) (ls : List Line) (k : ℕ) → k < signalCount m n ls → Stands m n ls (signalOf m n ls k)
-number-stands m n ls k h = by-number ls m n k h (decLt k m) .0
-
--- every signal that stands has exactly one number
-pub one-number : (m n : ℕ) (ls : List Line) (x : Signal) → Stands m n ls x → OneNumber m n ls x
-one-number m n ls x h =
-    let named = stands-named ls m n x h in
-    record { below = named .0; named = named .1; only = λ k b e. sym (by-number ls m n k b (decLt k m) .1) ∙ ap (numberOf m ls) e }
-
--- ---- a number, as the code finds its signal
+-- ---- a number and its signal
 
 module _ (m n : ℕ) (ls : List Line) (k : ℕ) where
   -- a number of a signal that stands, and that signal
@@ -236,6 +193,36 @@ module _ (m n : ℕ) (ls : List Line) (k : ℕ) where
   pub number-then : (l j : ℕ) → l < n → j < line ls l .blocks - 1 → k ≡ signalCount m l ls + (line ls l .blocks - 1 + j) → Is (into l j bToA)
   number-then l j b h e = number-into l (line ls l .blocks - 1 + j) _ b (omega (arith, line-count ls l)) e (λ d. at-then ls l j d h)
 
+-- the number of a signal that stands is that signal's, by what it is
+stands-named : (m n : ℕ) (ls : List Line) (x : Signal) → Stands m n ls x → Is m n ls (numberOf m ls x) x
+unfolding numberOf
+stands-named m n ls (main x) h = number-main m n ls x h
+stands-named m n ls (into l i w) (b, h, inl e, u) =
+    let some : 0 < i = ltb-true 0 i (has-first (line ls l .blocks) i w e ∙ u) in
+    let back : i - 1 + 1 ≡ i = omega arith in
+    let place : (if eqb w aToB then i - 1 else line ls l .blocks - 1 + i) ≡ i - 1 = sym (if-eq w aToB (i - 1) (line ls l .blocks - 1 + i) (i - 1) e refl) in
+    number-into m n ls _ l (i - 1) (into l i w) b (omega (arith, line-count ls l)) (omega (arith, place, count-all ls m l))
+    (λ d. at-first ls l (i - 1) d (omega arith) ∙ ap (λ k. into l k aToB) back ∙ ap (into l i) (sym e))
+stands-named m n ls (into l i w) (b, h, inr e, u) =
+    let last : i + 1 < line ls l .blocks = ltb-true (i + 1) _ (has-last (line ls l .blocks) i w i (line ls l .blocks) other refl refl ∙ u) in
+    let place : (if eqb w aToB then i - 1 else line ls l .blocks - 1 + i) ≡ line ls l .blocks - 1 + i =
+    sym (if-ne w aToB (i - 1) (line ls l .blocks - 1 + i) (line ls l .blocks - 1 + i) other refl) in
+    number-into m n ls _ l (line ls l .blocks - 1 + i) (into l i w) b (omega (arith, line-count ls l)) (omega (arith, place, count-all ls m l))
+    (λ d. at-then ls l i d (omega arith) ∙ ap (into l i) (sym e))
+  where
+    other : w ≡ aToB → ⊥
+    other z = omega arith
+
+-- every number below the count is one signal that stands
+pub number-stands : (m n : ℕ) (ls : List Line) (k : ℕ) → k < signalCount m n ls → Stands m n ls (signalOf m n ls k)
+number-stands m n ls k h = by-number ls m n k h (decLt k m) .0
+
+-- every signal that stands has exactly one number
+pub one-number : (m n : ℕ) (ls : List Line) (x : Signal) → Stands m n ls x → OneNumber m n ls x
+one-number m n ls x h =
+    let named = stands-named m n ls x h in
+    record { below = named .0; named = named .1; only = λ k b e. sym (by-number ls m n k b (decLt k m) .1) ∙ ap (numberOf m ls) e }
+
 -- ---- how many there are
 
 -- with no line only the main signals
@@ -248,13 +235,14 @@ pub count-line : (m l : ℕ) (ls : List Line) → signalCount m (l + 1) ls ≡ s
 unfolding betweenBlocks
 count-line m l ls = rw add-one (omega (arith, count-all ls m (suc l), count-all ls m l, blocks-more ls l, line-count ls l))
 
--- a line of no more blocks than there may be has at most so many; so do n lines
-pub count-most : (m : ℕ) (ls : List Line) (n : ℕ) → ((l : ℕ) → line ls l .blocks ≤ mostBlocks) → signalCount m n ls ≤ m + 14 * n
+-- a line of no more blocks than there may be has at most fourteen; so has each of n lines
+pub signals-few : (m : ℕ) (ls : List Line) (n : ℕ) → ((l : ℕ) → l < n → line ls l .blocks ≤ mostBlocks) → signalCount m n ls ≤ m + 14 * n
 unfolding betweenBlocks
-count-most m ls zero few = omega (arith, count-mains m ls)
-count-most m ls (suc n) few =
+signals-few m ls zero few = omega (arith, count-mains m ls)
+signals-few m ls (suc n) few =
     let one : signalCount m (suc n) ls ≡ signalCount m n ls + betweenBlocks (line ls n) = rw (← add-one n) (count-line m n ls) in
-    omega (arith, one, few n, count-most m ls n few)
+    let last : line ls n .blocks ≤ mostBlocks = few n (omega arith) in
+    omega (arith, one, last, signals-few m ls n (λ l b. few l (omega arith)))
 
 -- the loop that counts them: line l adds its own
 pub count-on : (m l count more : ℕ) (ls : List Line) (b : Line) → count ≡ signalCount m l ls → b ≡ line ls l → more ≡ betweenBlocks b

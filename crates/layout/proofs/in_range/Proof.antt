@@ -19,7 +19,7 @@ made c =
     let few = sections .before .before .before .before .before .before .before .before in
     fits-made _ _ _ _ _ _ _ _ _ _ (sections .before .is-between .ensures) (sections .sections-fit .ensures) (signals .before .lines-keep .ensures)
     (signals .signal-count .ensures) (distants .distants-keep .ensures) (heads .before .routes-keep .ensures) (heads .heads-fit .ensures)
-    (c .is-between2 .ensures) (few .before .before .before .distants-of .ensures) (few .before .if3 .left) (few .if4 .left)
+    (c .is-between2 .ensures) (few .before .before .before .most-distants-of .ensures) (few .before .if3 .left) (few .if4 .left)
 
 pub in-range-spec : {M : Type 1} → statement M
 unfolding fits counts
