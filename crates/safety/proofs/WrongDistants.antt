@@ -18,7 +18,7 @@ use Rattle.panel.specs.Distants.{numberRead, DistantsWarn}
 use Rattle.panel.proofs.DistantLaws.{shows-warn}
 use Rattle.safety.specs.History.{History, shown}
 use Rattle.safety.specs.Exact.{Exact}
-use Rattle.safety.specs.WrongDistants.{Fault, permissive, litAtStop, unlike, Misled, Drawn, misleading}
+use Rattle.safety.specs.WrongDistants.{Fault, permissive, litAtStop, unlike, Misled, DrawnRun, misleading}
 use Rattle.safety.proofs.Computed.{runComputed, distantsComputed}
 
 -- ---- exactness refuses what misleads
@@ -76,17 +76,17 @@ module _ (L : Layout) (h : History) where
 -- ---- the runs
 
 -- what is true of each case of a list
-abbrev pub EachDrawn : (Drawn → Type 0) → List Drawn → Type 0
-EachDrawn P [] = Unit {0}
-EachDrawn P (c ∷ cs) = P c × EachDrawn P cs
+abbrev pub EachDrawnRun : (DrawnRun → Type 0) → List DrawnRun → Type 0
+EachDrawnRun P [] = Unit {0}
+EachDrawnRun P (c ∷ cs) = P c × EachDrawnRun P cs
 
 -- each passes the test
-abbrev passes : Fault → List Drawn → Bool
+abbrev passes : Fault → List DrawnRun → Bool
 passes f [] = true
 passes f (c ∷ cs) = misledTest (c .layout) (c .history) f and passes f cs
 
 -- and so is as it says
-each-misled : (f : Fault) (cs : List Drawn) → passes f cs ≡ true → EachDrawn (λ c. Misled f (c .layout) (c .history)) cs
+each-misled : (f : Fault) (cs : List DrawnRun) → passes f cs ≡ true → EachDrawnRun (λ c. Misled f (c .layout) (c .history)) cs
 each-misled f [] t = tt
 each-misled f (c ∷ cs) t = (is-misled (c .layout) (c .history) f (and-left _ _ t), each-misled f cs (and-right _ _ t))
 
@@ -98,5 +98,5 @@ tested litAtStop = refl
 tested unlike = refl
 
 -- after each of the runs a driver is misled
-pub wrong-distants-mislead : (f : Fault) → EachDrawn (λ c. Misled f (c .layout) (c .history)) (misleading f)
+pub wrong-distants-mislead : (f : Fault) → EachDrawnRun (λ c. Misled f (c .layout) (c .history)) (misleading f)
 wrong-distants-mislead f = each-misled f (misleading f) (tested f)

@@ -119,16 +119,16 @@ Misled unlike L h =
 -- ---- the runs
 
 -- a layout, and the history of the box on it with a panel of its own
-pub record Drawn : Type 0 where
+pub record DrawnRun : Type 0 where
   pub layout : Layout
   pub history : History
 
 -- the box on a layout, with another panel
-abbrev drawnOn : List ℕ → Warnings → List Event → Drawn
+abbrev drawnOn : List ℕ → Warnings → List Event → DrawnRun
 drawnOn file warn events = record { layout = load file .layout; history = goesOnBy (warnedBy warn) (load file .layout) (boxInRun (load file .layout)) cold [] events }
 
 -- on `withDistants`
-abbrev drawn : Warnings → List Event → Drawn
+abbrev drawn : Warnings → List Event → DrawnRun
 drawn = drawnOn withDistants
 
 -- the same with distants that show what L2 says of the signals as they showed before the event
@@ -143,7 +143,7 @@ lately L s h (e ∷ es) =
       image = warnedBy (λ K t d. distantByte K s d) L (boxInRun L s e .next);
     } ∷ h) es
 
-abbrev late : List Event → Drawn
+abbrev late : List Event → DrawnRun
 late events = record { layout = load withDistants .layout; history = lately (load withDistants .layout) cold [] events }
 
 -- the line secured from B to A
@@ -156,7 +156,7 @@ bothReleased =
     event 1 1 1 ∷ event 1 2 1 ∷ event 1 3 1 ∷ event 1 5 1 ∷ event 1 6 1 ∷ event 7 0 1 ∷ event 7 1 1 ∷ []
 
 -- the cases after which a driver is misled, by what is wrong
-abbrev pub misleading : Fault → List Drawn
+abbrev pub misleading : Fault → List DrawnRun
 misleading permissive =
     -- the entrance signal at B shows 21
     drawn asStraight letOut
