@@ -147,7 +147,7 @@ static uint8_t answer(uint32_t kind, uint32_t first, uint32_t second) {
 /* P1 on branch T, so that a route is set on a secured line: cut files leave that, and a second file starts the state anew, be it of another
  * layout, of the same, or on a state of any bytes. */
 static void test_second_file(void) {
-    static const uint32_t p1[][3] = {{1, 0, 1}, {1, 1, 1}, {1, 2, 1}, {1, 3, 1}, {2, 0, 1}, {7, 0, 1}, {6, 0, 1}, {4, 1, 0}, {4, 0, 0}};
+    static const uint32_t p1[][3] = {{1, 0, 1}, {1, 1, 1}, {1, 2, 1}, {1, 3, 1}, {2, 0, 1}, {7, 0, 1}, {15, 2, 1}, {6, 0, 1}, {4, 1, 0}, {4, 0, 0}};
     static const uint8_t one_section[] = {1, 1, 0, 0, 0, 0, 0};
     struct hiruketawha_layout first = *layout;
     for (size_t i = 0; i < sizeof p1 / sizeof p1[0]; i++) EXPECT(answer(p1[i][0], p1[i][1], p1[i][2]) == 0);
@@ -172,17 +172,17 @@ static void expect_heads(uint32_t kind, uint32_t first, uint32_t second, uint8_t
     else EXPECT(number == 0 || (kind == HIRUKETAWHA_RESET_AXLES && number == HIRUKETAWHA_RESET_SILENT));
 }
 
-/* Numbers of any size, on branch T: kinds past 14 and objects that there aren't are refused so. */
+/* Numbers of any size, on branch T: kinds past 15 and objects that there aren't are refused so. */
 static void test_numbers(void) {
-    static const uint32_t any[] = {0,  1,  2,   3,   4,   7,   8,   10,    11,    12,    13,         14,         15,         47,
-                                   48, 63, 64,  127, 128, 255, 256, 257,   65535, 65536, 65537,      0x7FFFFFFF, 0x80000000, 0x80000001,
-                                   0xFFFFFFFF};
+    static const uint32_t any[] = {0,  1,  2,  3,   4,   7,   8,   10,  11,    12,    13,    14,         15,         16,         47,
+                                   48, 63, 64, 127, 128, 255, 256, 257, 65535, 65536, 65537, 0x7FFFFFFF, 0x80000000, 0x80000001, 0xFFFFFFFF};
     enum { MANY = sizeof any / sizeof any[0] };
     for (int k = 0; k < MANY; k++)
         for (int i = 0; i < MANY; i++)
             for (int j = 0; j < MANY; j++) {
                 uint8_t number = answer(any[k], any[i], any[j]);
-                if (any[k] == 0 || any[k] > 14) EXPECT(number == HIRUKETAWHA_UNKNOWN_KIND);
+                if (any[k] == 0 || any[k] > 15) EXPECT(number == HIRUKETAWHA_UNKNOWN_KIND);
+                else if (any[k] == 15) EXPECT(number == (any[i] > 3 ? HIRUKETAWHA_NO_SUCH_OBJECT : 0));
                 else if (any[k] > 10) expect_heads(any[k], any[i], any[j], number);
                 else if (any[k] < 10 && any[i] > 3) EXPECT(number == HIRUKETAWHA_NO_SUCH_OBJECT);
                 else if (any[k] == 1) EXPECT(number == (layout->fitted[any[i]] ? HIRUKETAWHA_HAS_HEADS : 0));
@@ -227,7 +227,7 @@ static void test_distants(void) {
 
 /* A record that isn't sound: every event and every panel gets 18, whatever the buffer. */
 static void unsound(void) {
-    for (uint32_t kind = 0; kind <= 15; kind++) EXPECT(answer(kind, random_byte() % 4, random_byte() % 4) == HIRUKETAWHA_NOT_SOUND);
+    for (uint32_t kind = 0; kind <= 16; kind++) EXPECT(answer(kind, random_byte() % 4, random_byte() % 4) == HIRUKETAWHA_NOT_SOUND);
     uint8_t image[512];
     memset(image, UNTOUCHED, sizeof image);
     struct hiruketawha_drawn drawn = hiruketawha_panel(state, layout, image, sizeof image);
@@ -305,7 +305,8 @@ static void test_one_byte(void) {
         *state = cold;
         ((uint8_t *)state)[j] = 4 + random_byte() % 252;
         uint8_t number = answer(HIRUKETAWHA_SECOND, 0, 0);
-        if (j >= offsetof(struct hiruketawha_state, axles)) EXPECT(number == 0);
+        if (j >= offsetof(struct hiruketawha_state, lamp)) EXPECT(number == HIRUKETAWHA_NOT_SOUND);
+        else if (j >= offsetof(struct hiruketawha_state, axles)) EXPECT(number == 0);
         else EXPECT(number == HIRUKETAWHA_NOT_SOUND || (number == 0 && ((uint8_t *)state)[j] < 90));
     }
     *state = cold;
@@ -319,7 +320,7 @@ static void every_call(void) {
     hiruketawha_load(state, layout, branch_t, sizeof branch_t);
     for (uint32_t kind = 1; kind <= 10; kind++) hiruketawha_event(state, layout, kind, 0, kind < 4 || kind == 6 || kind == 7);
     hiruketawha_fit(state, layout, (uint8_t[]){0}, 1);
-    for (uint32_t kind = 11; kind <= 14; kind++) hiruketawha_event(state, layout, kind, 0, 0);
+    for (uint32_t kind = 11; kind <= 15; kind++) hiruketawha_event(state, layout, kind, 0, 0);
     hiruketawha_panel(state, layout, image, sizeof image);
 }
 

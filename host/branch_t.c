@@ -14,7 +14,7 @@ static const uint8_t branch_t[] = {
 };
 
 static const uint32_t p1[][3] = {{4, 0, 0}, {1, 0, 1}, {1, 1, 1}, {1, 2, 1}, {1, 3, 1}, {2, 0, 1},
-                                 {6, 0, 1}, {7, 0, 1}, {6, 0, 1}, {4, 1, 0}, {4, 0, 0}, {4, 2, 0}};
+                                 {6, 0, 1}, {7, 0, 1}, {15, 2, 1}, {6, 0, 1}, {4, 1, 0}, {4, 0, 0}, {4, 2, 0}};
 
 static struct hiruketawha_layout layout;
 static struct hiruketawha_state state;

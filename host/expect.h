@@ -5,7 +5,7 @@
 #include <stdio.h>
 #include <stdlib.h>
 
-#define OF_EVENT(number) ((number) <= 18 || (number) == 30 || (number) == 34 || (number) == 35)
+#define OF_EVENT(number) ((number) <= 18 || (number) == 30 || (number) == 31 || (number) == 34 || (number) == 35)
 
 #define EXPECT(holds)                                                                \
     do {                                                                             \

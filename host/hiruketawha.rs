@@ -83,6 +83,7 @@ pub struct State {
     pub stage: [u8; 64],
     pub bar: [u8; 64],
     pub axles: [Axles; 64],
+    pub lamp: [u8; 144],
 }
 
 #[repr(C)]

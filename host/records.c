@@ -1,7 +1,7 @@
 /* Holds the header's records to the library's own: how large they are, and where each field lies.
  * C fills a layout by the header's fields and writes it as a layout file; what the library loads from the file must be the same bytes.
  * Then events that touch the first and the last entry of each table of a state must change the bytes that C finds under that name, and
- * no other; so must sections that are told as fitted, and what their heads tell. */
+ * no other; so must sections that are told as fitted, what their heads tell, and what lamps report. */
 #include <string.h>
 
 #include "expect.h"
@@ -49,6 +49,7 @@ static void fill_cold(void) {
     memset(want.section, 3, sizeof want.section);
     memset(want.point, 3, sizeof want.point);
     memset(want.stage, 1, sizeof want.stage);
+    memset(want.lamp, 3, sizeof want.lamp);
 }
 
 /* Power-on writes every byte of both records. */
@@ -97,11 +98,27 @@ static void test_points(void) {
     }
 }
 
+static void report_lamp(int signal, uint32_t code) {
+    want.lamp[signal] = code == 1 || code == 2 ? code : 3;
+    done(HIRUKETAWHA_REPORT_LAMP, signal, code);
+}
+
+/* The first main signal's lamp, the last one's, and the first and the last block signal's. */
+static void test_lamps(void) {
+    static const int signals[] = {0, 31, 32, 45};
+    for (int i = 0; i < 4; i++)
+        for (uint32_t code = 1; code <= 3; code++) report_lamp(signals[i], code);
+    report_lamp(0, 2);
+    report_lamp(45, 1);
+    report_lamp(45, 257);
+}
+
 static void test_lines(void) {
     for (int l = 0; l < 8; l += 7) {
         for (int i = 0; i < wide.line[l].blocks; i++) want.stage[8 * l + i] = 0;
         done(HIRUKETAWHA_RELEASE_LINE, l, 1);
         for (int i = 0; i < 8; i++) read_point(wide.line[l].point[i], wide.line[l].position[i]);
+        report_lamp(wide.line[l].entrancea, 1 + l % 2);
         want.direction[l] = 2;
         done(HIRUKETAWHA_SECURE_LINE, l, 2);
         int last = wide.line[l].blocks - 1;
@@ -238,6 +255,7 @@ static void print_state(void) {
     FIELD(state, stage);
     FIELD(state, bar);
     FIELD(state, axles);
+    FIELD(state, lamp);
 }
 
 static void print_axles(void) {
@@ -257,12 +275,13 @@ int main(void) {
     test_points();
     test_route(0);
     test_route(47);
+    test_lamps();
     test_lines();
     test_fit();
     test_heads(0);
     test_heads(63);
     EXPECT(sizeof(struct hiruketawha_line) == 30 && sizeof(struct hiruketawha_route) == 40);
-    EXPECT(sizeof(struct hiruketawha_layout) == 4632 && sizeof(struct hiruketawha_state) == 1432);
+    EXPECT(sizeof(struct hiruketawha_layout) == 4632 && sizeof(struct hiruketawha_state) == 1576);
     EXPECT(sizeof(struct hiruketawha_head) == 6 && sizeof(struct hiruketawha_axles) == 16);
     print_line();
     print_route();

@@ -24,7 +24,7 @@ extern "C" {
 enum {
     HIRUKETAWHA_DONE = 0, /* detail 0 */
 
-    /* Of an event (section 3; request L1), in this order: 18, 1, 2, 30 or 34, 3, then by its kind. */
+    /* Of an event (section 3; requests L1 and L3), in this order: 18, 1, 2, 30 or 34, 3, then by its kind. */
     HIRUKETAWHA_UNKNOWN_KIND = 1,        /* detail 0 */
     HIRUKETAWHA_NO_SUCH_OBJECT = 2,      /* detail: the first number */
     HIRUKETAWHA_SECOND_WRONG = 3,        /* the second number is wrong (both, for kind 10); detail 0 */
@@ -45,6 +45,7 @@ enum {
     HIRUKETAWHA_NOT_SOUND = 18,          /* a record breaks section 2, lacks a fitted section, or has a code outside its range; detail 0.
                                           * Also of the panel */
     HIRUKETAWHA_NO_HEADS = 30,           /* the section has no heads; detail: the section */
+    HIRUKETAWHA_LAMP_NONE = 31,          /* securing: the lamp of the arrival entrance signal reports none; detail: the signal */
     HIRUKETAWHA_HAS_HEADS = 34,          /* a reading, kind 1, of a section with heads; detail: the section */
     HIRUKETAWHA_RESET_SILENT = 35,       /* a reset while a head is silent; detail: the section */
 
@@ -83,7 +84,11 @@ enum {
     HIRUKETAWHA_AXLES_IN = 11,           /* head, count */
     HIRUKETAWHA_AXLES_OUT = 12,          /* head, count */
     HIRUKETAWHA_HEAD_SILENT = 13,        /* head */
-    HIRUKETAWHA_RESET_AXLES = 14         /* section */
+    HIRUKETAWHA_RESET_AXLES = 14,        /* section */
+
+    /* Of lamps (request L3). A signal is a main one, or a block signal, numbered after the main ones as `announced` of a layout has them. A report
+     * stands until the next one: where the supervision of a lamp falls silent, report any other code. */
+    HIRUKETAWHA_REPORT_LAMP = 15         /* signal, code: 1 stop is lit, 2 another light is, every other none */
 };
 
 /* ---- The records. Every field is a byte or bytes, but for the 16-bit numbers of the heads, each at an even place: so there is no padding. A
@@ -122,9 +127,9 @@ struct hiruketawha_route {
 
 /* A layout (section 2; requests L1 and L2). `pointsection` has each point's own section. Of a distant, `carrier` has 0 if it is free-standing or the
  * carrying signal plus 1, `announced` the signal that it announces: a main signal, or a block signal, which are numbered after the main ones, line by
- * line, those from A to B before those from B to A, each in order of blocks from end A. `conflict` has 1 at 48 * i + j where the routes i and j
- * conflict, and else 0; `fitted` has 1 where a section has heads, and else 0. Entries past a count as above. A record of zeros is the layout with no
- * objects. 4,632 bytes. */
+ * line, n - 1 each way for n blocks, those from A to B before those from B to A, each in order of blocks from end A. `conflict` has 1 at 48 * i + j where
+ * the routes i and j conflict, and else 0; `fitted` has 1 where a section has heads, and else 0. Entries past a count as above. A record of zeros is the
+ * layout with no objects. 4,632 bytes. */
 struct hiruketawha_layout {
     uint8_t version;  /* of its file: 1, which has no distants, or 2 */
     uint8_t sections; /* 1 to 64 */
@@ -161,8 +166,8 @@ struct hiruketawha_axles {
     uint16_t proof;
 };
 
-/* A state: a code for each section, point, route, line and block, and the heads of each section. Read it by the panel; a code outside its
- * range gets every event 18. 1,432 bytes. */
+/* A state: a code for each section, point, route, line and block, the heads of each section, and what the lamp of each signal reports, which no
+ * panel shows. Read the rest by the panel; a code outside its range gets every event 18. 1,576 bytes. */
 struct hiruketawha_state {
     uint8_t section[64]; /* 1 free, 2 occupied, 3 none */
     uint8_t point[32];   /* 1 left, 2 right, 3 none */
@@ -171,9 +176,10 @@ struct hiruketawha_state {
     uint8_t steps[48];   /* steps done of letting a route go: 0 to 3 */
     uint8_t seconds[48]; /* seconds since a cancel: 0 to 89 */
     uint8_t direction[8]; /* of a line: 0 neutral, 1 from A to B, 2 from B to A */
-    uint8_t stage[64];   /* of a block, at 8 * line + block: 0 open; 1, 2, 3 held in stage 0, 1, 2 */
+    uint8_t stage[64];   /* of a block, at 8 * line + block: 0 open; 1, 2, 3, 4 held in stage 0, 1, 2, 3 */
     uint8_t bar[64];     /* of a block, likewise: 1 barred, else 0 */
     struct hiruketawha_axles axles[64]; /* of a section; looked at only where it is fitted */
+    uint8_t lamp[144];   /* of a signal, at its number (request L3): 1 stop, 2 another light, 3 none */
 };
 
 /* What is told of an event. 8 bytes. */
@@ -218,7 +224,7 @@ enum {
 
 /* Both records at power-on, each written whole, whatever it held. The layout has no objects: it is not sound, so every event and every
  * panel gets 18 until a file is loaded. The state is cold (sections 1 and 5): everything reads none, no order, no route, no line secured,
- * every block held in stage 0, no bar, every head silent. */
+ * every block held in stage 0, no bar, every head silent, every lamp at none. */
 void hiruketawha_power_on(struct hiruketawha_state *state, struct hiruketawha_layout *layout);
 
 /* A layout file of `length` bytes into the layout's record (section 2). Where it is accepted, 0 and 0, and both records are written whole:
@@ -236,8 +242,8 @@ struct hiruketawha_load_reply hiruketawha_load(struct hiruketawha_state *state, 
 struct hiruketawha_load_reply hiruketawha_fit(struct hiruketawha_state *state, struct hiruketawha_layout *layout, const uint8_t *bytes,
                                               size_t length);
 
-/* One event (sections 3 to 6; request L1) on the state's record, on that layout; numbers of any size. 0 and 0, and the record is the next state; or a
- * refusal, 1 to 18, 30, 34 or 35, and the record is as it was. */
+/* One event (sections 3 to 6; requests L1 and L3) on the state's record, on that layout; numbers of any size. 0 and 0, and the record is the next
+ * state; or a refusal, 1 to 18, 30, 31, 34 or 35, and the record is as it was. */
 struct hiruketawha_reply hiruketawha_event(struct hiruketawha_state *state, const struct hiruketawha_layout *layout, uint32_t kind,
                                            uint32_t first, uint32_t second);
 

@@ -4,7 +4,7 @@ use crate::layout::{self, encode, Layout, Line, Route};
 use crate::lbox::{self, Var};
 use crate::level::LEVEL;
 use crate::head_cases::proved;
-use crate::records::{tables, HEADS};
+use crate::records::{tables, HEADS, STAGE};
 use crate::run_cases::{events, P1};
 use crate::runs::{form, told, Event};
 
@@ -19,7 +19,7 @@ fn read_events(path: &str) -> Vec<Event> {
     words.chunks_exact(3).map(|e| [e[0], e[1], e[2]]).collect()
 }
 
-/// Plays the events of PREFIX once and those of EVENTS so many times, and answers the sum over all answers and the last state but for its heads.
+/// Plays the events of PREFIX once and those of EVENTS so many times, and answers the sum over all answers and the last state but for its heads and lamps.
 pub fn play([layout, fitted, prefix, run]: [&str; 4], turns: u64, v: &Var) -> u64 {
     let mut l = layout::load(&std::fs::read(layout).expect("a layout file"), v.n).expect("a sound layout");
     l.fitted = told(&std::fs::read(fitted).expect("a file of fitted sections"), v.n).expect("numbers");
@@ -37,9 +37,8 @@ pub fn play([layout, fitted, prefix, run]: [&str; 4], turns: u64, v: &Var) -> u6
     tables(&l, &s)[..HEADS].iter().flatten().fold(sum, |sum, &code| mixed(sum, code as u32))
 }
 
-// Two tables of a state.
+// A table of a state.
 const PHASE: usize = 3;
-const STAGE: usize = 7;
 
 /// A layout with events to be timed: those of the prefix come once.
 struct Case {
@@ -68,16 +67,17 @@ fn by_counts(readings: &[Event]) -> Vec<Event> {
 fn branch_t_heads() -> Case {
     let Case { layout, events: train, .. } = branch_t();
     let mut prefix = proved(0..4);
-    prefix.extend(events("(2 0 1)(7 0 1)(6 0 1)(4 1 0)(4 0 0)"));
+    prefix.extend(events("(2 0 1)(7 0 1)(15 2 1)(6 0 1)(4 1 0)(4 0 0)"));
     Case { name: "t_heads", layout, fitted: (0..4).collect(), prefix, events: by_counts(&train), at_proceed: 2, in_stage_1: 0 }
 }
 
-// All sections free, all points in the positions that every list has them in, all lines released by hand.
+// All sections free, all points in the positions that every list has them in, all lines released by hand, all lamps at stop.
 fn made_ready(l: &Layout) -> Vec<Event> {
     let sections = (0..l.nsec).map(|g| [1, g as u32, 1]);
     let points = (0..l.own.len()).map(|p| [2, p as u32, 1 + (p % 2) as u32]);
     let lines = (0..l.lines.len()).map(|k| [7, k as u32, 1]);
-    sections.chain(points).chain(lines).collect()
+    let lamps = (0..l.all_sigs()).map(|x| [15, x as u32, 1]);
+    sections.chain(points).chain(lines).chain(lamps).collect()
 }
 
 // The largest layout of which five routes can be locked at once: 48 routes with paths of 8 over five ways with nothing in common, so that 24 of
@@ -193,13 +193,24 @@ fn mixed_case() -> Case {
     Case { name: "mixed", layout: encode(&l), fitted: vec![], prefix, events: held, at_proceed: 24, in_stage_1: 16 }
 }
 
+// Dark: a train over a line of eight blocks, no far signal's lamp at stop, so that each block waits in stage 3 until the entrance route is released, and
+// all open in that event. Lamps report on its way.
+fn dark_case() -> Case {
+    let l = most_blocks();
+    let mut prefix = made_ready(&l);
+    prefix.extend((0..l.all_sigs()).map(|x| [15, x as u32, 2]));
+    let train: String = (3..10).map(|g| format!("(15 {} 2)(1 {g} 2)(1 {} 1)", 29 + g, g - 1)).collect();
+    let run = format!("(6 0 1)(4 1 0)(1 0 2)(1 2 2)(1 0 1){train}(4 2 0)(1 1 2)(1 9 1)(1 0 2)(1 1 1)(1 0 1)");
+    Case { name: "dark", layout: encode(&l), fitted: vec![], prefix, events: events(&run), at_proceed: 0, in_stage_1: 0 }
+}
+
 fn words(events: &[Event]) -> Vec<u8> {
     events.iter().flatten().flat_map(|n| n.to_le_bytes()).collect()
 }
 
 /// Writes NAME.layout, NAME.fitted, NAME.prefix and NAME.events of each case, and prints its name and how many events it has.
 pub fn files(folder: &str) {
-    for c in [branch_t(), full_case(), orders_case(), locked_case(), mixed_case(), held_case(), branch_t_heads(), full_heads()] {
+    for c in [branch_t(), full_case(), orders_case(), locked_case(), mixed_case(), held_case(), branch_t_heads(), full_heads(), dark_case()] {
         let l = Layout { fitted: c.fitted.clone(), ..layout::load(&c.layout, LEVEL).expect("a sound layout") };
         let after = c.prefix.iter().chain(&c.events).fold(lbox::cold(&l), |s, e| lbox::event(&l, &s, *e, &Var::at(LEVEL)).2);
         let count = |table: usize, code: u8| tables(&l, &after)[table].iter().filter(|&&x| x == code).count();

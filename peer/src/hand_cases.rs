@@ -8,9 +8,6 @@ use crate::records::{Change, Part, Part::*, CODES, PARTS};
 use crate::run_cases::BRANCH_U;
 use crate::runs::{form, Event, Runs};
 
-// How many places each table of a state has, but for its heads.
-const PLACES: [u16; 9] = [64, 32, 32, 48, 48, 48, 8, 64, 64];
-
 // Changes of the layout, of the state, of line 0, and of a route.
 pub fn plan(part: Part, place: u16, byte: u8) -> Change {
     Change { record: 0, number: 0, field: part as u8, place, byte }
@@ -45,8 +42,8 @@ pub fn sound(c: &mut Runs, label: &str, file: &[u8], changes: &[Change]) {
 
 // Each table of a state at its first and last place, just past its range, far past it, and at its ends.
 fn states(c: &mut Runs) {
-    for (field, (low, high)) in CODES.into_iter().enumerate() {
-        for place in [0, PLACES[field] - 1] {
+    for (field, places, low, high) in CODES {
+        for place in [0, places - 1] {
             let code = |byte: u8| [state(field as u8, place, byte)];
             for byte in [high + 1, 255].into_iter().chain((low > 0).then_some(0)) {
                 unsound(c, "a code past its range", &BRANCH_T, &code(byte));
@@ -145,8 +142,8 @@ fn random(c: &mut Runs, g: &mut Rng) {
         c.any_fitted(&encode(&l), &form(&l.fitted), &changes, &every_kind());
     }
     for _ in 0..20 {
-        let field = g.below(9);
-        let place = g.below(PLACES[field] as usize) as u16;
+        let (field, places, ..) = CODES[g.below(CODES.len())];
+        let place = g.below(places as usize) as u16;
         c.any(&BRANCH_T, &[state(field as u8, place, g.below(6) as u8)], &[[0, 0, 0], [LAST_KIND + 1, 0, 0]]);
     }
 }

@@ -16,8 +16,10 @@ const WOKEN: &str = "(11 2 0)(12 2 0)(11 3 0)(12 3 0)";
 const RESET: &str = "(11 2 0)(12 2 0)(11 3 0)(12 3 0)(14 1 0)";
 const PROVED: &str = "(11 2 0)(12 2 0)(11 3 0)(12 3 0)(14 1 0)(11 2 2)(12 3 2)";
 
-// The rest of branch T free, its point in position; the block, which reads free, released by hand, the line secured, the routes into B and out of A set.
-const READY: &str = "(11 2 0)(12 2 0)(11 3 0)(12 3 0)(14 1 0)(11 2 2)(12 3 2)(1 0 1)(1 2 1)(1 3 1)(2 0 1)(7 0 1)(6 0 1)(4 1 0)(4 0 0)";
+// The rest of branch T free, its point in position; the block, which reads free, released by hand, the lamps of both entrance signals at stop, the line
+// secured, the routes into B and out of A set.
+const READY: &str =
+    "(11 2 0)(12 2 0)(11 3 0)(12 3 0)(14 1 0)(11 2 2)(12 3 2)(1 0 1)(1 2 1)(1 3 1)(2 0 1)(7 0 1)(15 1 1)(15 2 1)(6 0 1)(4 1 0)(4 0 0)";
 
 /// What section 1 reads, told by what a manual release of its line says of it.
 #[derive(Clone, Copy)]
@@ -173,7 +175,7 @@ fn given(c: &mut Runs) {
     route_0(c, "a count above 65,535 gives nothing", &[1], "(11 2 4)(1 0 2)(11 2 65536)(1 0 1)", DONE);
     route_0(c, "none in between starts it afresh", &[1], "(11 2 4)(1 0 2)(11 2 5)(13 3 0)(11 3 0)(12 3 2)(1 0 1)", DONE);
     let other = "(11 6 0)(12 6 0)(11 7 0)(12 7 0)(14 3 0)(11 6 1)(12 6 1)";
-    let both = format!("{PROVED}{other}(1 0 1)(1 2 1)(2 0 1)(7 0 1)(6 0 1)(4 1 0)(4 0 0)(11 2 4)(1 0 2)(11 6 2)(1 0 1)(5 0 0)");
+    let both = format!("{PROVED}{other}(1 0 1)(1 2 1)(2 0 1)(7 0 1)(15 2 1)(6 0 1)(4 1 0)(4 0 0)(11 2 4)(1 0 2)(11 6 2)(1 0 1)(5 0 0)");
     c.on_t("a count of another section gives the block nothing", &[1, 3], &both, &[DONE]);
     let of_block = |c: &mut Runs, label: &str, text: &str, last: &[(u32, u32)]| c.on_t(label, &[1], &format!("{READY}{text}"), last);
     of_block(c, "a train by counts", "(1 0 2)(11 2 4)(1 0 1)(1 2 2)(12 3 3)(1 3 2)(12 3 4)(6 0 2)", &[DONE]);
@@ -193,10 +195,10 @@ pub fn proved(sections: impl Iterator<Item = u32>) -> Vec<Event> {
 // Every section has heads.
 fn everywhere(c: &mut Runs) {
     let mut run = proved(0..4);
-    run.extend(events("(2 0 1)(7 0 1)(6 0 1)(4 1 0)(4 0 0)(11 0 4)(11 2 4)(12 1 4)(11 4 4)(12 3 4)(11 6 4)(12 5 4)(5 0 0)(5 1 0)(6 0 2)"));
+    run.extend(events("(2 0 1)(7 0 1)(15 1 1)(15 2 1)(6 0 1)(4 1 0)(4 0 0)(11 0 4)(11 2 4)(12 1 4)(11 4 4)(12 3 4)(11 6 4)(12 5 4)(5 0 0)(5 1 0)(6 0 2)"));
     c.made_fitted("a train over branch T", &BRANCH_T, &form(&[0, 1, 2, 3]), &run, &[(13, 0), (13, 1), DONE]);
     let mut run = proved(0..6);
-    run.extend(events("(2 0 1)(2 1 1)(7 0 1)(6 0 1)(4 0 0)(11 2 4)(11 4 4)(12 3 4)(13 4 0)(11 6 4)(11 4 4)(12 4 0)(12 5 4)(6 0 2)(1 1 1)"));
+    run.extend(events("(2 0 1)(2 1 1)(7 0 1)(15 2 1)(15 4 1)(6 0 1)(4 0 0)(11 2 4)(11 4 4)(12 3 4)(13 4 0)(11 6 4)(11 4 4)(12 4 0)(12 5 4)(6 0 2)(1 1 1)"));
     c.made_fitted("a train over branch U", &BRANCH_U, &form(&[5, 4, 3, 2, 1, 0]), &run, &[(12, 1), (34, 1)]);
     let mut run = proved([0, 1, 2, 9, 62, 63].into_iter());
     run.extend(events("(7 7 1)(7 0 1)(14 62 0)(13 127 0)(14 63 0)"));

@@ -8,6 +8,7 @@ mod fuzz;
 mod hand_cases;
 mod head_cases;
 mod judge;
+mod lamp_cases;
 mod layout;
 mod lbox;
 mod lengths;

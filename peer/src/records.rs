@@ -127,6 +127,13 @@ impl Plan {
         self.number(Routes)
     }
 
+    /// How many signals there are: main signals, and of each line one each way between each two blocks.
+    pub fn signals(&self) -> usize {
+        let blocks = |f: &Fields| f[0][0] as usize;
+        let lines = self.lines.iter().take(self.line_count());
+        self.number(Signals) + lines.map(|f| 2 * blocks(f).saturating_sub(1)).sum::<usize>()
+    }
+
     /// The sections with heads, of those that the layout has.
     pub fn fitted(&self) -> Vec<usize> {
         (0..self.sections().min(64)).filter(|&g| self.table(Fitted)[g] == 1).collect()
@@ -231,8 +238,8 @@ pub fn heads_of(b: &[u8]) -> Axle {
     Axle { h: [head(0), head(6)], base: two(12), reset: [1, 2].contains(&two(14)), proved: two(14) == 2 }
 }
 
-/// The tables of a state: section, point, order, phase, step, second, direction, stage, bar, heads. A route at proceed is in phase 1, one locked and
-/// fallen in 2, one cancelling in 3.
+/// The tables of a state: section, point, order, phase, step, second, direction, stage, bar, heads, lamps. A route at proceed is in phase 1, one locked
+/// and fallen in 2, one cancelling in 3. Lamps past the signals that there are report none.
 pub fn tables(l: &Layout, s: &State) -> Fields {
     let bytes = |xs: &[u8], n: usize, fill: u8| table(xs.iter().map(|&x| x as usize), n, fill);
     let phase = |r: usize| match s.rt[r].st {
@@ -252,29 +259,47 @@ pub fn tables(l: &Layout, s: &State) -> Fields {
         bytes(&s.sec, 64, lbox::NONE), bytes(&s.pt, 32, lbox::NONE), bytes(&s.order, 32, 0), table((0..s.rt.len()).map(phase), 48, 0),
         table(s.rt.iter().map(|r| r.step as usize), 48, 0), table(s.rt.iter().map(|r| r.secs as usize), 48, 0),
         table(s.ln.iter().map(|x| x.dir as usize), 8, 0), stage, bar, table(s.ax.iter().flat_map(head_bytes).map(usize::from), 1024, 0),
+        bytes(&s.lamp, LAMPS, lbox::NONE),
     ]
 }
 
-/// The state that the tables of sections and of heads are, where all else is as at the cold start.
+/// The state that the tables of `READ` are, where all else is as at the cold start. Every line is neutral, so no block signal is lit.
 pub fn with_readings(l: &Layout, t: &Fields) -> State {
     let mut s = lbox::cold(l);
     for g in 0..l.nsec {
         s.sec[g] = t[SECTION][g];
         s.ax[g] = heads_of(&t[HEADS][16 * g..]);
     }
+    for (k, line) in s.ln.iter_mut().enumerate() {
+        for (i, block) in line.blocks.iter_mut().enumerate() {
+            block.st = t[STAGE][8 * k + i];
+        }
+    }
+    for (x, lamp) in s.lamp.iter_mut().enumerate() {
+        *lamp = t[LAMP][x];
+    }
     s
 }
 
-/// Two tables of a state.
+/// Tables of a state, and those of them that a run by hand may start from.
 pub const SECTION: usize = 0;
+pub const STAGE: usize = 7;
 pub const HEADS: usize = 9;
+pub const LAMP: usize = 10;
+pub const READ: [usize; 4] = [SECTION, STAGE, HEADS, LAMP];
 
-/// The lowest and the highest code of each table of a state but for its heads, of which no value is out of range.
-pub const CODES: [(u8, u8); 9] = [(1, 3), (1, 3), (0, 2), (0, 3), (0, 3), (0, 89), (0, 2), (0, 3), (0, 1)];
+/// How many lamps a state has room for: 32 main signals, and of eight lines seven block signals each way.
+pub const LAMPS: usize = 144;
+
+/// The tables of a state with their places and the lowest and the highest code; of heads no value is out of range.
+pub const CODES: [(usize, u16, u8, u8); 10] = [
+    (SECTION, 64, 1, 3), (1, 32, 1, 3), (2, 32, 0, 2), (3, 48, 0, 3), (4, 48, 0, 3), (5, 48, 0, 89), (6, 8, 0, 2), (STAGE, 64, 0, 4), (8, 64, 0, 1),
+    (LAMP, LAMPS as u16, 1, 3),
+];
 
 /// No code of a state is outside its range.
 pub fn in_range(state: &Fields) -> bool {
-    state.iter().zip(CODES).all(|(t, (low, high))| t.iter().all(|&x| low <= x && x <= high))
+    CODES.iter().all(|&(t, _, low, high)| state[t].iter().all(|&x| low <= x && x <= high))
 }
 
 /// A layout and a state with a change; one that there is no place for changes nothing, and a field that is no table has its one place.

@@ -17,13 +17,13 @@ pub const BRANCH_U: [u8; 65] = [
     0, 0, 0, 3, 2, 0, 1, 0, 1, 4, 0, 1, 0, 1, 2, 0, 2, 1, 3,
 ];
 
-// Section 8.
-pub const P1: &str = "(4 0 0)(1 0 1)(1 1 1)(1 2 1)(1 3 1)(2 0 1)(6 0 1)(7 0 1)(6 0 1)(4 1 0)(4 0 0)(4 2 0)";
+// Section 8, P1 with the report that L3 adds.
+pub const P1: &str = "(4 0 0)(1 0 1)(1 1 1)(1 2 1)(1 3 1)(2 0 1)(6 0 1)(7 0 1)(15 2 1)(6 0 1)(4 1 0)(4 0 0)(4 2 0)";
 const P3: &str = "(1 0 2)(1 1 2)(1 0 1)";
 const P4: &str = "(1 2 2)(1 3 2)(1 1 1)";
 
-// Branch U with all free, its points in position, its line released by hand and secured from A to B.
-const U0: &str = "(1 0 1)(1 1 1)(1 2 1)(1 3 1)(1 4 1)(1 5 1)(2 0 1)(2 1 1)(7 0 1)(6 0 1)";
+// Branch U with all free, its points in position, its line released by hand, the lamp at B at stop, and the line secured from A to B.
+const U0: &str = "(1 0 1)(1 1 1)(1 2 1)(1 3 1)(1 4 1)(1 5 1)(2 0 1)(2 1 1)(7 0 1)(15 2 1)(6 0 1)";
 
 /// Events written as in document 01.
 pub fn events(text: &str) -> Vec<Event> {
@@ -39,10 +39,10 @@ fn times(n: usize, text: &str) -> String {
 /// The runs of section 8 on a file of branch T; the last event of each asks what became of route 0 or of the line.
 pub fn section_8(c: &mut Runs, t: &[u8]) {
     let mut on_t = |label: &str, text: String, last: &[(u32, u32)]| c.made(label, t, &events(&text), last);
-    let answers = [(8, 0), (0, 0), (0, 0), (0, 0), (0, 0), (0, 0), (10, 1), (0, 0), (0, 0), (0, 0), (0, 0), (5, 1)];
+    let answers = [(8, 0), (0, 0), (0, 0), (0, 0), (0, 0), (0, 0), (10, 1), (0, 0), (0, 0), (0, 0), (0, 0), (0, 0), (5, 1)];
     on_t("P1", P1.to_string(), &answers);
     on_t("P3", format!("{P1}{P3}(5 0 0)"), &[(13, 0)]);
-    on_t("P4", format!("{P1}{P3}{P4}(6 0 2)"), &[(0, 0)]);
+    on_t("P4", format!("{P1}{P3}{P4}(15 1 1)(6 0 2)"), &[(0, 0)]);
     on_t("P5", format!("{P1}{P3}(1 2 2)(1 3 2)(1 1 0)(1 1 1)(6 0 2)"), &[(12, 1)]);
     for (seconds, answer) in [(0, 14), (1, 14), (88, 14), (89, 14), (90, 13), (91, 13)] {
         on_t("P6", format!("{P1}(5 0 0){}(5 0 0)", times(seconds, "(10 0 0)")), &[(answer, 0)]);
@@ -71,13 +71,16 @@ pub fn refusals(c: &mut Runs, t: &[u8], u: &[u8]) {
     on_t(format!("{free}(4 1 0)"), (6, 0));
     on_t(format!("{free}(1 0 2)(4 0 0)"), (7, 0));
     on_t("(5 0 0)".to_string(), (13, 0));
+    on_t(format!("{P1}{P3}(1 2 2)(1 3 2)(1 2 1)(1 3 0)(1 1 1)(5 1 0)"), (13, 1));
     on_t(format!("{P1}(3 0 2)"), (15, 1));
+    on_t(format!("{P1}(5 1 0)(3 0 2)"), (15, 1));
     on_t(format!("{P1}(7 0 1)"), (17, 0));
     on_t(format!("{P1}(5 0 0)(7 0 1)"), (17, 0));
     on_t(format!("{P1}(1 1 2)(1 2 2)(1 1 1)(6 0 2)"), (12, 1));
     on_t(format!("{P1}(5 0 0)(1 1 2)(1 2 2)(1 1 1)(6 0 2)"), (12, 1));
     on_t(format!("{free}(2 0 2)(3 0 2)(4 1 0)"), (6, 0));
     on_t(format!("{free}(2 0 1)(3 0 1)(4 1 0)"), (0, 0));
+    on_t(format!("{free}(7 0 1)(6 0 1)"), (31, 2));
     let mut on_u = |text: String, last: (u32, u32)| c.made("on branch U", u, &events(&text), &[last]);
     on_u(format!("{U0}(8 0 1)(4 0 0)"), (0, 0));
     on_u(format!("{U0}(7 0 2)(4 0 0)"), (9, 0));
@@ -90,6 +93,7 @@ pub fn refusals(c: &mut Runs, t: &[u8], u: &[u8]) {
     on_u(format!("{U0}(4 0 0)(8 0 0)(9 0 0)(4 0 0)"), (4, 0));
     on_u(format!("{U0}(7 0 1)(8 0 1)(6 0 1)"), (11, 3));
     on_u(format!("{U0}(6 0 2)"), (12, 1));
+    on_u(format!("{U0}(7 0 1)(6 0 2)"), (31, 1));
     on_u(format!("{U0}(3 1 2)"), (16, 0));
     on_u(format!("{U0}(7 0 1)(1 3 3)(3 1 2)"), (8, 3));
     on_u(format!("{U0}(1 3 0)(7 0 1)"), (8, 3));
@@ -196,7 +200,7 @@ impl Weaver<'_> {
     fn episode(&mut self) {
         let (sections, points, lines) = (self.l.nsec, self.l.own.len(), self.l.lines.len());
         let way = 1 + self.g.below(2) as u32;
-        match self.g.below(12) {
+        match self.g.below(13) {
             0..=3 => {
                 let section = self.one(sections);
                 self.dies(section, way);
@@ -224,6 +228,10 @@ impl Weaver<'_> {
                 self.push([6, line, way]);
             }
             11 if !self.l.fitted.is_empty() => self.reset(),
+            12 => {
+                let (signal, code) = (self.one(self.l.all_sigs()), self.dead());
+                self.until([15, signal, code], [15, signal, way]);
+            }
             _ => {
                 let (first, second) = (ODD[self.g.below(20)], ODD[self.g.below(20)]);
                 let kind = self.g.below(LAST_KIND as usize + 2) as u32;

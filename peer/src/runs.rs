@@ -3,8 +3,8 @@ use crate::layout::{self, Layout};
 use crate::lbox::{self, Var};
 use crate::level::{ADDED, LEVEL};
 use crate::num;
-use crate::records::{change, heads_of, in_range, tables, with_readings, Change, Fields, Plan, HEADS, SECTION};
-use crate::{distant_cases, hand_cases, head_cases, run_cases};
+use crate::records::{change, heads_of, in_range, tables, with_readings, Change, Fields, Plan, HEADS, LAMP, READ};
+use crate::{distant_cases, hand_cases, head_cases, lamp_cases, run_cases};
 use std::collections::BTreeMap;
 
 pub type Event = [u32; 3];
@@ -89,17 +89,22 @@ fn shown_heads(plan: &Plan, t: &Fields) -> String {
     if heads.is_empty() { heads } else { heads + "\n" }
 }
 
-// The tables of a state but for its heads, as far as the layout has objects.
+// A line with what the lamps report, as far as the layout has signals.
+fn shown_lamps(plan: &Plan, t: &Fields) -> String {
+    digits(&t[LAMP], plan.signals(), false) + " \n"
+}
+
+// The tables of a state but for its heads and lamps, as far as the layout has objects.
 fn shown(plan: &Plan, t: &Fields) -> String {
     let (sections, points, routes, lines) = (plan.sections(), plan.points(), plan.route_count(), plan.line_count());
     let counts = [sections, points, points, routes, routes, routes, lines, 8 * lines, 8 * lines];
     t.iter().zip(counts).enumerate().map(|(k, (codes, n))| digits(codes, n, k == 5) + " ").collect()
 }
 
-/// The answers to a run, and its text. A state that was changed by hand in more than readings of sections and heads is only asked for refusals.
+/// The answers to a run, and its text. A state that was changed by hand in other tables than those of `READ` is only asked for refusals.
 pub fn play(run: &Run, v: &Var) -> (Vec<(u32, u32)>, String) {
     let Start { loaded, plan, state, sound } = start(run, v.n);
-    let by_hand = run.changes.iter().any(|c| c.record == 1 && ![SECTION, HEADS].contains(&(c.field as usize)));
+    let by_hand = run.changes.iter().any(|c| c.record == 1 && !READ.contains(&(c.field as usize)));
     let mut s = with_readings(&sound.clone().unwrap_or_default(), &state);
     let (mut answers, mut text, mut left) = (vec![], format!("{loaded}\n"), run.events.len());
     let now = |s: &lbox::State| match &sound {
@@ -127,7 +132,9 @@ pub fn play(run: &Run, v: &Var) -> (Vec<(u32, u32)>, String) {
             text += &line(&s);
         }
     }
-    text += &shown_heads(&plan, &now(&s));
+    let last = now(&s);
+    text += &shown_heads(&plan, &last);
+    text += &shown_lamps(&plan, &last);
     (answers, text)
 }
 
@@ -245,6 +252,7 @@ pub fn all(seed: u64) -> Runs {
     run_cases::all(&mut runs, seed);
     hand_cases::all(&mut runs, seed);
     head_cases::all(&mut runs);
+    lamp_cases::all(&mut runs);
     distant_cases::runs(&mut runs);
     runs
 }

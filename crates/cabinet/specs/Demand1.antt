@@ -6,7 +6,7 @@ use Rattle.step_facts.specs.Numbers.{OfEvents}
 use Rattle.cabinet.specs.Calls.{Records, Call, powerOn, loadFile, fitSections, giveEvent, drawPanel, afterCall, tells, lent}
 
 -- the numbers that a call can be answered by: of a layout file 0 or 21 to 26 (section 2), of a file of fitted sections 0, 21 or 22 (L1), of an event 0 to 18
--- (section 3), 30, 34 or 35 (L1), of a panel image 0, 18 or 27 (section 7)
+-- (section 3), 30, 34 or 35 (L1), or 31 (L3), of a panel image 0, 18 or 27 (section 7)
 unfoldable pub Numbered : Call → ℕ → Type 0
 Numbered powerOn n = n ≡ 0
 Numbered (loadFile bytes) n = (n ≡ 0) ⊎ ((21 ≤ n) × (n ≤ 26))

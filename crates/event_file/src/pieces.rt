@@ -5,6 +5,7 @@ use crate::next_event;
 use interlocking::State;
 use interlocking::parts::core_of;
 use interlocking::parts::head_place;
+use interlocking::parts::lamps_then;
 use interlocking::parts::whole;
 use layout::Layout;
 use track::codes::AXLES_IN;
@@ -103,8 +104,8 @@ fn so_far(state: State, count: u64, at: usize, written: usize) -> Piece
 }
 
 // A run over a piece of the file from a place on, from a state that was asked for soundness with its layout before the file's first event.
-// The nine tables and the heads go apart, so that an event copies only the heads that it names, and stores them only from the first kind of heads on
-// (request L1): below it nothing changes them.
+// The nine tables, the heads and the lamps go apart, so that an event copies only the heads that it names, and stores them only from the first kind of
+// heads on (request L1): below it nothing changes them. The lamps are lent, and an accepted report is stored in them (request L3).
 pub fn run_piece(
     panel: bool,
     layout: Layout,
@@ -119,10 +120,11 @@ pub fn run_piece(
 {
     let mut core = core_of(state);
     let mut axles = state.axles;
+    let mut lamps = state.lamp;
     let mut written: usize = 0;
     for _ in 0u32..65536 {
         if out.len() - written < most_line(panel) {
-            return halt(so_far(whole(core, axles), count, at, written), at, 1);
+            return halt(so_far(whole(core, axles, lamps), count, at, written), at, 1);
         }
         let there = next_event(bytes, at);
         let Next::Taken {
@@ -132,16 +134,21 @@ pub fn run_piece(
             next,
         } = there
         else {
-            return halt_by(so_far(whole(core, axles), count, at, written), there, last);
+            return halt_by(
+                so_far(whole(core, axles, lamps), count, at, written),
+                there,
+                last,
+            );
         };
         let place = head_place(kind, first);
         let heads = axles[place];
-        let a = core.step_in_run(heads, layout, kind, first, second);
+        let a = core.step_in_run(heads, &lamps, layout, kind, first, second);
         core = a.next;
         if AXLES_IN <= kind {
             let then = a.heads;
             axles[place] = then;
         }
+        lamps_then(&mut lamps, a.number, kind, first, second);
         count = next_count(count);
         at = next;
         written = if panel {
@@ -150,7 +157,7 @@ pub fn run_piece(
             lines::put_line(count, a.number, a.detail, out, written)
         };
     }
-    so_far(whole(core, axles), count, at, written)
+    so_far(whole(core, axles, lamps), count, at, written)
 }
 
 // The bytes of a buffer from one place to another are brought to its front; how many they are.

@@ -33,7 +33,7 @@ use Rattle.cabinet.specs.Runs.{eventsSince, loadedAfter, toldAfter, layoutAfter
 use Rattle.cabinet.proofs.Runs.{in-run, waits}
 use Rattle.safety.specs.History.{Moment, History, Throughout, moment, goesOn, history}
 use Rattle.safety.specs.Grants.{AcceptedJust}
-use Rattle.safety.proofs.Passing.{on-with}
+use Rattle.safety.proofs.OneMore.{on-with}
 use Rattle.safety.proofs.Grants.{accepts-run}
 use Rattle.in_service.specs.Demands.{lastImage, Demanded, Unserved}
 use Rattle.in_service.specs.Calls.{drawnThen, logOf, EveryCall, EveryCallInRoom}

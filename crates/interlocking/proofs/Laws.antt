@@ -1,29 +1,29 @@
 -- The cases of what an event itself does and of a state's ranges, each from the facts that choose it.
-use Prim.Native.Nat.{ℕ, _*_, _/_, _%_, _<_, _≤_}
-use mathlib.Core.Path.{_≡_, refl, sym, ap, _∙_}
+use Prim.Native.Nat.{ℕ, _*_, _/_, _%_, _≤_}
+use mathlib.Core.Path.{_≡_, sym, _∙_}
 use mathlib.Core.Bool.{Bool, true, false, _&&_}
 use mathlib.Core.List.{List}
 use native.Mathlib.Omega.{arith}
 use lib.Dec.{eqb, ltb}
-use lib.ListN.{length, getD, set}
+use lib.ListN.{length, set}
 use lib.Seq.{set-out}
 use Rattle.laws.specs.Tests.{_and_, every}
 use Rattle.laws.specs.Tables.{each, put}
 use Rattle.laws.proofs.Choice.{if-true, if-false, if-eq, if-ne}
 use Rattle.laws.proofs.Each.{put-set}
 use Rattle.track.specs.declared.Line.{Line}
-use Rattle.track.specs.Codes.{free, occupied, readsNone, neutral, bToA, openBlock, stage2, idle, atProceed, cancelling}
-use Rattle.track.specs.Sizes.{mostSections, mostPoints, mostLines, mostBlocks, mostPlaces, mostTrainRoutes, mostRoutes}
+use Rattle.track.specs.Codes.{free, left, right, readsNone, neutral, bToA, openBlock, stage3, idle, atProceed, cancelling, lampStop, lampNone}
+use Rattle.track.specs.Sizes.{mostSections, mostPoints, mostLines, mostBlocks, mostPlaces, mostTrainRoutes, mostRoutes, mostLamps}
 use Rattle.track.specs.Objects.{line}
 use Rattle.tables.specs.Readings.{pointReading}
 use Rattle.tables.specs.Blocks.{place}
-use Rattle.tables.specs.declared.Gives.{Gives}
-use Rattle.passage.specs.Passage.{ownStage}
-use Rattle.line_block.proofs.FarSections.{line-in}
+use Rattle.line_block.specs.Entries.{fewLines}
+use Rattle.line_block.specs.OwnReadings.{ownStages}
+use Rattle.line_block.proofs.Lines.{few-all}
 use Rattle.interlocking.specs.declared.Core.{Core}
-use Rattle.interlocking.specs.State.{codes, routesAndLinesInRange, withSections, withPoints, withRoutes, withLines, withBars}
-use Rattle.interlocking.specs.Parts.{coreOf, bare}
-use Rattle.interlocking.specs.Own.{ownGiven, ownStageAt, ownSection, ownPoint, throwReading, ownThrow, ownSet, ownCancel, ownSecure, openAt, ownManual, ownBar}
+use Rattle.interlocking.specs.State.{codes, inRange, routesAndLinesInRange, withSections, withPoints, withRoutes, withLines, withBars}
+use Rattle.interlocking.specs.Parts.{coreOf, headless, bare}
+use Rattle.interlocking.specs.Own.{ownSection, ownPoint, throwReading, ownThrow, ownSet, ownCancel, ownSecure, openAt, ownManual, ownBar}
 
 -- ---- one store
 
@@ -45,23 +45,6 @@ pub throw-lost : (points : List ℕ) (p w x r : ℕ) → x ≡ pointReading poin
 unfolding throwReading
 throw-lost points p w x r e h q = if-ne (pointReading points p) w _ _ r (λ z. h (e ∙ z)) q
 
--- the stage at a place, by what is given to the block of the line read there
-module _ (ls : List Line) (e : Gives) (k was m : ℕ) (d : Line) (x : ℕ) (q : length ls ≡ mostLines) (b : k < m) (few : m ≤ mostPlaces)
-    (g : x ≡ ownGiven e (getD ls (k / mostBlocks) d) (k % mostBlocks)) where
-  -- what is given to the block of the line read is given to the block at the place, since the table has that line there
-  given-there : x ≡ ownGiven e (line ls (k / mostBlocks)) (k % mostBlocks)
-  given-there = g ∙ ap (λ (y : Line). ownGiven e y (k % mostBlocks)) (line-in ls k m d q b few)
-
-  -- the stage goes by it
-  pub own-here : (r : ℕ) → r ≡ ownStage x was → r ≡ ownStageAt ls e k was
-  unfolding ownStageAt
-  own-here r f = f ∙ ap (λ y. ownStage y was) given-there
-
-  -- where it is nothing the stage stays
-  pub own-elsewhere : x ≡ 0 → was ≡ ownStageAt ls e k was
-  unfolding ownStage
-  own-elsewhere z = own-here was (if-ne x occupied _ _ was (omega arith) (if-ne x readsNone _ _ was (omega arith) (if-ne x free _ _ was (omega arith) refl)))
-
 -- the stage of a block that is opened by hand, and of one that is not
 module _ (ls : List Line) (l k was r : ℕ) (b : Line) (e : b ≡ line ls l) where
   -- a block of that line is opened
@@ -77,11 +60,12 @@ module _ (ls : List Line) (l k was r : ℕ) (b : Line) (e : b ≡ line ls l) whe
 -- ---- what each event itself does, put together from its stores
 
 module _ (s : Core) where
-  -- 1: the reading stored, and the stages
-  pub section-made : (ls : List Line) (n g v : ℕ) (section stage : List ℕ) → section ≡ put mostSections (s .section) g v
-      → stage ≡ each (mostBlocks * n) (ownStageAt ls (record { section = g; reading = v; tick = 0 })) (s .stage) → coreOf (withSections (bare s) section stage) ≡ coreOf (ownSection ls n (bare s) g v)
+  -- 1: the reading stored, and the stages of all lines
+  pub section-made : (m : ℕ) (ls : List Line) (n : ℕ) (lamps : List ℕ) (g v : ℕ) (section stage : List ℕ) → n ≤ mostLines → section ≡ put mostSections (s .section) g v
+      → stage ≡ ownStages (fewLines n) m ls (s .direction) lamps (record { section = g; reading = v; tick = 0 }) (s .stage)
+      → coreOf (withSections (headless s lamps) section stage) ≡ coreOf (ownSection m ls n (headless s lamps) g v)
   unfolding ownSection
-  section-made ls n g v section stage p q = rw (p, q)
+  section-made m ls n lamps g v section stage few p q = rw (p, q, few-all n few)
 
   -- 2: the reading stored
   pub point-made : (a v : ℕ) (point : List ℕ) → point ≡ put mostPoints (s .point) a v → coreOf (withPoints (bare s) point (s .order)) ≡ coreOf (ownPoint (bare s) a v)
@@ -122,9 +106,18 @@ module _ (s : Core) where
   unfolding ownBar
   bar-made l i b bar p = rw p
 
+-- ---- ranges
+
 -- the codes of routes, lines and blocks, from their six tests
 pub range-made : (s : Core) (phase step second direction stage bar : Bool) → phase ≡ codes mostRoutes idle cancelling (s .phase) → step ≡ codes mostTrainRoutes 0 3 (s .steps)
-    → second ≡ codes mostTrainRoutes 0 89 (s .seconds) → direction ≡ codes mostLines neutral bToA (s .direction) → stage ≡ codes mostPlaces openBlock stage2 (s .stage) → bar ≡ codes mostPlaces 0 1 (s .bar)
+    → second ≡ codes mostTrainRoutes 0 89 (s .seconds) → direction ≡ codes mostLines neutral bToA (s .direction) → stage ≡ codes mostPlaces openBlock stage3 (s .stage) → bar ≡ codes mostPlaces 0 1 (s .bar)
     → phase && (step && (second && (direction && (stage && bar)))) ≡ routesAndLinesInRange (bare s)
 unfolding routesAndLinesInRange every
 range-made s phase step second direction stage bar e₁ e₂ e₃ e₄ e₅ e₆ = rw (e₁, e₂, e₃, e₄, e₅, e₆)
+
+-- those of a state, from its five tests; routes, lines and blocks are asked without the lamps, at which their codes do not look
+pub codes-made : (s : Core) (lamps : List ℕ) (section point order rest lamp : Bool) → section ≡ codes mostSections free readsNone (s .section) → point ≡ codes mostPoints left readsNone (s .point)
+    → order ≡ codes mostPoints 0 right (s .order) → rest ≡ routesAndLinesInRange (bare s) → lamp ≡ codes mostLamps lampStop lampNone lamps
+    → section && (point && (order && (rest && lamp))) ≡ inRange (headless s lamps)
+unfolding inRange routesAndLinesInRange every
+codes-made s lamps section point order rest lamp e₁ e₂ e₃ e₄ e₅ = rw (e₁, e₂, e₃, e₄, e₅)

@@ -1,17 +1,20 @@
 -- The step of the whole state, from that of its parts.
 use Prim.Native.Nat.{ℕ, _%_, _<_}
-use mathlib.Core.Path.{_≡_, refl, sym, _∙_, fun-ext}
+use mathlib.Core.Path.{_≡_, refl, sym, ap, _∙_, fun-ext}
 use mathlib.Core.Bool.{Bool, true, false, not, _&&_}
+use mathlib.Core.List.{List}
 use native.Mathlib.Omega.{arith}
 use borrow.Author.Tests.{ltb-true, not-true, not-false}
-use lib.Dec.{ltb}
+use lib.Dec.{eqb, ltb}
 use Rattle.laws.specs.Tests.{_and_}
-use Rattle.laws.specs.Tables.{each}
+use Rattle.laws.specs.Tables.{each, put}
 use Rattle.laws.proofs.Choice.{if-true, if-false, if-both}
 use Rattle.laws.proofs.Tests.{and-right}
-use Rattle.track.specs.Sizes.{mostSections}
+use Rattle.track.specs.Codes.{reportLamp}
+use Rattle.track.specs.Sizes.{mostSections, mostLamps}
 use Rattle.track.specs.Signal.{Signal, main, into}
 use Rattle.tables.specs.declared.Gives.{Gives}
+use Rattle.tables.specs.Readings.{recorded}
 use Rattle.layout.specs.declared.Layout.{Layout}
 use Rattle.axles.specs.declared.Axles.{Axles}
 use Rattle.axles.specs.Heads.{axlesAfter}
@@ -19,8 +22,8 @@ use Rattle.interlocking.specs.Own.{headSection, headsBy}
 use Rattle.interlocking.specs.declared.State.{State}
 use Rattle.interlocking.specs.declared.Core.{Core}
 use Rattle.interlocking.specs.State.{inRange, routesAndLinesInRange, withRoutes, withLines}
-use Rattle.interlocking.specs.Settle.{fallenAt, signals, proceedsIn, farSections, lockingOf, routeAfter, unlessIdle, routesBy, routes, lineRelease, settle}
-use Rattle.interlocking.specs.Parts.{coreOf, bare, whole, isOfHeads, headsThen, headPlace}
+use Rattle.interlocking.specs.Settle.{fallenAt, signals, proceedsIn, farSections, lockingOf, routeAfter, unlessIdle, routesBy, routes, arrivals, lineRelease, settle}
+use Rattle.interlocking.specs.Parts.{coreOf, headless, bare, whole, isOfHeads, headsThen, headPlace, lampsThen}
 
 -- ---- the heads of the section that an event names
 
@@ -55,10 +58,23 @@ module _ (x : Axles) (k a b : ℕ) (of : Bool) (e : of ≡ isOfHeads k) (r : Axl
   unfolding headsThen headsBy
   heads-taken f q = if-true _ _ _ r (sym e ∙ not-false of f) q
 
+-- ---- lamps
+
+module _ (lamps : List ℕ) (number k a b : ℕ) (r : List ℕ) where
+  -- an accepted report is stored, as it is recorded
+  pub lamp-told : (code : ℕ) → eqb number 0 && eqb k reportLamp ≡ true → code ≡ recorded b → r ≡ put mostLamps lamps a code → r ≡ lampsThen lamps number k a b
+  unfolding lampsThen _and_
+  lamp-told code t e q = if-true _ _ _ r t (q ∙ ap (put mostLamps lamps a) e)
+
+  -- nothing else is
+  pub lamp-left : eqb number 0 && eqb k reportLamp ≡ false → r ≡ lamps → r ≡ lampsThen lamps number k a b
+  unfolding lampsThen _and_
+  lamp-left f q = if-false _ _ _ r f q
+
 -- ---- ranges
 
--- a state is in range where its nine tables are: heads have no range
-pub range-of-core : (s : State) (c : Core) (r : Bool) → c ≡ coreOf s → r ≡ inRange (bare c) → r ≡ inRange s
+-- a state is in range where its nine tables and its lamps are: heads have no range
+pub range-of-core : (s : State) (c : Core) (r : Bool) → c ≡ coreOf s → r ≡ inRange (headless c (s .lamp)) → r ≡ inRange s
 unfolding inRange routesAndLinesInRange coreOf
 range-of-core s c r e p = rw e at p
 
@@ -73,7 +89,7 @@ proceeds-same L s = fun-ext same
     same (main x) = refl
     same (into l i w) = refl
 
--- what follows is made of the nine tables, and leaves the heads
-pub settle-parts : (L : Layout) (s u : State) (e : Gives) → whole (coreOf (settle L (bare (coreOf s)) (bare (coreOf u)) e)) (u .axles) ≡ settle L s u e
-unfolding settle lineRelease routes routesBy farSections signals withRoutes withLines fallenAt routeAfter lockingOf unlessIdle coreOf
+-- what follows is made of the nine tables, and leaves heads and lamps
+pub settle-parts : (L : Layout) (s u : State) (e : Gives) → whole (coreOf (settle L (bare (coreOf s)) (bare (coreOf u)) e)) (u .axles) (u .lamp) ≡ settle L s u e
+unfolding settle lineRelease arrivals routes routesBy farSections signals withRoutes withLines fallenAt routeAfter lockingOf unlessIdle coreOf
 settle-parts L s u e = rw (proceeds-same L s, proceeds-same L (withRoutes u (each (L .routes) (fallenAt (L .line) (L .route) u) (u .phase)) (u .steps) (u .seconds)))

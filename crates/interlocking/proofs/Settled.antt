@@ -27,6 +27,7 @@ use Rattle.release.specs.declared.Locking.{Locking}
 use Rattle.release.specs.declared.Settled.{Settled}
 use Rattle.release.specs.Release.{lockingAfter, settledFrom, settled}
 use Rattle.line_block.specs.FarSections.{farStages}
+use Rattle.line_block.specs.PassingBack.{noOpening, arrives, passedBack}
 use Rattle.line_block.specs.LineRelease.{directionsAfter}
 use Rattle.line_block.specs.Entries.{entryProceeds, mainProceedsBy, proceedsBy, fewLines}
 use Rattle.line_block.proofs.Lines.{few-all}
@@ -34,10 +35,10 @@ use Rattle.layout.specs.declared.Layout.{Layout}
 use Rattle.interlocking.specs.declared.State.{State}
 use Rattle.interlocking.specs.State.{withRoutes, withLines}
 use Rattle.interlocking.specs.declared.answering.Walked.{Walked}
-use Rattle.interlocking.specs.Walk.{IsWalk}
 use Rattle.interlocking.specs.declared.Core.{Core}
 use Rattle.interlocking.specs.Parts.{coreOf, bare}
-use Rattle.interlocking.specs.Settle.{fallenAt, signals, proceedsIn, farSections, lockingOf, routeAfter, unlessIdle, routesBy, routes, lineRelease, settle}
+use Rattle.interlocking.proofs.Walk.{IsWalk, fell}
+use Rattle.interlocking.specs.Settle.{fallenAt, signals, proceedsIn, farSections, lockingOf, routeAfter, unlessIdle, routesBy, routes, arrivals, lineRelease, settle}
 
 -- ---- one turn of the walk
 
@@ -58,10 +59,6 @@ fallen-live ls sections points stages bars a was h =
 pub fallen-idle : (ls : List Line) (sections points stages bars : List ℕ) (a : Route) (was : ℕ) → was ≡ 0 → was ≡ fallen ls sections points stages bars a was
 unfolding fallen
 fallen-idle ls sections points stages bars a was h = if-ne was 1 _ _ was (λ z. omega arith) refl
-
--- the state whose signals have fallen, of n routes
-unfoldable pub fell : List Line → List Route → ℕ → State → State
-fell ls rs n s = withRoutes s (each n (fallenAt ls rs s) (s .phase)) (s .steps) (s .seconds)
 
 module _ (ls : List Line) (rs : List Route) (n : ℕ) (s : State) (r : ℕ) (b : r < n) (few : n ≤ mostTrainRoutes) where
   -- what the fallen state has at a route that there is
@@ -187,22 +184,23 @@ module _ (L : Layout) (before s : State) (e : Gives) (few-lines : L .lines ≤ m
           (sym (fell-at (L .line) (L .route) (L .routes) s k b few) ∙ y) in
           sym (if-ne _ 0 _ _ (x k) live refl) ∙ if-ne _ 0 _ _ (x k) live refl
 
-  module _ (zeros entry fallen phase step second stage direction : List ℕ)
+  module _ (zeros entry fallen phase step second far stage direction : List ℕ)
       (e₁ : entry ≡ each (L .routes) (λ r was. route (L .route) r .entry) zeros)
       (e₂ : fallen ≡ each (L .routes) (fallenAt (L .line) (L .route) s) (s .phase))
       (e₃ : phase ≡ each (L .routes) (λ r was. unlessIdle after-fall r was (routeAfter (L .line) (L .route) after-fall e r .phase)) (s .phase))
       (e₄ : step ≡ each (L .routes) (λ r was. unlessIdle after-fall r was (routeAfter (L .line) (L .route) after-fall e r .steps)) (s .steps))
       (e₅ : second ≡ each (L .routes) (λ r was. unlessIdle after-fall r was (routeAfter (L .line) (L .route) after-fall e r .seconds)) (s .seconds))
-      (e₆ : stage ≡ farStages (fewLines (L .lines)) (L .line) (s .direction) (s .section)
+      (e₆ : far ≡ farStages (fewLines (L .lines)) (L .line) (s .direction) (s .section)
       (proceedsBy (L .line) (L .routes) entry (before .phase) (before .direction) (before .point) (before .stage) (before .bar))
       (proceedsBy (L .line) (L .routes) entry fallen (s .direction) (s .point) (s .stage) (s .bar)) (s .stage))
-      (e₇ : direction ≡ directionsAfter (fewLines (L .lines)) (L .line) (L .routes) (L .route) (before .stage) stage (s .bar) phase (s .direction)) where
+      (e₇ : stage ≡ passedBack (fewLines (L .lines)) (L .line) (s .direction) noOpening (arrives (L .routes) (L .route) (before .phase) phase) far)
+      (e₈ : direction ≡ directionsAfter (fewLines (L .lines)) (L .line) (L .routes) (L .route) (before .stage) stage (s .bar) phase (s .direction)) where
     -- by that table signals show what they show by the routes
     shown-same : (t : State) → proceedsBy (L .line) (L .routes) entry (t .phase) (t .direction) (t .point) (t .stage) (t .bar) ≡ proceedsIn L t
     shown-same t = rw e₁ (fun-ext (λ x. shows-same L zeros t x few))
 
     -- the stages move by the fallen state
-    stages-moved : stage ≡ farStages (L .lines) (L .line) (s .direction) (s .section) (proceedsIn L before) (proceedsIn L after-fall) (s .stage)
+    stages-moved : far ≡ farStages (L .lines) (L .line) (s .direction) (s .section) (proceedsIn L before) (proceedsIn L after-fall) (s .stage)
     unfolding fell withRoutes
     stages-moved =
         e₆ ∙ ap₂ (λ (m : ℕ) (xs : List ℕ). farStages m (L .line) (s .direction) (s .section)
@@ -214,13 +212,21 @@ module _ (L : Layout) (before s : State) (e : Gives) (few-lines : L .lines ≤ m
     phases-moved : phase ≡ each (L .routes) (λ r was. unlessIdle after-fall r was (routeAfter (L .line) (L .route) after-fall e r .phase)) (after-fall .phase)
     phases-moved = e₃ ∙ from-fallen (λ r. routeAfter (L .line) (L .route) after-fall e r .phase)
 
-    -- the directions go by the stages and the phases after both
-    directions-moved : direction ≡ lineRelease L before (routes L (farSections L before (signals L s)) e) .direction
-    unfolding lineRelease routes routesBy farSections signals withRoutes withLines fell unlessIdle routeAfter lockingOf
-    directions-moved =
-        e₇ ∙ ap (λ m. directionsAfter m (L .line) (L .routes) (L .route) (before .stage) stage (s .bar) phase (s .direction)) (few-all (L .lines) few-lines)
-        ∙ ap₂ (λ (xs ys : List ℕ). directionsAfter (L .lines) (L .line) (L .routes) (L .route) (before .stage) xs (s .bar) ys (s .direction))
+    -- blocks that wait open by the routes whose phases went to idle
+    arrivals-moved : stage ≡ arrivals L before (routes L (farSections L before (signals L s)) e) .stage
+    unfolding arrivals routes routesBy farSections signals withRoutes withLines fell unlessIdle routeAfter lockingOf
+    arrivals-moved =
+        e₇ ∙ ap (λ m. passedBack m (L .line) (s .direction) noOpening (arrives (L .routes) (L .route) (before .phase) phase) far) (few-all (L .lines) few-lines)
+        ∙ ap₂ (λ (xs ys : List ℕ). passedBack (L .lines) (L .line) (s .direction) noOpening (arrives (L .routes) (L .route) (before .phase) ys) xs)
         stages-moved phases-moved
+
+    -- the directions go by the stages and the phases after all of it
+    directions-moved : direction ≡ lineRelease L before (arrivals L before (routes L (farSections L before (signals L s)) e)) .direction
+    unfolding lineRelease arrivals routes routesBy farSections signals withRoutes withLines fell unlessIdle routeAfter lockingOf
+    directions-moved =
+        e₈ ∙ ap (λ m. directionsAfter m (L .line) (L .routes) (L .route) (before .stage) stage (s .bar) phase (s .direction)) (few-all (L .lines) few-lines)
+        ∙ ap₂ (λ (xs ys : List ℕ). directionsAfter (L .lines) (L .line) (L .routes) (L .route) (before .stage) xs (s .bar) ys (s .direction))
+        arrivals-moved phases-moved
 
     -- so the tables together are the state that follows
     pub settled-made : record {
@@ -234,18 +240,18 @@ module _ (L : Layout) (before s : State) (e : Gives) (few-lines : L .lines ≤ m
       stage = stage;
       bar = s .bar;
       axles = s .axles;
+      lamp = s .lamp;
     } ≡ settle L before s e
-    unfolding settle lineRelease routes routesBy farSections signals withRoutes withLines fell unlessIdle routeAfter lockingOf
-    settled-made = rw (phases-moved, e₄, e₅, directions-moved, stages-moved)
+    unfolding settle lineRelease arrivals routes routesBy farSections signals withRoutes withLines fell unlessIdle routeAfter lockingOf
+    settled-made = rw (phases-moved, e₄, e₅, directions-moved, arrivals-moved)
 
--- the tables that follow, from those of the walk and those that the code makes of them for far sections and lines; the lists that it was handed
--- are the layout's
-pub completed-made : (L : Layout) (before s : Core) (e : Gives) (blank : List ℕ) (w : Walked) (ls : List Line) (m : ℕ) (rs : List Route) (n : ℕ) (stage direction : List ℕ)
-    → IsWalk L (bare s) e blank w → L .lines ≤ mostLines → L .routes ≤ mostTrainRoutes → length (s .phase) ≡ mostRoutes → ls ≡ L .line → m ≡ L .lines → rs ≡ L .route → n ≡ L .routes
-    → stage ≡ farStages (fewLines m) ls (s .direction) (s .section)
-    (proceedsBy ls n (w .entry) (before .phase) (before .direction) (before .point) (before .stage) (before .bar))
-    (proceedsBy ls n (w .entry) (w .fallen) (s .direction) (s .point) (s .stage) (s .bar)) (s .stage)
-    → direction ≡ directionsAfter (fewLines m) ls n rs (before .stage) stage (s .bar) (w .phase) (s .direction)
+-- the tables that follow, from those of the walk and those that the code makes of them for far sections and blocks that wait
+pub completed-made : (L : Layout) (before s : Core) (e : Gives) (blank : List ℕ) (w : Walked) (far stage : List ℕ)
+    → IsWalk L (bare s) e blank w → L .lines ≤ mostLines → L .routes ≤ mostTrainRoutes → length (s .phase) ≡ mostRoutes
+    → far ≡ farStages (fewLines (L .lines)) (L .line) (s .direction) (s .section)
+    (proceedsBy (L .line) (L .routes) (w .entry) (before .phase) (before .direction) (before .point) (before .stage) (before .bar))
+    (proceedsBy (L .line) (L .routes) (w .entry) (w .fallen) (s .direction) (s .point) (s .stage) (s .bar)) (s .stage)
+    → stage ≡ passedBack (fewLines (L .lines)) (L .line) (s .direction) noOpening (arrives (L .routes) (L .route) (before .phase) (w .phase)) far
     → record {
       section = s .section;
       point = s .point;
@@ -253,12 +259,12 @@ pub completed-made : (L : Layout) (before s : Core) (e : Gives) (blank : List �
       phase = w .phase;
       steps = w .steps;
       seconds = w .seconds;
-      direction = direction;
+      direction = directionsAfter (fewLines (L .lines)) (L .line) (L .routes) (L .route) (before .stage) stage (s .bar) (w .phase) (s .direction);
       stage = stage;
       bar = s .bar;
     } ≡ coreOf (settle L (bare before) (bare s) e)
 unfolding fell signals coreOf
-completed-made L before s e blank w ls m rs n stage direction walk lines few len p q u v e₆ e₇ =
+completed-made L before s e blank w far stage walk lines few len e₆ e₇ =
     ap coreOf
-    (settled-made L (bare before) (bare s) e lines few len blank (w .entry) (w .fallen) (w .phase) (w .steps) (w .seconds) stage direction
-    (walk .entry) (walk .fallen) (walk .phase) (walk .steps) (walk .seconds) (rw (p, q, v) at e₆) (rw (p, q, u, v) at e₇))
+    (settled-made L (bare before) (bare s) e lines few len blank (w .entry) (w .fallen) (w .phase) (w .steps) (w .seconds) far stage _
+    (walk .entry) (walk .fallen) (walk .phase) (walk .steps) (walk .seconds) e₆ e₇ refl)

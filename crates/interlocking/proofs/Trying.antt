@@ -13,6 +13,7 @@ use Rattle.laws.specs.Tests.{_and_}
 use Rattle.laws.proofs.Choice.{if-eq, if-ne}
 use Rattle.laws.proofs.Tests.{and-right}
 use Rattle.track.specs.Lists.{between}
+use Rattle.track.specs.SignalNumbers.{signalCount}
 use Rattle.track.specs.Sizes.{mostSections, mostLines}
 use Rattle.tables.specs.declared.Gives.{Gives}
 use Rattle.layout.specs.declared.Layout.{Layout}
@@ -22,6 +23,7 @@ use Rattle.reasons.specs.Refusal.{refused, noRefusal, refusedIf}
 use Rattle.reasons.specs.Reasons.{noHeads, hasHeads}
 use Rattle.reasons.proofs.Laws.{first-here, first-next, first-last}
 use Rattle.refusals.specs.Events.{numbersRefusal}
+use Rattle.refusals.specs.Orders.{throwRefusal, exitRefusal, routeRefusal, setRefusal, cancelRefusal, manualRefusal}
 use Rattle.refusals.proofs.Granted.{granted-at, when-granted, granted-sound, granted-there, granted-fit, granted-second}
 use Rattle.axles.specs.declared.Axles.{Axles}
 use Rattle.interlocking.specs.declared.Core.{Core}
@@ -31,11 +33,11 @@ use Rattle.interlocking.specs.declared.Tried.{Tried}
 use Rattle.interlocking.specs.declared.CoreAnswer.{CoreAnswer}
 use Rattle.interlocking.specs.Settle.{settle}
 use Rattle.axles.specs.Heads.{speaking, axlesReading}
-use Rattle.interlocking.specs.State.{withSections, withAxles}
-use Rattle.interlocking.specs.Own.{ownSection, ownPoint, ownHeads}
-use Rattle.interlocking.specs.Rows.{Row, givesReading, headRow, stillSilent, noRow, rowWith}
+use Rattle.interlocking.specs.State.{withSections, withPoints, withRoutes, withLines, withBars, withAxles}
+use Rattle.interlocking.specs.Own.{ownSection, ownPoint, ownThrow, ownSet, ownCancel, ownSecure, ownManual, ownBar, ownHeads, headSection}
+use Rattle.interlocking.specs.Rows.{Row, givesReading, pointRow, throwRow, setRow, cancelRow, manualRow, barRow, secondRow, headRow, stillSilent, noRow, rowWith}
 use Rattle.interlocking.specs.Step.{rowRefusal}
-use Rattle.interlocking.specs.Parts.{coreOf, bare, moves, stays, tried, followed}
+use Rattle.interlocking.specs.Parts.{coreOf, headless, bare, moves, stays, tried, followed, numbersNamed, wrongCount, silence, headsRow}
 
 -- ---- one row
 
@@ -126,21 +128,24 @@ unfolding stillSilent
 silent-found y g x on e p = rw p at e
 
 -- the tables after a reading, with what is recorded of its code
-pub section-recorded : (ls : List Line) (n : ℕ) (s : State) (g v w : ℕ) (t : Core) → t ≡ coreOf (ownSection ls n s g v) → v ≡ w → t ≡ coreOf (ownSection ls n s g w)
-section-recorded ls n s g v w t e p = rw p at e
+pub section-recorded : (m : ℕ) (ls : List Line) (n : ℕ) (s : State) (g v w : ℕ) (t : Core) → t ≡ coreOf (ownSection m ls n s g v) → v ≡ w → t ≡ coreOf (ownSection m ls n s g w)
+section-recorded m ls n s g v w t e p = rw p at e
 
 pub point-recorded : (s : State) (p v w : ℕ) (t : Core) → t ≡ coreOf (ownPoint s p v) → v ≡ w → t ≡ coreOf (ownPoint s p w)
 point-recorded s p v w t e q = rw q at e
 
 -- what a section's heads say is its reading; of the tables nothing else knows of the heads
-pub heads-moved : (ls : List Line) (n : ℕ) (s : Core) (g v : ℕ) (y : Axles) (t : Core) → t ≡ coreOf (ownSection ls n (bare s) g v) → v ≡ axlesReading y → t ≡ coreOf (ownHeads ls n (bare s) g y)
+pub heads-moved : (m : ℕ) (ls : List Line) (n : ℕ) (s : Core) (lamps : List ℕ) (g v : ℕ) (y : Axles) (t : Core) → t ≡ coreOf (ownSection m ls n (headless s lamps) g v) → v ≡ axlesReading y
+    → t ≡ coreOf (ownHeads m ls n (headless s lamps) g y)
 unfolding ownHeads ownSection withSections withAxles coreOf
-heads-moved ls n s g v y t e p = rw p at e
+heads-moved m ls n s lamps g v y t e p = rw p at e
 
--- an event of heads, with the reason besides that the code found
-pub row-besides : (t : Bool) (s : Core) (a : ℕ) (L : Layout) (y : Axles) (g : ℕ) (m w : Bool) (f h : Refusal) (r : Tried)
-    → r ≡ tried t s a (headRow L (bare s) y g m w f) → f ≡ h → r ≡ tried t s a (headRow L (bare s) y g m w h)
-row-besides t s a L y g m w f h r e p = rw p at e
+-- an event of heads, with what the code asked by its kind k
+pub row-by-kind : (t : Bool) (c : Core) (a b k : ℕ) (L : Layout) (s : State) (x y : Axles) (g n : ℕ) (w : Bool) (f : Refusal) (r : Tried)
+    → r ≡ tried t c a (headRow L s y g (leb n a) w f) → g ≡ headSection k a → n ≡ numbersNamed k (L .sections) → w ≡ wrongCount k b → f ≡ silence x k g
+    → r ≡ tried t c a (headsRow L s x y k a b)
+unfolding headsRow
+row-by-kind t c a b k L s x y g n w f r e p q u v = rw (← p, ← q, ← u, ← v) e
 
 -- a section is given what is recorded
 pub reading-given : (a : ℕ) {v w : ℕ} → v ≡ w → record { section = a; reading = v; tick = 0 } ≡ givesReading a w
@@ -166,6 +171,61 @@ section-fits t m w a g f x fitted has e h p q len = go (decLt g mostSections)
     go (yes b) = omega arith
     go (no b) = absurd (let z : getD fitted g 0 ≡ 0 = List·getD-eq-default fitted 0 (omega arith) in omega (arith, one))
 
+-- ---- lamps
+
+-- a lamp's signal is missing by the count that the code found
+pub lamp-missing : (count m n a : ℕ) (ls : List Line) → count ≡ signalCount m n ls → leb count a ≡ leb (signalCount m n ls) a
+lamp-missing count m n a ls e = ap (λ x. leb x a) e
+
+-- an event that asks no lamp is tried with any lamps as it is with none, since its refusals do not look at them and the nine tables are made without them
+module _ (t : Bool) (L : Layout) (c : Core) (lamps : List ℕ) (a b : ℕ) where
+  -- 2
+  pub point-dark : tried t c a (pointRow L (bare c) a b) ≡ tried t c a (pointRow L (headless c lamps) a b)
+  unfolding tried rowRefusal coreOf pointRow ownPoint withPoints
+  point-dark = refl
+
+  -- 3
+  pub throw-dark : tried t c a (throwRow L (bare c) a b) ≡ tried t c a (throwRow L (headless c lamps) a b)
+  unfolding tried rowRefusal coreOf throwRow ownThrow withPoints throwRefusal
+  throw-dark = refl
+
+  -- 4
+  pub set-dark : tried t c a (setRow L (bare c) a b) ≡ tried t c a (setRow L (headless c lamps) a b)
+  unfolding tried rowRefusal coreOf setRow ownSet withRoutes setRefusal routeRefusal exitRefusal
+  set-dark = refl
+
+  -- 5
+  pub cancel-dark : tried t c a (cancelRow L (bare c) a b) ≡ tried t c a (cancelRow L (headless c lamps) a b)
+  unfolding tried rowRefusal coreOf cancelRow ownCancel withRoutes cancelRefusal
+  cancel-dark = refl
+
+  -- 7
+  pub manual-dark : tried t c a (manualRow L (bare c) a b) ≡ tried t c a (manualRow L (headless c lamps) a b)
+  unfolding tried rowRefusal coreOf manualRow ownManual withLines manualRefusal
+  manual-dark = refl
+
+  -- 8, 9
+  pub bar-dark : (bar : ℕ) → tried t c a (barRow bar L (bare c) a b) ≡ tried t c a (barRow bar L (headless c lamps) a b)
+  unfolding tried rowRefusal coreOf barRow ownBar withBars
+  bar-dark bar = refl
+
+-- so is one that asks no layout
+module _ (t : Bool) (c : Core) (lamps : List ℕ) (a : ℕ) where
+  -- 10
+  pub second-dark : (b : ℕ) → tried t c a (secondRow (bare c) a b) ≡ tried t c a (secondRow (headless c lamps) a b)
+  unfolding tried rowRefusal coreOf secondRow
+  second-dark b = refl
+
+  -- a kind that has no row
+  pub unknown-dark : tried t c a (noRow (bare c)) ≡ tried t c a (noRow (headless c lamps))
+  unfolding tried rowRefusal coreOf noRow
+  unknown-dark = refl
+
+-- a line is secured without a look at the lamps
+pub secure-moved : (s : Core) (lamps : List ℕ) (l w : ℕ) (t : Core) → t ≡ coreOf (ownSecure (bare s) l w) → t ≡ coreOf (ownSecure (headless s lamps) l w)
+unfolding ownSecure withLines coreOf
+secure-moved s lamps l w t e = e
+
 -- ---- the answer, from the event tried
 
 module _ (L : Layout) (s : Core) (x y : Axles) (t u : Tried) (e : t ≡ u) where
@@ -182,9 +242,9 @@ module _ (L : Layout) (s : Core) (x y : Axles) (t u : Tried) (e : t ≡ u) where
       if-eq (t .number) 0 _ _ _ h (ap₂ (λ n i. record { number = 0; detail = 0; next = n; heads = i }) q p) ∙ ap (followed L s x y) e
 
 -- an event tried, with what becomes of the heads by definition
-pub heads-given : (t : Bool) (L : Layout) (s : Core) (x : Axles) (k a b : ℕ) (y z : Axles) (r : Tried) → r ≡ tried t s a (rowWith L (bare s) x y k a b) → y ≡ z
-    → r ≡ tried t s a (rowWith L (bare s) x z k a b)
-heads-given t L s x k a b y z r e p = rw p at e
+pub heads-given : (t : Bool) (L : Layout) (c : Core) (s : State) (x : Axles) (k a b : ℕ) (y z : Axles) (r : Tried) → r ≡ tried t c a (rowWith L s x y k a b) → y ≡ z
+    → r ≡ tried t c a (rowWith L s x z k a b)
+heads-given t L c s x k a b y z r e p = rw p at e
 
 -- an event that is done
 module _ (t : Bool) (s : Core) (a : ℕ) (row : Row) (x : Tried) (e : x ≡ tried t s a row) where

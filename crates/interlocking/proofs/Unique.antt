@@ -1,4 +1,6 @@
 -- No second result meets the contract of a public function. Each `Post` is the contract itself, as the function is proved to meet it.
+use mathlib.Core.Path.{_≡_}
+use denote.Ref.{now}
 use Rattle.laws.proofs.Only.{Determines, only}
 use Rattle.interlocking.proofs.State.cold.Reads as cold
 use Rattle.interlocking.proofs.State.in_range.Reads as in-range
@@ -18,10 +20,12 @@ use Rattle.interlocking.proofs.State.axles_in.Reads as axles-in
 use Rattle.interlocking.proofs.State.axles_out.Reads as axles-out
 use Rattle.interlocking.proofs.State.head_silent.Reads as head-silent
 use Rattle.interlocking.proofs.State.reset_axles.Reads as reset-axles
+use Rattle.interlocking.proofs.State.report_lamp.Reads as report-lamp
 use Rattle.interlocking.proofs.parts.core_of.Reads as core-of
 use Rattle.interlocking.proofs.parts.whole.Reads as whole
 use Rattle.interlocking.proofs.parts.head_place.Reads as head-place
 use Rattle.interlocking.proofs.parts.heads_then.Reads as heads-then
+use Rattle.interlocking.proofs.parts.lamps_then.Reads as lamps-then
 
 -- the cold start
 pub cold-determined : Determines cold.Post
@@ -95,6 +99,10 @@ head-silent-determined κs a r q s = only
 pub reset-axles-determined : Determines reset-axles.Post
 reset-axles-determined κs a r q s = only
 
+-- 15: a lamp's report
+pub report-lamp-determined : Determines report-lamp.Post
+report-lamp-determined κs a r q s = only
+
 -- the nine tables of a state
 pub core-of-determined : Determines core-of.Post
 core-of-determined κs a r q s = only
@@ -110,3 +118,11 @@ head-place-determined κs a r q s = only
 -- what becomes of them
 pub heads-then-determined : Determines heads-then.Post
 heads-then-determined κs a r q s = only
+
+-- at every call, two outcomes that meet the contract leave one value behind the reference that `lent` reads
+abbrev DeterminesLent : {K : Type 0} {A R S : K → Type 0} {X : Type 0} → ((κs : K) → S κs → X) → ((κs : K) → A κs → R κs → S κs → Type 0) → Type 0
+DeterminesLent {K} {A} {R} {S} lent Post = (κs : K) (a : A κs) (r q : R κs) (s t : S κs) → Post κs a r s → Post κs a q t → lent κs s ≡ lent κs t
+
+-- the lamps after an event
+pub lamps-then-determined : DeterminesLent (λ κs s. now (s .0)) lamps-then.Post
+lamps-then-determined κs a r q s t = only

@@ -8,30 +8,21 @@ use Rattle.laws.specs.Tests.{_and_}
 use Rattle.laws.specs.Tables.{each, put}
 use Rattle.track.specs.declared.Line.{Line}
 use Rattle.track.specs.Codes.{readsNone, neutral, openBlock, atProceed, cancelling, resetAxles}
-use Rattle.track.specs.Sizes.{mostSections, mostPoints, mostLines, mostBlocks, mostPlaces, mostTrainRoutes, mostRoutes}
+use Rattle.track.specs.Sizes.{mostSections, mostPoints, mostLines, mostBlocks, mostPlaces, mostTrainRoutes, mostRoutes, mostLamps}
 use Rattle.track.specs.Objects.{line}
-use Rattle.tables.specs.declared.Gives.{Gives}
-use Rattle.tables.specs.Readings.{blockGiven, pointReading}
+use Rattle.tables.specs.Readings.{pointReading}
 use Rattle.tables.specs.Blocks.{place}
-use Rattle.passage.specs.Passage.{ownStage}
+use Rattle.line_block.specs.OwnReadings.{ownStages}
 use Rattle.axles.specs.declared.Axles.{Axles}
 use Rattle.axles.specs.Heads.{axlesAfter, axlesReading}
 use Rattle.axles.specs.HeadLog.{said}
 use Rattle.interlocking.specs.declared.State.{State}
-use Rattle.interlocking.specs.State.{headsAt, withSections, withPoints, withRoutes, withLines, withBars, withAxles}
+use Rattle.interlocking.specs.State.{headsAt, withSections, withPoints, withRoutes, withLines, withBars, withAxles, withLamps}
 
--- what an event gives block i of a line: nothing where the line has no such block
-unfoldable pub ownGiven : Gives → Line → ℕ → ℕ
-ownGiven e b i = if ltb i (b .blocks) then blockGiven e b i else 0
-
--- the stage at place k, that of block k % 8 of line k / 8, after what an event gives that block
-unfoldable pub ownStageAt : List Line → Gives → ℕ → ℕ → ℕ
-ownStageAt ls e k was = ownStage (ownGiven e (line ls (k / mostBlocks)) (k % mostBlocks)) was
-
--- 1: section g reads v, and the block that it belongs to, of n lines, has its own reading
-unfoldable pub ownSection : List Line → ℕ → State → ℕ → ℕ → State
-ownSection ls n s g v =
-    withSections s (put mostSections (s .section) g v) (each (mostBlocks * n) (ownStageAt ls (record { section = g; reading = v; tick = 0 })) (s .stage))
+-- 1: section g reads v, and the block that it belongs to, of n lines, has its own reading (L3: of m main signals, by the lamp of its far signal)
+unfoldable pub ownSection : ℕ → List Line → ℕ → State → ℕ → ℕ → State
+ownSection m ls n s g v =
+    withSections s (put mostSections (s .section) g v) (ownStages n m ls (s .direction) (s .lamp) (record { section = g; reading = v; tick = 0 }) (s .stage))
 
 -- 2: a point reads v
 unfoldable pub ownPoint : State → ℕ → ℕ → State
@@ -81,5 +72,11 @@ unfoldable pub headsBy : Axles → ℕ → ℕ → ℕ → Axles
 headsBy x k a b = axlesAfter x (said k (a % 2) (b % 65536))
 
 -- the heads of section g become y, and what they then say is the section's reading, as an ordinary one
-unfoldable pub ownHeads : List Line → ℕ → State → ℕ → Axles → State
-ownHeads ls n s g y = ownSection ls n (withAxles s (set (s .axles) g y)) g (axlesReading y)
+unfoldable pub ownHeads : ℕ → List Line → ℕ → State → ℕ → Axles → State
+ownHeads m ls n s g y = ownSection m ls n (withAxles s (set (s .axles) g y)) g (axlesReading y)
+
+-- ---- 15: lamps (L3)
+
+-- the lamp of the signal of number x reports v
+unfoldable pub ownLamp : State → ℕ → ℕ → State
+ownLamp s x v = withLamps s (put mostLamps (s .lamp) x v)

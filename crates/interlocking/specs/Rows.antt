@@ -4,9 +4,10 @@ use mathlib.Core.Bool.{Bool, false, not}
 use lib.Dec.{eqb, ltb, leb}
 use Rattle.laws.specs.Choice.{if_then_else_}
 use Rattle.laws.specs.Tests.{_and_}
-use Rattle.track.specs.Codes.{left, right, aToB, bToA, readSection, readPoint, throwPoint, setRoute, cancelRoute, secureLine, releaseLine, barBlock, unbarBlock, oneSecond, axlesIn, axlesOut, headSilent, resetAxles}
+use Rattle.track.specs.Codes.{left, right, aToB, bToA, readSection, readPoint, throwPoint, setRoute, cancelRoute, secureLine, releaseLine, barBlock, unbarBlock, oneSecond, axlesIn, axlesOut, headSilent, resetAxles, reportLamp}
 use Rattle.track.specs.Sizes.{mostSections}
 use Rattle.track.specs.Lists.{between}
+use Rattle.track.specs.SignalNumbers.{signalCount}
 use Rattle.tables.specs.declared.Gives.{Gives}
 use Rattle.tables.specs.Readings.{recorded}
 use Rattle.layout.specs.declared.Layout.{Layout}
@@ -19,7 +20,7 @@ use Rattle.reasons.specs.Reasons.{noHeads, hasHeads}
 use Rattle.refusals.specs.Orders.{throwRefusal, setRefusal, cancelRefusal, secureRefusal, manualRefusal}
 use Rattle.interlocking.specs.declared.State.{State}
 use Rattle.interlocking.specs.State.{tablesOf}
-use Rattle.interlocking.specs.Own.{ownSection, ownPoint, ownThrow, ownSet, ownCancel, ownSecure, ownManual, ownBar, headsOf, headsBy, ownHeads}
+use Rattle.interlocking.specs.Own.{ownSection, ownPoint, ownThrow, ownSet, ownCancel, ownSecure, ownManual, ownBar, headsOf, headsBy, ownHeads, ownLamp}
 
 pub record Row : Type 0 where
   -- 2: there is no object a
@@ -58,7 +59,7 @@ sectionRow L s a b = record {
   misfit = hasHeads L a;
   wrong = false;
   besides = noRefusal;
-  does = ownSection (L .line) (L .lines) s a (recorded b);
+  does = ownSection (L .signals) (L .line) (L .lines) s a (recorded b);
   gives = givesReading a (recorded b);
 }
 
@@ -112,7 +113,7 @@ secureRow L s a b = record {
   missing = leb (L .lines) a;
   misfit = noRefusal;
   wrong = not (between aToB bToA b);
-  besides = secureRefusal L (tablesOf s) a;
+  besides = secureRefusal L (tablesOf s) a b;
   does = ownSecure s a b;
   gives = nothing;
 }
@@ -157,7 +158,7 @@ headRow L s y g missing wrong besides = record {
   misfit = noHeads L g;
   wrong = wrong;
   besides = besides;
-  does = ownHeads (L .line) (L .lines) s g y;
+  does = ownHeads (L .signals) (L .line) (L .lines) s g y;
   gives = givesReading g (axlesReading y);
 }
 
@@ -176,6 +177,17 @@ stillSilent x g = refusedIf (not (speaking x)) 35 g
 -- 14: reset (section); x is its heads before the event
 unfoldable pub resetRow : Layout → State → Axles → Axles → ℕ → ℕ → Row
 resetRow L s x y a b = headRow L s y a (leb (L .sections) a) (not (eqb b 0)) (stillSilent x a)
+
+-- 15: a lamp's report (main or block signal by its number, code) (L3)
+unfoldable pub lampRow : Layout → State → ℕ → ℕ → Row
+lampRow L s a b = record {
+  missing = leb (signalCount (L .signals) (L .lines) (L .line)) a;
+  misfit = noRefusal;
+  wrong = false;
+  besides = noRefusal;
+  does = ownLamp s a (recorded b);
+  gives = nothing;
+}
 
 -- a kind that has no row: 1
 unfoldable pub noRow : State → Row
@@ -199,6 +211,7 @@ rowWith L s x y k a b =
     else if eqb k axlesOut then countRow L s y a b
     else if eqb k headSilent then silentRow L s y a b
     else if eqb k resetAxles then resetRow L s x y a b
+    else if eqb k reportLamp then lampRow L s a b
     else noRow s
 
 -- the row of kind k in a state

@@ -1,4 +1,4 @@
--- What follows an event: signals, far sections, routes, line release, in that order (sections 4 to 6).
+-- What follows an event: signals, far sections, routes, blocks that waited for an entrance route (L3), line release, in that order (sections 4 to 6).
 use Prim.Native.Nat.{ℕ}
 use mathlib.Core.Bool.{Bool}
 use mathlib.Core.List.{List}
@@ -17,6 +17,7 @@ use Rattle.signals.specs.Signals.{fallen, mainProceeds, blockProceeds}
 use Rattle.release.specs.declared.Locking.{Locking}
 use Rattle.release.specs.Release.{lockingAfter}
 use Rattle.line_block.specs.FarSections.{farStages}
+use Rattle.line_block.specs.PassingBack.{noOpening, arrives, passedBack}
 use Rattle.line_block.specs.LineRelease.{directionsAfter}
 use Rattle.layout.specs.declared.Layout.{Layout}
 use Rattle.interlocking.specs.declared.State.{State}
@@ -70,6 +71,15 @@ routesBy ls rs n s e =
 unfoldable pub routes : Layout → State → Gives → State
 routes L s e = routesBy (L .line) (L .route) (L .routes) s e
 
+-- ---- blocks that wait (L3)
+
+-- the last block in travel opens from stage 3 by an entrance route of the arrival end that was locked in the state before and no longer is, and that
+-- passes back
+unfoldable pub arrivals : Layout → State → State → State
+arrivals L before s =
+    withLines s (s .direction)
+    (passedBack (L .lines) (L .line) (s .direction) noOpening (arrives (L .routes) (L .route) (before .phase) (s .phase)) (s .stage))
+
 -- ---- line release (section 5)
 
 -- the directions of all lines, by the stages that blocks were in before
@@ -77,6 +87,6 @@ unfoldable pub lineRelease : Layout → State → State → State
 lineRelease L before s =
     withLines s (directionsAfter (L .lines) (L .line) (L .routes) (L .route) (before .stage) (s .stage) (s .bar) (s .phase) (s .direction)) (s .stage)
 
--- ---- within one event, after the event's own effect: signals, far sections, routes, line release
+-- ---- within one event, after the event's own effect: signals, far sections, routes, blocks that wait, line release
 unfoldable pub settle : Layout → State → State → Gives → State
-settle L before s e = lineRelease L before (routes L (farSections L before (signals L s)) e)
+settle L before s e = lineRelease L before (arrivals L before (routes L (farSections L before (signals L s)) e))

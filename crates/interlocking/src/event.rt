@@ -4,6 +4,8 @@ use super::Core;
 use super::Tried;
 use super::heads;
 use super::orders;
+use super::orders::LineTable;
+use super::parts::is_of_heads;
 use super::trial::done;
 use super::trial::gives_nothing;
 use super::trial::refused;
@@ -18,36 +20,43 @@ use refusals::numbers_refusal;
 use tables::Gives;
 use tables::reading_for;
 use track::codes::A_TO_B;
-use track::codes::AXLES_IN;
-use track::codes::AXLES_OUT;
 use track::codes::B_TO_A;
 use track::codes::BAR;
 use track::codes::CANCEL_ROUTE;
-use track::codes::HEAD_SILENT;
 use track::codes::LEFT;
 use track::codes::READ_POINT;
 use track::codes::READ_SECTION;
 use track::codes::RELEASE_LINE;
-use track::codes::RESET_AXLES;
+use track::codes::REPORT_LAMP;
 use track::codes::RIGHT;
 use track::codes::SECOND;
 use track::codes::SECURE_LINE;
 use track::codes::SET_ROUTE;
 use track::codes::THROW;
 use track::codes::UNBAR;
+use track::signals::signal_count;
+use track::sizes::LAMPS;
 use track::sizes::MOST_SECTIONS;
 ghost use mathlib.Core.Path.{_≡_};
 ghost use mathlib.Core.Bool.{true};
-ghost use Prim.Native.Nat.{_≤_};
+ghost use mathlib.Core.List.{List};
+ghost use Prim.Native.Nat.{ℕ, _≤_};
 ghost use Rattle.track.specs.Sizes.{mostLines};
-ghost use Rattle.interlocking.specs.Rows.{sectionRow, pointRow, throwRow, setRow, cancelRow, secureRow, manualRow, barRow, secondRow, noRow, rowWith};
-ghost use Rattle.interlocking.specs.Parts.{bare, tried};
+ghost use Rattle.interlocking.specs.Rows.{sectionRow, pointRow, throwRow, setRow, cancelRow, secureRow, manualRow, barRow, secondRow, lampRow, noRow, rowWith};
+ghost use Rattle.interlocking.specs.Parts.{headless, bare, tried, NoOther};
 
 impl Core {
     // 1: a section reading.
-    fn section_reading(self, layout: Layout, sound: bool, section: u32, code: u32) -> Tried
+    fn section_reading(
+        self,
+        layout: Layout,
+        lamps: &[u8; LAMPS],
+        sound: bool,
+        section: u32,
+        code: u32,
+    ) -> Tried
         requires { ⌜ (sound ≡ true → layout .lines ≤ mostLines) ⌝ }
-        ensures { λ r. ⌜ r ≡ tried sound self section (sectionRow layout (bare self) section code) ⌝ }
+        ensures { λ r. ⌜ r ≡ tried sound self section (sectionRow layout (headless self (now (lamps .entry))) section code) ⌝ }
     {
         let missing = layout.sections as u32 <= section;
         let fitted = layout.fitted;
@@ -56,10 +65,15 @@ impl Core {
         if numbers.number != 0 {
             return refused(self, numbers);
         }
-        let ls = layout.line;
+        let line = layout.line;
+        let table = LineTable {
+            signals: layout.signals,
+            lines: layout.lines,
+            line,
+        };
         let g = section as u8;
         let reading = reading_for(code);
-        let t = orders::read_section(self, layout.lines, ls, g, reading);
+        let t = orders::read_section(self, table, lamps, g, reading);
         done(
             t,
             Gives {
@@ -153,8 +167,15 @@ impl Core {
     }
 
     // 6: secure a line, 1 from A to B or 2 from B to A.
-    fn secure(self, layout: Layout, sound: bool, line: u32, direction: u32) -> Tried
-        ensures { λ r. ⌜ r ≡ tried sound self line (secureRow layout (bare self) line direction) ⌝ }
+    fn secure(
+        self,
+        layout: Layout,
+        lamps: &[u8; LAMPS],
+        sound: bool,
+        line: u32,
+        direction: u32,
+    ) -> Tried
+        ensures { λ r. ⌜ r ≡ tried sound self line (secureRow layout (headless self (now (lamps .entry))) line direction) ⌝ }
     {
         let missing = layout.lines as u32 <= line;
         let wrong = is_outside(A_TO_B as u32, B_TO_A as u32, direction);
@@ -169,7 +190,9 @@ impl Core {
             &self.direction,
             &self.stage,
             &self.bar,
+            lamps,
             l,
+            direction as u8,
         );
         if f.number != 0 {
             return refused(self, f);
@@ -235,6 +258,42 @@ impl Core {
         )
     }
 
+    // 15: a lamp's report. The lamps are lent, and whoever lends them stores it.
+    fn lamp_report(self, layout: Layout, sound: bool, signal: u32) -> Tried
+        ensures { λ r. ⌜ ((lamps : List ℕ) (code : ℕ) → r ≡ tried sound self signal (lampRow layout (headless self lamps) signal code)) ⌝ }
+    {
+        let ls = layout.line;
+        let count = signal_count(layout.signals, layout.lines, ls);
+        let missing = count <= signal as u64;
+        let numbers = numbers_refusal(sound, missing, signal, no_refusal(), false);
+        if numbers.number != 0 {
+            return refused(self, numbers);
+        }
+        let gives = gives_nothing();
+        done(self, gives)
+    }
+
+    // 11 to 14, of heads; and a kind that has no row.
+    fn of_heads_or_unknown(
+        self,
+        x: Axles,
+        y: Axles,
+        lamps: &[u8; LAMPS],
+        layout: Layout,
+        sound: bool,
+        kind: u32,
+        first: u32,
+        second: u32,
+    ) -> Tried
+        requires { ⌜ (sound ≡ true → layout .lines ≤ mostLines) × NoOther kind ⌝ }
+        ensures { λ r. ⌜ r ≡ tried sound self first (rowWith layout (headless self (now (lamps .entry))) x y kind first second) ⌝ }
+    {
+        if is_of_heads(kind) {
+            return heads::of_heads(self, x, y, lamps, layout, sound, kind, first, second);
+        }
+        self.unknown(sound, first)
+    }
+
     // A kind that has no row: 1.
     fn unknown(self, sound: bool, first: u32) -> Tried
         ensures { λ r. ⌜ r ≡ tried sound self first (noRow (bare self)) ⌝ }
@@ -253,6 +312,7 @@ pub fn event_tried(
     s: Core,
     x: Axles,
     y: Axles,
+    lamps: &[u8; LAMPS],
     layout: Layout,
     sound: bool,
     kind: u32,
@@ -260,23 +320,20 @@ pub fn event_tried(
     second: u32,
 ) -> Tried
     requires { ⌜ (sound ≡ true → layout .lines ≤ mostLines) ⌝ }
-    ensures { λ r. ⌜ r ≡ tried sound s first (rowWith layout (bare s) x y kind first second) ⌝ }
+    ensures { λ r. ⌜ r ≡ tried sound s first (rowWith layout (headless s (now (lamps .entry))) x y kind first second) ⌝ }
 {
     match kind {
-        READ_SECTION => s.section_reading(layout, sound, first, second),
+        READ_SECTION => s.section_reading(layout, lamps, sound, first, second),
         READ_POINT => s.point_reading(layout, sound, first, second),
         THROW => s.throw(layout, sound, first, second),
         SET_ROUTE => s.set(layout, sound, first, second),
         CANCEL_ROUTE => s.cancel(layout, sound, first, second),
-        SECURE_LINE => s.secure(layout, sound, first, second),
+        SECURE_LINE => s.secure(layout, lamps, sound, first, second),
         RELEASE_LINE => s.release_by_hand(layout, sound, first, second),
         BAR => s.set_bar(layout, sound, first, second, 1),
         UNBAR => s.set_bar(layout, sound, first, second, 0),
         SECOND => s.second(sound, first, second),
-        AXLES_IN => heads::of_head(s, y, layout, sound, first, 65535 < second),
-        AXLES_OUT => heads::of_head(s, y, layout, sound, first, 65535 < second),
-        HEAD_SILENT => heads::of_head(s, y, layout, sound, first, second != 0),
-        RESET_AXLES => heads::reset(s, x, y, layout, sound, first, second),
-        _ => s.unknown(sound, first),
+        REPORT_LAMP => s.lamp_report(layout, sound, first),
+        _ => s.of_heads_or_unknown(x, y, lamps, layout, sound, kind, first, second),
     }
 }

@@ -14,6 +14,7 @@ use axles::cold_heads;
 use layout::Layout;
 use parts::core_of;
 use parts::head_place;
+use parts::lamps_then;
 use parts::whole;
 use tables::Gives;
 use track::codes::AXLES_IN;
@@ -22,11 +23,13 @@ use track::codes::BAR;
 use track::codes::CANCEL_ROUTE;
 use track::codes::HEAD_SILENT;
 use track::codes::IDLE;
+use track::codes::LAMP_NONE;
 use track::codes::NEUTRAL;
 use track::codes::NONE;
 use track::codes::READ_POINT;
 use track::codes::READ_SECTION;
 use track::codes::RELEASE_LINE;
+use track::codes::REPORT_LAMP;
 use track::codes::RESET_AXLES;
 use track::codes::SECOND;
 use track::codes::SECURE_LINE;
@@ -34,6 +37,7 @@ use track::codes::SET_ROUTE;
 use track::codes::STAGE_0;
 use track::codes::THROW;
 use track::codes::UNBAR;
+use track::sizes::LAMPS;
 use track::sizes::LINES;
 use track::sizes::PLACES;
 use track::sizes::POINTS;
@@ -48,13 +52,13 @@ ghost use Rattle.track.specs.Codes.{axlesIn, axlesOut, headSilent, resetAxles};
 ghost use Rattle.track.specs.Sizes.{mostSections, mostLines, mostTrainRoutes};
 ghost use Rattle.layout.specs.Sound.{sound};
 ghost use Rattle.interlocking.specs.State.{cold, inRange};
-ghost use Rattle.interlocking.specs.Rows.{sectionRow, pointRow, throwRow, setRow, cancelRow, secureRow, manualRow, barRow, secondRow, countRow, silentRow, resetRow};
+ghost use Rattle.interlocking.specs.Rows.{sectionRow, pointRow, throwRow, setRow, cancelRow, secureRow, manualRow, barRow, secondRow, countRow, silentRow, resetRow, lampRow};
 ghost use Rattle.interlocking.specs.Own.{headsOf, headsBy};
 ghost use Rattle.interlocking.specs.Step.{answeredBy, stepWhere, step};
 
 // A code for each section, point, route, line and block, as `track::codes` has them: what sections and points read, the order of a point (0 none,
 // 1, 2), the phase, the steps done and the seconds counted of a route, the direction of a line, the stage and the bar of a block, at 8 * line + block.
-// These nine tables are a state but for its heads.
+// These nine tables are a state but for its heads and its lamps.
 pub struct Core {
     pub section: [u8; SECTIONS],
     pub point: [u8; POINTS],
@@ -67,7 +71,7 @@ pub struct Core {
     pub bar: [u8; PLACES],
 }
 
-// A state: the nine tables, and the heads of each section (request L1).
+// A state: the nine tables, the heads of each section (request L1), and what the lamp of each signal reports, at the signal's number (request L3).
 #[repr(C)]
 pub struct State {
     pub section: [u8; SECTIONS],
@@ -80,6 +84,7 @@ pub struct State {
     pub stage: [u8; PLACES],
     pub bar: [u8; PLACES],
     pub axles: [Axles; SECTIONS],
+    pub lamp: [u8; LAMPS],
 }
 
 // The answer to an event: 0 and 0 with the next state, or a refusal's number and detail with the state as it was.
@@ -108,7 +113,7 @@ pub struct Tried {
 
 impl State {
     // The cold start: everything reads none, no order, no route, no line secured, every block held in stage 0, no bar,
-    // every head silent.
+    // every head silent, every lamp at none.
     pub fn cold() -> State
         ensures { λ s. ⌜ s ≡ cold ⌝ }
     {
@@ -124,6 +129,7 @@ impl State {
             stage: [STAGE_0; PLACES],
             bar: [0; PLACES],
             axles: [heads; SECTIONS],
+            lamp: [LAMP_NONE; LAMPS],
         }
     }
 
@@ -131,8 +137,9 @@ impl State {
     pub fn in_range(self) -> bool
         ensures { λ r. ⌜ r ≡ inRange self ⌝ }
     {
+        let lamp = self.lamp;
         let c = core_of(self);
-        range::in_range(c)
+        range::in_range(c, lamp)
     }
 
     // Layout and state are sound: what 18 asks.
@@ -140,8 +147,9 @@ impl State {
         ensures { λ r. ⌜ r ≡ (sound layout and inRange self) ⌝ }
     {
         let plan = layout.sound();
+        let lamp = self.lamp;
         let c = core_of(self);
-        let codes = range::in_range(c);
+        let codes = range::in_range(c, lamp);
         plan & codes
     }
 
@@ -152,13 +160,15 @@ impl State {
     {
         let place = head_place(kind, first);
         let mut axles = self.axles;
+        let mut lamp = self.lamp;
         let heads = axles[place];
         let c = core_of(self);
-        let r = answered(layout, c, heads, asked, kind, first, second);
+        let r = answered(layout, c, heads, &lamp, asked, kind, first, second);
         let then = r.heads;
         let core = r.next;
         axles[place] = then;
-        let next = whole(core, axles);
+        lamps_then(&mut lamp, r.number, kind, first, second);
+        let next = whole(core, axles, lamp);
         Answer {
             number: r.number,
             detail: r.detail,
@@ -284,5 +294,13 @@ impl State {
     {
         let asked = self.is_sound(layout);
         self.answer(layout, asked, RESET_AXLES, section, 0)
+    }
+
+    // 15: the lamp of a main or block signal, by its number, reports 1 stop or 2 another light.
+    pub fn report_lamp(self, layout: Layout, signal: u32, code: u32) -> Answer
+        ensures { λ r. ⌜ r ≡ answeredBy (sound layout and inRange self) layout self signal (lampRow layout self signal code) ⌝ }
+    {
+        let asked = self.is_sound(layout);
+        self.answer(layout, asked, REPORT_LAMP, signal, code)
     }
 }

@@ -1,8 +1,8 @@
 // What an accepted event itself does to the state.
 use super::Core;
 use super::stores::store;
+use line_block::own_readings::own_stages;
 use tables::Gives;
-use tables::block_given;
 use track::Line;
 use track::codes::AT_PROCEED;
 use track::codes::CANCELLING;
@@ -10,6 +10,7 @@ use track::codes::NEUTRAL;
 use track::codes::NONE;
 use track::codes::OPEN;
 use track::sizes::BLOCKS;
+use track::sizes::LAMPS;
 use track::sizes::LINES;
 use track::sizes::MOST_BLOCKS;
 use track::sizes::PLACES;
@@ -21,54 +22,33 @@ ghost use mathlib.Core.Path.{_≡_};
 ghost use Prim.Native.Nat.{_≤_};
 ghost use Rattle.laws.specs.Tables.{each};
 ghost use Rattle.track.specs.Sizes.{mostLines, mostPlaces};
-ghost use Rattle.interlocking.specs.Parts.{coreOf, bare};
-ghost use Rattle.interlocking.specs.Own.{ownGiven, ownStageAt, ownSection, ownPoint, throwReading, ownThrow, ownSet, ownCancel, ownSecure, openAt, ownManual, ownBar};
+ghost use Rattle.interlocking.specs.Parts.{coreOf, headless, bare};
+ghost use Rattle.interlocking.specs.Own.{ownSection, ownPoint, throwReading, ownThrow, ownSet, ownCancel, ownSecure, openAt, ownManual, ownBar};
 
-// What the event gives block i of a line, 0 for nothing; there is none past its last block.
-fn own_given(e: Gives, b: Line, i: u8) -> u8
-    ensures { λ x. ⌜ x ≡ ownGiven e b i ⌝ }
-{
-    if b.blocks <= i {
-        return 0;
-    }
-    block_given(e, b, i)
+// What a section reading needs of the layout: how many main signals and lines there are, and the lines. It is a record of its own because the table of
+// lines handed on alone is handed as a place within the layout, and that is then copied whole at each event.
+pub struct LineTable {
+    pub signals: u8,
+    pub lines: u8,
+    pub line: [Line; LINES],
 }
 
-// The stages of the first m places after what the event gives their blocks; those to which it gives nothing are left at once.
-fn stages_after(stages: [u8; PLACES], m: u8, ls: [Line; LINES], e: Gives) -> [u8; PLACES]
-    requires { ⌜ m ≤ mostPlaces ⌝ }
-    ensures { λ x. ⌜ x ≡ each m (ownStageAt ls e) stages ⌝ }
-{
-    let mut stage = stages;
-    let mut k: u8 = 0;
-    while k < m {
-        let b = ls[(k / MOST_BLOCKS) as usize];
-        let given = own_given(e, b, k % MOST_BLOCKS);
-        if given == 0 {
-            k += 1;
-            continue;
-        }
-        let was = stage[k as usize];
-        stage[k as usize] = passage::own_stage(given, was);
-        k += 1;
-    }
-    stage
-}
-
-// 1: section g reads v, and the block that it belongs to has its own reading; there are n lines.
-pub fn read_section(s: Core, n: u8, ls: [Line; LINES], g: u8, v: u8) -> Core
-    requires { ⌜ n ≤ mostLines ⌝ }
-    ensures { λ t. ⌜ t ≡ coreOf (ownSection ls n (bare s) g v) ⌝ }
+// 1: section g reads v, and the block that it belongs to has its own reading.
+pub fn read_section(s: Core, a: LineTable, lamps: &[u8; LAMPS], g: u8, v: u8) -> Core
+    requires { ⌜ a .lines ≤ mostLines ⌝ }
+    ensures { λ t. ⌜ t ≡ coreOf (ownSection (a .signals) (a .line) (a .lines) (headless s (now (lamps .entry))) g v) ⌝ }
 {
     let mut section = s.section;
     store(&mut section, SECTIONS, g as usize, v);
     let stages = s.stage;
+    let directions = s.direction;
     let e = Gives {
         section: g,
         reading: v,
         tick: 0,
     };
-    let stage = stages_after(stages, MOST_BLOCKS * n, ls, e);
+    let ls = a.line;
+    let stage = own_stages(a.lines, a.signals, ls, &directions, lamps, e, stages);
     let mut t = s;
     t.section = section;
     t.stage = stage;

@@ -1,20 +1,25 @@
-// A state in parts: the nine tables, and of the heads those of the section that an event names (request L1). So a step copies no table of heads.
+// A state in parts: the nine tables, of the heads those of the section that an event names (request L1), and the lamps, which are lent (request L3). So a
+// step copies no table of heads and none of lamps.
 use super::Core;
 use super::CoreAnswer;
 use super::State;
 use super::answering::answered;
+use super::stores::store;
 use axles::Axles;
 use axles::Said;
 use layout::Layout;
+use tables::reading_for;
 use track::codes::AXLES_IN;
+use track::codes::REPORT_LAMP;
 use track::codes::RESET_AXLES;
+use track::sizes::LAMPS;
 use track::sizes::MOST_LINES;
 use track::sizes::MOST_SECTIONS;
 use track::sizes::MOST_TRAIN_ROUTES;
 use track::sizes::SECTIONS;
 ghost use mathlib.Core.Path.{_≡_};
 ghost use Rattle.interlocking.specs.Own.{headSection};
-ghost use Rattle.interlocking.specs.Parts.{coreOf, whole, isOfHeads, headsThen, headPlace, coreStepInRun};
+ghost use Rattle.interlocking.specs.Parts.{coreOf, whole, isOfHeads, headsThen, headPlace, lampsThen, coreStepInRun};
 
 // The nine tables of a state.
 pub fn core_of(s: State) -> Core
@@ -42,9 +47,9 @@ pub fn core_of(s: State) -> Core
     }
 }
 
-// The state of nine tables and of heads.
-pub fn whole(c: Core, axles: [Axles; SECTIONS]) -> State
-    ensures { λ s. ⌜ s ≡ whole c axles ⌝ }
+// The state of nine tables, of heads and of lamps.
+pub fn whole(c: Core, axles: [Axles; SECTIONS], lamp: [u8; LAMPS]) -> State
+    ensures { λ s. ⌜ s ≡ whole c axles lamp ⌝ }
 {
     let section = c.section;
     let point = c.point;
@@ -66,18 +71,19 @@ pub fn whole(c: Core, axles: [Axles; SECTIONS]) -> State
         stage,
         bar,
         axles,
+        lamp,
     }
 }
 
 // The event is one of heads.
-fn is_of_heads(kind: u32) -> bool
+pub(super) fn is_of_heads(kind: u32) -> bool
     ensures { λ r. ⌜ r ≡ isOfHeads kind ⌝ }
 {
     (AXLES_IN <= kind) & (kind <= RESET_AXLES)
 }
 
 // The section that an event of heads names.
-fn head_section(kind: u32, first: u32) -> u32
+pub(super) fn head_section(kind: u32, first: u32) -> u32
     ensures { λ g. ⌜ g ≡ headSection kind first ⌝ }
 {
     if kind == RESET_AXLES {
@@ -113,22 +119,33 @@ pub fn heads_then(x: Axles, kind: u32, first: u32, second: u32) -> Axles
     axles::after(x, e)
 }
 
+// The lamps after an event that was answered by a number: where it was accepted and reports a lamp, that report is stored.
+pub fn lamps_then(lamps: &mut [u8; LAMPS], number: u8, kind: u32, first: u32, second: u32)
+    ensures { λ _. ⌜ now (lamps .exit) ≡ lampsThen (now (lamps .entry)) number kind first second ⌝ }
+{
+    if (number == 0) & (kind == REPORT_LAMP) {
+        let code = reading_for(second);
+        store(lamps, LAMPS, first as usize, code);
+    }
+}
+
 impl Core {
     // One step of a run that asked `Layout::sound` and `State::in_range` before its first event, where it is the same as `State::step` on the parts.
     pub fn step_in_run(
         self,
         heads: Axles,
+        lamps: &[u8; LAMPS],
         layout: Layout,
         kind: u32,
         first: u32,
         second: u32,
     ) -> CoreAnswer
-        ensures { λ r. ⌜ r ≡ coreStepInRun layout self heads kind first second ⌝ }
+        ensures { λ r. ⌜ r ≡ coreStepInRun layout self heads (now (lamps .entry)) kind first second ⌝ }
     {
         let lines = layout.lines <= MOST_LINES;
         let routes = layout.routes <= MOST_TRAIN_ROUTES;
         let sections = (1 <= layout.sections) & (layout.sections <= MOST_SECTIONS);
         let asked = lines & (routes & (sections & (layout.lacking == 0)));
-        answered(layout, self, heads, asked, kind, first, second)
+        answered(layout, self, heads, lamps, asked, kind, first, second)
     }
 }

@@ -15,12 +15,12 @@ use Rattle.track.specs.declared.Route.{Route}
 use Rattle.track.specs.Sizes.{mostLines}
 use Rattle.track.specs.Objects.{line, noLine}
 use Rattle.tables.specs.Locks.{lockedExit}
-use Rattle.line_block.specs.LineRelease.{passable, wasInStage2, endsBy, directionAfter}
+use Rattle.line_block.specs.LineRelease.{passable, wasPassed, endsBy, directionAfter}
 
 -- whether a line is released, by the test at which it fails
 module _ (b : Line) (n : ℕ) (rs : List Route) (before stages bars phases : List ℕ) (k w : ℕ) (v : Bool)
-    (p : v ≡ wasInStage2 before b k w) where
-  -- the last block in travel was not in stage 2
+    (p : v ≡ wasPassed before b k w) where
+  -- the last block in travel was in neither stage 2 nor 3
   pub ends-unpassed : not v ≡ true → false ≡ endsBy b n rs before stages bars phases k w
   unfolding endsBy
   ends-unpassed h = every-stops _ _ v p h

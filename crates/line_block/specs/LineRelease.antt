@@ -1,18 +1,17 @@
--- Line release (section 5): when the last block in travel goes from stage 2 to open, the line becomes neutral if every block is open, no exit route of
--- the line is locked and no block is barred.
+-- Line release (section 5): when the last block in travel goes from stage 2, or (L3) 3, to open, the line becomes neutral if every block is open, no exit
+-- route of the line is locked and no block is barred.
 use Prim.Native.Nat.{ℕ}
 use mathlib.Core.Bool.{Bool, not}
 use mathlib.Core.List.{List, [], _∷_}
 use lib.Dec.{eqb}
 use Rattle.laws.specs.Choice.{if_then_else_}
-use Rattle.laws.specs.Tests.{_and_, every, allBelow, anyBelow}
-use Rattle.laws.specs.Tables.{each, read}
+use Rattle.laws.specs.Tests.{_and_, _or_, every, allBelow, anyBelow}
+use Rattle.laws.specs.Tables.{each}
 use Rattle.track.specs.declared.Line.{Line}
 use Rattle.track.specs.declared.Route.{Route}
-use Rattle.track.specs.Codes.{neutral, stage0, stage2}
-use Rattle.track.specs.Sizes.{mostPlaces}
+use Rattle.track.specs.Codes.{neutral, stage2, stage3}
 use Rattle.track.specs.Objects.{line, nearest}
-use Rattle.tables.specs.Blocks.{place, isOpen, unbarred}
+use Rattle.tables.specs.Blocks.{stageOf, isOpen, unbarred}
 use Rattle.tables.specs.Locks.{lockedExit}
 use Rattle.passage.specs.Passage.{arrival}
 
@@ -24,15 +23,15 @@ lastBlock b w = nearest b (arrival w)
 unfoldable pub passable : List ℕ → List ℕ → ℕ → ℕ → Bool
 passable stages bars l i = isOpen stages l i and unbarred bars l i
 
--- the last block in travel was in stage 2 before the event
-unfoldable pub wasInStage2 : List ℕ → Line → ℕ → ℕ → Bool
-wasInStage2 before b l w = eqb (read mostPlaces stage0 before (place l (lastBlock b w))) stage2
+-- the last block in travel was in stage 2 or 3 before the event
+unfoldable pub wasPassed : List ℕ → Line → ℕ → ℕ → Bool
+wasPassed before b l w = eqb (stageOf before l (lastBlock b w)) stage2 or eqb (stageOf before l (lastBlock b w)) stage3
 
--- of line l, which is b: the last block in travel went from stage 2 to open, every block is open, no block is barred, no exit route of the line, of n
--- routes, is locked
+-- of line l, which is b: the last block in travel went from stage 2 or 3 to open, every block is open, no block is barred, no exit route of the line, of
+-- n routes, is locked
 unfoldable pub endsBy : Line → ℕ → List Route → List ℕ → List ℕ → List ℕ → List ℕ → ℕ → ℕ → Bool
 endsBy b n rs before stages bars phases l w = every (
-    wasInStage2 before b l w
+    wasPassed before b l w
     ∷ allBelow (b .blocks) (passable stages bars l)
     ∷ not (anyBelow n (lockedExit rs phases l))
     ∷ [])

@@ -1,6 +1,8 @@
-// The line block (section 5) over the tables of a state: far sections, and the release of a line.
+// The line block (section 5) over the tables of a state: own readings, far sections, blocks that wait (request L3), and the release of a line.
 pub mod far_sections;
 pub mod line_release;
+pub mod own_readings;
+pub mod passing_back;
 
 use track::sizes::MOST_LINES;
 ghost use mathlib.Core.Path.{_≡_};

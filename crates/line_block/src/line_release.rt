@@ -4,6 +4,7 @@ use track::Line;
 use track::Route;
 use track::codes::NEUTRAL;
 use track::codes::STAGE_2;
+use track::codes::STAGE_3;
 use track::sizes::LINES;
 use track::sizes::PLACES;
 use track::sizes::ROUTES;
@@ -12,7 +13,7 @@ ghost use mathlib.Core.Path.{_≡_};
 ghost use Prim.Native.Nat.{_≤_};
 ghost use Rattle.laws.specs.Tests.{allBelow};
 ghost use Rattle.track.specs.Sizes.{mostLines};
-ghost use Rattle.line_block.specs.LineRelease.{passable, wasInStage2, endsBy, directionAfter, directionsAfter};
+ghost use Rattle.line_block.specs.LineRelease.{passable, wasPassed, endsBy, directionAfter, directionsAfter};
 ghost use Rattle.line_block.specs.Entries.{fewLines};
 
 // Block i of line k is open and not barred.
@@ -38,16 +39,17 @@ fn all_passable<'a>(stages: &'a [u8; PLACES], bars: &'a [u8; PLACES], k: u8, n: 
     true
 }
 
-// The last block in travel was in stage 2 before the event.
-fn was_in_stage_2(before: &[u8; PLACES], b: Line, k: u8, w: u8) -> bool
-    ensures { λ x. ⌜ x ≡ wasInStage2 (now (before .entry)) b k w ⌝ }
+// The last block in travel was in stage 2 or 3 before the event.
+fn was_passed(before: &[u8; PLACES], b: Line, k: u8, w: u8) -> bool
+    ensures { λ x. ⌜ x ≡ wasPassed (now (before .entry)) b k w ⌝ }
 {
     let e = passage::arrival_end(w);
     let i = track::nearest_block(b, e);
-    tables::held_at(before, k, i) == STAGE_2
+    let was = tables::held_at(before, k, i);
+    (was == STAGE_2) | (was == STAGE_3)
 }
 
-// Line k, secured in direction w, becomes neutral. The rest is asked only where the last block in travel was in stage 2.
+// Line k, secured in direction w, becomes neutral. The rest is asked only where the last block in travel was in stage 2 or 3.
 fn is_ended<'a>(
     b: Line,
     n: u8,
@@ -61,7 +63,7 @@ fn is_ended<'a>(
 ) -> bool
     ensures { λ x. ⌜ x ≡ endsBy b n rs (now (before .entry)) (now (stages .entry)) (now (bars .entry)) (now (phases .entry)) k w ⌝ }
 {
-    if !was_in_stage_2(before, b, k, w) {
+    if !was_passed(before, b, k, w) {
         return false;
     }
     if !all_passable(stages, bars, k, b.blocks) {

@@ -4,14 +4,15 @@ use mathlib.Core.Path.{_≡_, refl, ap, _∙_}
 use native.Mathlib.Omega.{arith}
 use borrow.Author.Needs.{needs}
 use Rattle.laws.specs.Choice.{if_then_else_}
-use Rattle.laws.proofs.Choice.{if-eq, if-ne, if-lt, if-ge}
+use lib.Dec.{eqb}
+use Rattle.laws.proofs.Choice.{if-eq, if-ne, if-lt, if-ge, if-both, chosen, passed-over}
 use Rattle.track.specs.declared.Line.{Line}
 use Rattle.track.specs.Codes.{endA, endB, aToB}
 use Rattle.track.specs.Objects.{inner, nearest}
 use Rattle.track.specs.Blocks.{facing}
 use Rattle.passage.specs.declared.Beyond.{Beyond}
 use Rattle.passage.specs.declared.Beyond.the-variants.{Block, Station}
-use Rattle.passage.specs.Passage.{departure, beyond, sectionAt}
+use Rattle.passage.specs.Passage.{departure, beyond, fromArrival, sectionAt}
 
 -- the block nearest B is the last
 last : (b : Line) → nearest b endB ≡ b .blocks - 1
@@ -49,6 +50,35 @@ module _ (b : Line) (w e r : ℕ) (x : Beyond) where
   pub there-station : x ≡ Station e → r ≡ inner b e → r ≡ sectionAt b w x
   unfolding sectionAt
   there-station h q = rw h q
+
+module _ (b : Line) (w i r : ℕ) where
+  -- from B to A blocks are counted from the arrival end as they are
+  pub arrival-down : (w ≡ aToB → ⊥) → r ≡ i → r ≡ fromArrival b w i
+  unfolding fromArrival
+  arrival-down h q = if-ne w aToB _ _ r h q
+
+  -- from A to B the other way; past the last none is left
+  pub arrival-past : w ≡ aToB → b .blocks ≤ i → r ≡ 0 → r ≡ fromArrival b w i
+  unfolding fromArrival
+  arrival-past h l q = if-eq w aToB _ _ r h (omega arith)
+
+  pub arrival-up : w ≡ aToB → i < b .blocks → r ≡ b .blocks - i - 1 → r ≡ fromArrival b w i
+  unfolding fromArrival
+  arrival-up h l q = if-eq w aToB _ _ r h (omega arith)
+
+module _ (b : Line) (w i : ℕ) (c : i < b .blocks) where
+  -- a block counted from the arrival end is a block
+  pub counted-below : fromArrival b w i < b .blocks
+  unfolding fromArrival
+  counted-below = if-both (λ n. n < b .blocks) (eqb w aToB) (λ t. omega arith) (λ f. c)
+
+  -- and counted so twice it is itself
+  pub counted-twice : fromArrival b w (fromArrival b w i) ≡ i
+  unfolding fromArrival
+  counted-twice = if-both (λ n. (if eqb w aToB then b .blocks - (n + 1) else n) ≡ i) (eqb w aToB) (λ t. chosen _ _ _ t ∙ omega arith) (λ f. passed-over _ _ _ f)
+
+-- for blocks counted from the arrival end
+pub ruleset arrivals = (needs, arrival-down, arrival-past, arrival-up)
 
 -- for what lies beyond a block
 pub ruleset beyonds = (needs, beyond-up, beyond-last, beyond-first, beyond-down)

@@ -4,6 +4,7 @@ use Rattle.passage.proofs.own_stage.Reads as own-stage
 use Rattle.passage.proofs.departure_end.Reads as departure-end
 use Rattle.passage.proofs.arrival_end.Reads as arrival-end
 use Rattle.passage.proofs.beyond_block.Reads as beyond-block
+use Rattle.passage.proofs.from_arrival.Reads as from-arrival
 use Rattle.passage.proofs.far_section.Reads as far-section
 use Rattle.passage.proofs.far_stage.Reads as far-stage
 
@@ -22,6 +23,10 @@ arrival-end-determined κs a r q s = only
 -- What lies beyond block i in a direction
 pub beyond-block-determined : Determines beyond-block.Post
 beyond-block-determined κs a r q s = only
+
+-- Block i counted from the arrival end of a direction
+pub from-arrival-determined : Determines from-arrival.Post
+from-arrival-determined κs a r q s = only
 
 -- The far section of block i in a direction
 pub far-section-determined : Determines far-section.Post

@@ -5,19 +5,28 @@ use lib.Dec.{eqb, ltb}
 use Rattle.laws.specs.Choice.{if_then_else_}
 use Rattle.laws.specs.Tests.{_and_, _or_}
 use Rattle.track.specs.declared.Line.{Line}
-use Rattle.track.specs.Codes.{free, occupied, readsNone, endA, endB, aToB, openBlock, stage0, stage1, stage2}
+use Rattle.track.specs.Codes.{free, occupied, readsNone, endA, endB, aToB, openBlock, stage0, stage1, stage2, stage3}
 use Rattle.track.specs.Objects.{inner, entrance}
 use Rattle.track.specs.Blocks.{facing}
 use Rattle.track.specs.Signal.{Signal, main, into}
 use Rattle.passage.specs.declared.Beyond.{Beyond}
 use Rattle.passage.specs.declared.Beyond.the-variants.{Block, Station}
 
--- its own reading, given by an event: occupied takes open and 0 to 1, and leaves 1 and 2; none gives 0; free takes 2 to open and 1 to 0
-unfoldable pub ownStage : ℕ → ℕ → ℕ
-ownStage given stage =
-    if eqb given occupied then (if eqb stage openBlock or eqb stage stage0 then stage1 else stage)
+-- given free, where the far signal's lamp reports stop or not: free leaves open and takes 1 to 0; L3: 2 opens only if that lamp reports stop, else it goes to
+-- 3, and free leaves 3
+unfoldable pub freeStage : Bool → ℕ → ℕ
+freeStage stopLit stage =
+    if eqb stage openBlock then openBlock
+    else if eqb stage stage2 then (if stopLit then openBlock else stage3)
+    else if eqb stage stage3 then stage3
+    else stage0
+
+-- its own reading, given by an event: occupied takes open, 0 and (L3) 3 to 1, and leaves 1 and 2; none gives 0; free as above
+unfoldable pub ownStage : ℕ → Bool → ℕ → ℕ
+ownStage given stopLit stage =
+    if eqb given occupied then (if eqb stage stage1 or eqb stage stage2 then stage else stage1)
     else if eqb given readsNone then stage0
-    else if eqb given free then (if eqb stage openBlock or eqb stage stage2 then openBlock else stage0)
+    else if eqb given free then freeStage stopLit stage
     else stage
 
 -- ---- far section and far signal
@@ -42,6 +51,10 @@ sectionAt b w (Station e) = inner b e
 unfoldable pub signalAt : Line → ℕ → ℕ → Beyond → Signal
 signalAt b l w (Block j) = into l j w
 signalAt b l w (Station e) = main (entrance b e)
+
+-- block i counted from the arrival end of direction w, where the last block in travel is 0: so many blocks lie beyond it. Counted so twice it is itself
+unfoldable pub fromArrival : Line → ℕ → ℕ → ℕ
+fromArrival b w i = if eqb w aToB then b .blocks - (i + 1) else i
 
 -- the far section of block i in direction w
 unfoldable pub farSection : Line → ℕ → ℕ → ℕ

@@ -11,10 +11,11 @@ use track::codes::OPEN;
 use track::codes::STAGE_0;
 use track::codes::STAGE_1;
 use track::codes::STAGE_2;
+use track::codes::STAGE_3;
 use track::inner_at;
 use track::nearest_block;
 ghost use mathlib.Core.Path.{_≡_};
-ghost use Rattle.passage.specs.Passage.{ownStage, departure, arrival, beyond, sectionAt, farSection, farStage};
+ghost use Rattle.passage.specs.Passage.{freeStage, ownStage, departure, arrival, beyond, sectionAt, fromArrival, farSection, farStage};
 
 // What lies beyond a block in a direction: the next block, or the station at the arrival end.
 pub enum Beyond {
@@ -22,24 +23,40 @@ pub enum Beyond {
     Station(u8),
 }
 
+// The stage after the block was given free, where the far signal's lamp reports stop or not.
+fn free_stage(stop_lit: bool, stage: u8) -> u8
+    ensures { λ r. ⌜ r ≡ freeStage «stop_lit» stage ⌝ }
+{
+    if stage == OPEN {
+        return OPEN;
+    }
+    if stage == STAGE_2 {
+        if stop_lit {
+            return OPEN;
+        }
+        return STAGE_3;
+    }
+    if stage == STAGE_3 {
+        return STAGE_3;
+    }
+    STAGE_0
+}
+
 // The stage after the block's own reading; a number that is no reading says nothing.
-pub fn own_stage(given: u8, stage: u8) -> u8
-    ensures { λ r. ⌜ r ≡ ownStage given stage ⌝ }
+pub fn own_stage(given: u8, stop_lit: bool, stage: u8) -> u8
+    ensures { λ r. ⌜ r ≡ ownStage given «stop_lit» stage ⌝ }
 {
     if given == OCCUPIED {
-        if (stage == OPEN) | (stage == STAGE_0) {
-            return STAGE_1;
+        if (stage == STAGE_1) | (stage == STAGE_2) {
+            return stage;
         }
-        return stage;
+        return STAGE_1;
     }
     if given == NONE {
         return STAGE_0;
     }
     if given == FREE {
-        if (stage == OPEN) | (stage == STAGE_2) {
-            return OPEN;
-        }
-        return STAGE_0;
+        return free_stage(stop_lit, stage);
     }
     stage
 }
@@ -88,6 +105,19 @@ fn section_there(b: Line, w: u8, there: Beyond) -> u8
         Beyond::Block(j) => facing_section(b, j, departure_end(w)),
         Beyond::Station(e) => inner_at(b, e),
     }
+}
+
+// Block i counted from the arrival end of a direction; and back.
+pub fn from_arrival(b: Line, w: u8, i: u8) -> u8
+    ensures { λ r. ⌜ r ≡ fromArrival b w i ⌝ }
+{
+    if w != A_TO_B {
+        return i;
+    }
+    if b.blocks <= i {
+        return 0;
+    }
+    b.blocks - i - 1
 }
 
 // The far section of block i in a direction.

@@ -1,5 +1,6 @@
 -- No second result meets the contract of a public function. Each `Post` is the contract itself, as the function is proved to meet it.
 use Rattle.laws.proofs.Only.{Determines, only}
+use Rattle.reasons.proofs.arrival_dark.Reads as arrival-dark
 use Rattle.reasons.proofs.no_refusal.Reads as no-refusal
 use Rattle.reasons.proofs.refuse.Reads as refuse
 use Rattle.reasons.proofs.refused_if.Reads as refused-if
@@ -160,3 +161,7 @@ lowest-locked-exit-determined κs a r q s = only
 -- The lowest block of a line that is held, or barred
 pub lowest-taken-determined : Determines lowest-taken.Post
 lowest-taken-determined κs a r q s = only
+
+-- 31: the lamp of the arrival entrance signal reports none
+pub arrival-dark-determined : Determines arrival-dark.Post
+arrival-dark-determined κs a r q s = only

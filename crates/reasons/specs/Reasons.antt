@@ -8,10 +8,12 @@ use Rattle.laws.specs.Tests.{_and_, lowest}
 use Rattle.track.specs.declared.Line.{Line}
 use Rattle.track.specs.Codes.{occupied}
 use Rattle.track.specs.Sizes.{mostSections, mostPoints}
-use Rattle.track.specs.Objects.{line}
+use Rattle.track.specs.Objects.{line, entrance}
 use Rattle.tables.specs.Readings.{reading}
 use Rattle.tables.specs.Blocks.{isOpen, unbarred}
 use Rattle.tables.specs.Locks.{locked, lockedExit}
+use Rattle.passage.specs.Passage.{arrival}
+use Rattle.lamps.specs.Lamps.{reportsNone}
 use Rattle.reasons.specs.Searches.{unfree, misplaced, routeLocks, lineLocks, failing}
 use Rattle.layout.specs.declared.Layout.{Layout}
 use Rattle.layout.specs.Layout.{isFitted, conflict}
@@ -50,6 +52,10 @@ blockBarred ls bars l = found 11 mostSections (failing (unbarred bars l) (line l
 
 unfoldable pub blockHeld : List Line → List ℕ → ℕ → Refusal
 blockHeld ls stages l = found 10 mostSections (failing (isOpen stages l) (line ls l))
+
+-- 31: the lamp of the entrance signal at the arrival end of direction w reports none (L3)
+unfoldable pub arrivalDark : Line → List ℕ → ℕ → Refusal
+arrivalDark b lamps w = refusedIf (reportsNone lamps (entrance b (arrival w))) 31 (entrance b (arrival w))
 
 -- 30: section g has no heads; 34: it has, and so takes no reading of kind 1 (L1)
 unfoldable pub noHeads : Layout → ℕ → Refusal

@@ -3,7 +3,9 @@
 pub mod events;
 pub mod searches;
 
+use lamps::reports_none;
 use layout::Layout;
+use passage::arrival_end;
 use searches::section_of;
 use tables::direction_of;
 use tables::is_locked;
@@ -18,8 +20,10 @@ use track::blocks::sections_of;
 use track::codes::CANCELLING;
 use track::codes::NEUTRAL;
 use track::codes::OCCUPIED;
+use track::entrance_at;
 use track::line_at;
 use track::nearest_block;
+use track::sizes::LAMPS;
 use track::sizes::LINES;
 use track::sizes::LISTED;
 use track::sizes::MOST_POINTS;
@@ -40,7 +44,7 @@ ghost use Rattle.sets.specs.Sets.{joined, mergedSet, setOf};
 ghost use Rattle.tables.specs.Blocks.{isOpen, unbarred};
 ghost use Rattle.tables.specs.Locks.{direction, phase, locked};
 ghost use Rattle.reasons.specs.Refusal.{refused, noRefusal, refusedIf};
-ghost use Rattle.reasons.specs.Reasons.{notFree, notPlaced, conflicting, byRoute, byLine, exitLocked, blockBarred, blockHeld};
+ghost use Rattle.reasons.specs.Reasons.{notFree, notPlaced, conflicting, byRoute, byLine, exitLocked, blockBarred, blockHeld, arrivalDark};
 
 // A refusal: its number and its detail; number 0 where there is none.
 pub struct Refusal {
@@ -271,4 +275,14 @@ pub fn entered_held(ls: [Line; LINES], stages: &[u8; PLACES], a: Route) -> Refus
     let section = detail_section(b, i);
     let open = is_open(stages, a.line, i);
     refused_if(!open, 10, section as u32)
+}
+
+// 31: the lamp of the entrance signal at the arrival end of line l in direction w reports none.
+pub fn arrival_dark(ls: [Line; LINES], lamps: &[u8; LAMPS], l: u8, w: u8) -> Refusal
+    ensures { λ r. ⌜ r ≡ arrivalDark (line ls l) (now (lamps .entry)) w ⌝ }
+{
+    let b = line_at(ls, l);
+    let x = entrance_at(b, arrival_end(w));
+    let dark = reports_none(lamps, x);
+    refused_if(dark, 31, x as u32)
 }

@@ -18,7 +18,7 @@ use Rattle.tables.specs.Locks.{direction, phase, locked}
 use Rattle.layout.specs.declared.Layout.{Layout}
 use Rattle.reasons.specs.declared.Refusal.{Refusal}
 use Rattle.reasons.specs.Refusal.{noRefusal, refusedIf, firstOf}
-use Rattle.reasons.specs.Reasons.{notFree, notPlaced, conflicting, byRoute, byLine, exitLocked, blockBarred, blockHeld}
+use Rattle.reasons.specs.Reasons.{notFree, notPlaced, conflicting, byRoute, byLine, exitLocked, blockBarred, blockHeld, arrivalDark}
 
 -- throw: 15, 16, then 7/8 for the point's own section
 unfoldable pub throwRefusal : Layout → Tables → ℕ → Refusal
@@ -55,15 +55,16 @@ setRefusal L t r =
 unfoldable pub cancelRefusal : Tables → ℕ → Refusal
 cancelRefusal t r = firstOf (refusedIf (not (locked (t .phase) r)) 13 r ∷ refusedIf (eqb (phase (t .phase) r) cancelling) 14 r ∷ [])
 
--- secure: 12, 11, 6 for the line's points, 10
-unfoldable pub secureRefusal : Layout → Tables → ℕ → Refusal
-secureRefusal L t l =
+-- secure in direction w: 12, 11, 6 for the line's points, 10, 31 (L3)
+unfoldable pub secureRefusal : Layout → Tables → ℕ → ℕ → Refusal
+secureRefusal L t l w =
     let b : Line = line (L .line) l in
     firstOf (
     refusedIf (not (eqb (direction (t .direction) l) neutral)) 12 (direction (t .direction) l)
     ∷ blockBarred (L .line) (t .bar) l
     ∷ notPlaced (t .point) (b .points) (b .point) (b .position)
     ∷ blockHeld (L .line) (t .stage) l
+    ∷ arrivalDark b (t .lamp) w
     ∷ [])
 
 -- manual release: 17, then 7/8 over the line's blocks

@@ -7,6 +7,7 @@ use track::Line;
 use track::Route;
 use track::codes::EXIT_ROUTE;
 use track::route_at;
+use track::sizes::LAMPS;
 use track::sizes::LINES;
 use track::sizes::PLACES;
 use track::sizes::POINTS;
@@ -53,7 +54,7 @@ pub fn throw_refusal<'a>(
     directions: &'a [u8; LINES],
     p: u8,
 ) -> Refusal
-    ensures { λ r. ⌜ r ≡ throwRefusal plan (record { section = now (sections .entry); point = unasked; phase = now (phases .entry); direction = now (directions .entry); stage = unasked; bar = unasked }) p ⌝ }
+    ensures { λ r. ⌜ r ≡ throwRefusal plan (record { section = now (sections .entry); point = unasked; phase = now (phases .entry); direction = now (directions .entry); stage = unasked; bar = unasked; lamp = unasked }) p ⌝ }
 {
     let route = reasons::by_route(plan, phases, p);
     if route.number != 0 {
@@ -76,7 +77,7 @@ fn exit_refusal<'a>(
     bars: &'a [u8; PLACES],
     a: Route,
 ) -> Refusal
-    ensures { λ r. ⌜ r ≡ if eqb (a .kind) exitRoute then exitRefusal ls (record { section = unasked; point = now (points .entry); phase = unasked; direction = now (directions .entry); stage = now (stages .entry); bar = now (bars .entry) }) a else noRefusal ⌝ }
+    ensures { λ r. ⌜ r ≡ if eqb (a .kind) exitRoute then exitRefusal ls (record { section = unasked; point = now (points .entry); phase = unasked; direction = now (directions .entry); stage = now (stages .entry); bar = now (bars .entry); lamp = unasked }) a else noRefusal ⌝ }
 {
     if a.kind != EXIT_ROUTE {
         return no_refusal();
@@ -106,7 +107,7 @@ fn route_refusal<'a>(
     bars: &'a [u8; PLACES],
     a: Route,
 ) -> Refusal
-    ensures { λ r. ⌜ r ≡ routeRefusal ls (record { section = now (sections .entry); point = now (points .entry); phase = unasked; direction = now (directions .entry); stage = now (stages .entry); bar = now (bars .entry) }) a ⌝ }
+    ensures { λ r. ⌜ r ≡ routeRefusal ls (record { section = now (sections .entry); point = now (points .entry); phase = unasked; direction = now (directions .entry); stage = now (stages .entry); bar = now (bars .entry); lamp = unasked }) a ⌝ }
 {
     let placed = reasons::route_not_placed(points, a);
     if placed.number != 0 {
@@ -130,7 +131,7 @@ pub fn set_refusal<'a>(
     bars: &'a [u8; PLACES],
     r: u8,
 ) -> Refusal
-    ensures { λ x. ⌜ x ≡ setRefusal plan (record { section = now (sections .entry); point = now (points .entry); phase = now (phases .entry); direction = now (directions .entry); stage = now (stages .entry); bar = now (bars .entry) }) r ⌝ }
+    ensures { λ x. ⌜ x ≡ setRefusal plan (record { section = now (sections .entry); point = now (points .entry); phase = now (phases .entry); direction = now (directions .entry); stage = now (stages .entry); bar = now (bars .entry); lamp = unasked }) r ⌝ }
 {
     let own = reasons::already_locked(phases, r);
     if own.number != 0 {
@@ -148,7 +149,7 @@ pub fn set_refusal<'a>(
 
 // What is refused of cancelling a route.
 pub fn cancel_refusal(phases: &[u8; ROUTES], r: u8) -> Refusal
-    ensures { λ x. ⌜ x ≡ cancelRefusal (record { section = unasked; point = unasked; phase = now (phases .entry); direction = unasked; stage = unasked; bar = unasked }) r ⌝ }
+    ensures { λ x. ⌜ x ≡ cancelRefusal (record { section = unasked; point = unasked; phase = now (phases .entry); direction = unasked; stage = unasked; bar = unasked; lamp = unasked }) r ⌝ }
 {
     let idle = reasons::not_locked(phases, r);
     if idle.number != 0 {
@@ -157,16 +158,18 @@ pub fn cancel_refusal(phases: &[u8; ROUTES], r: u8) -> Refusal
     reasons::already_cancelling(phases, r)
 }
 
-// What is refused of securing a line.
+// What is refused of securing a line in direction w.
 pub fn secure_refusal<'a>(
     plan: Layout,
     points: &'a [u8; POINTS],
     directions: &'a [u8; LINES],
     stages: &'a [u8; PLACES],
     bars: &'a [u8; PLACES],
+    lamps: &'a [u8; LAMPS],
     l: u8,
+    w: u8,
 ) -> Refusal
-    ensures { λ r. ⌜ r ≡ secureRefusal plan (record { section = unasked; point = now (points .entry); phase = unasked; direction = now (directions .entry); stage = now (stages .entry); bar = now (bars .entry) }) l ⌝ }
+    ensures { λ r. ⌜ r ≡ secureRefusal plan (record { section = unasked; point = now (points .entry); phase = unasked; direction = now (directions .entry); stage = now (stages .entry); bar = now (bars .entry); lamp = now (lamps .entry) }) l w ⌝ }
 {
     let ls = plan.line;
     let way = reasons::already_secured(directions, l);
@@ -181,7 +184,11 @@ pub fn secure_refusal<'a>(
     if placed.number != 0 {
         return placed;
     }
-    reasons::block_held(ls, stages, l)
+    let held = reasons::block_held(ls, stages, l);
+    if held.number != 0 {
+        return held;
+    }
+    reasons::arrival_dark(ls, lamps, l, w)
 }
 
 // What is refused of a manual release.
@@ -191,7 +198,7 @@ pub fn manual_refusal<'a>(
     phases: &'a [u8; ROUTES],
     l: u8,
 ) -> Refusal
-    ensures { λ r. ⌜ r ≡ manualRefusal plan (record { section = now (sections .entry); point = unasked; phase = now (phases .entry); direction = unasked; stage = unasked; bar = unasked }) l ⌝ }
+    ensures { λ r. ⌜ r ≡ manualRefusal plan (record { section = now (sections .entry); point = unasked; phase = now (phases .entry); direction = unasked; stage = unasked; bar = unasked; lamp = unasked }) l ⌝ }
 {
     let ls = plan.line;
     let route = reasons::exit_locked(plan, phases, l);

@@ -17,7 +17,7 @@ use Rattle.layout_facts.specs.Plain.{Sound}
 use Rattle.interlocking.specs.declared.State.{State}
 use Rattle.interlocking.specs.State.{inRange, withPoints, withRoutes, withLines, withBars}
 use Rattle.interlocking.specs.Own.{ownPoint, ownThrow, ownBar}
-use Rattle.interlocking.specs.Settle.{signals, farSections, routesBy, routes, lineRelease, settle}
+use Rattle.interlocking.specs.Settle.{signals, farSections, routesBy, routes, arrivals, lineRelease, settle}
 use Rattle.interlocking.specs.Step.{refusal, after}
 use Rattle.step_facts.specs.Run.{Event}
 use Rattle.safety.specs.History.{Moment, History, Came, Since}
@@ -55,7 +55,7 @@ module _ (L : Layout) (S : Sound L) (s : State) (h : History) (I : Inv L s h) (e
     (pass : refusal (sound L and inRange s) L s (e .kind) (e .first) (e .second) .number ≡ 0) (l i : ℕ) (b : l < L .lines) (c : i < lineIn L l .blocks) where
   -- by its kind: a bar or an unbar that was accepted is of a block that there is. Nothing that follows the event's own effect touches bars
   bar-case : BarCase s e l i (barAt (end L s e) l i)
-  unfolding after settle lineRelease withLines routes routesBy withRoutes farSections signals ownPoint ownThrow ownBar withPoints withBars
+  unfolding after settle lineRelease withLines arrivals routes routesBy withRoutes farSections signals ownPoint ownThrow ownBar withPoints withBars
   bar-case = go (is-placed L s e)
     where
       below : i < mostBlocks

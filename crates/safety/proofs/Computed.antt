@@ -8,17 +8,20 @@ use Rattle.sets.specs.Sets.{holds, joined, mergedSet, addEntry, setOf}
 use Rattle.tables.specs.Readings.{recorded, given, reading, blockGiven, blockReading, pointReading, allFree, inPosition, linePlaced, routePlaced}
 use Rattle.track.specs.Objects.{nearest}
 use Rattle.track.specs.Signal.{hasSignal}
-use Rattle.track.specs.SignalNumbers.{lineSignals, blockSignals, allSignals, signalCount, signalOf}
+use Rattle.track.specs.SignalNumbers.{lineSignals, blockSignals, allSignals, signalCount, signalOf, numberOf}
 use Rattle.track.specs.Blocks.{inBlock, facing, blockDetail, lineSections}
-use Rattle.tables.specs.Blocks.{place, isOpen, unbarred}
+use Rattle.tables.specs.Blocks.{place, stageOf, isOpen, unbarred}
 use Rattle.signals.specs.Signals.{enterableBy, enterable, letsOut, clear, fallen, routeProceeds, mainProceeds, blockProceeds}
 use Rattle.signals.specs.MainSignals.{proceedShown, shownBy, shownFor, mainShows}
 use Rattle.signals.specs.BlockSignals.{lightShown, blockShows}
 use Rattle.signals.specs.Shows.{showsWith, shows, numberShows}
 use Rattle.signals.specs.Distants.{warning, stopOrDark, carrierDarkens, distantShows}
-use Rattle.passage.specs.Passage.{ownStage, departure, arrival, beyond, sectionAt, signalAt, farSection, farSignal, farStage}
+use Rattle.passage.specs.Passage.{freeStage, ownStage, departure, arrival, beyond, sectionAt, signalAt, fromArrival, farSection, farSignal, farStage}
+use Rattle.lamps.specs.Lamps.{lampOf, reportsNone, farLamp, farStopLit}
+use Rattle.line_block.specs.OwnReadings.{ownGiven, ownStageAt, givenStages, ownStages}
+use Rattle.line_block.specs.PassingBack.{goesOpen, noOpening, releasedEntranceBy, arrives, noArrival, opensBeyond, waitedStage, waitedStageAt, passedBack}
 use Rattle.line_block.specs.FarSections.{drops, farMoved, farStageAt, farStages}
-use Rattle.line_block.specs.LineRelease.{lastBlock, passable, wasInStage2, endsBy, directionAfter, directionsAfter}
+use Rattle.line_block.specs.LineRelease.{lastBlock, passable, wasPassed, endsBy, directionAfter, directionsAfter}
 use Rattle.release.specs.Release.{watchedSection, watchedBlock, exitPair, pathPair, watchedPair, stepsAfter, toVacate, endReading, vacated, secondsAfter, goes, lockingAfter}
 use Rattle.fields.specs.Fields.{noneOrReference}
 use Rattle.file_objects.specs.Distants.{noDistants, distantTurn, distantsFrom}
@@ -31,14 +34,14 @@ use Rattle.fitted.specs.Fitted.{anyOf, isTold, lacks, toldBy, withTold, equippe
 use Rattle.reasons.specs.Refusal.{refused, noRefusal, refusedIf, found, firstOf}
 use Rattle.reasons.specs.Searches.{unfree, misplaced, routeLocks, lineLocks, failing}
 use Rattle.tables.specs.Locks.{locked, lockedExitBy, lockedExit}
-use Rattle.reasons.specs.Reasons.{notFree, notPlaced, conflicting, byRoute, byLine, exitLocked, blockBarred, blockHeld, noHeads, hasHeads}
+use Rattle.reasons.specs.Reasons.{notFree, notPlaced, conflicting, byRoute, byLine, exitLocked, blockBarred, blockHeld, arrivalDark, noHeads, hasHeads}
 use Rattle.refusals.specs.Orders.{throwRefusal, exitRefusal, routeRefusal, setRefusal, cancelRefusal, secureRefusal, manualRefusal}
 use Rattle.refusals.specs.Events.{numbersRefusal}
-use Rattle.interlocking.specs.State.{cold, codes, routesAndLinesInRange, inRange, headsAt, withSections, withPoints, withRoutes, withLines, withBars, withAxles}
-use Rattle.interlocking.specs.Own.{ownGiven, ownStageAt, ownSection, ownPoint, throwReading, ownThrow, ownSet, ownCancel, ownSecure, openAt, ownManual, ownBar, headSection, headsOf, headsBy, ownHeads}
+use Rattle.interlocking.specs.State.{cold, codes, routesAndLinesInRange, inRange, headsAt, withSections, withPoints, withRoutes, withLines, withBars, withAxles, withLamps}
+use Rattle.interlocking.specs.Own.{ownSection, ownPoint, throwReading, ownThrow, ownSet, ownCancel, ownSecure, openAt, ownManual, ownBar, headSection, headsOf, headsBy, ownHeads, ownLamp}
 use Rattle.interlocking.specs.Parts.{isOfHeads}
-use Rattle.interlocking.specs.Settle.{fallenAt, signals, proceedsIn, farSections, lockingOf, routeAfter, unlessIdle, routesBy, routes, lineRelease, settle}
-use Rattle.interlocking.specs.Rows.{nothing, givesReading, aSecond, sectionRow, pointRow, throwRow, setRow, cancelRow, secureRow, manualRow, barRow, secondRow, headRow, countRow, silentRow, resetRow, stillSilent, noRow, rowWith, rowOf}
+use Rattle.interlocking.specs.Settle.{fallenAt, signals, proceedsIn, farSections, lockingOf, routeAfter, unlessIdle, routesBy, routes, arrivals, lineRelease, settle}
+use Rattle.interlocking.specs.Rows.{nothing, givesReading, aSecond, sectionRow, pointRow, throwRow, setRow, cancelRow, secureRow, manualRow, barRow, secondRow, headRow, countRow, silentRow, resetRow, stillSilent, lampRow, noRow, rowWith, rowOf}
 use Rattle.interlocking.specs.Step.{rowRefusal, answeredBy, stepWhere, step, askedInRun, stepInRun, refusal, own, gives, after}
 use Rattle.axles.specs.Rounds.{around, signed}
 use Rattle.axles.specs.Heads.{silentHead, coldHeads, speaks, speaking, headAfter, net, number, readingOf, occupies, resets, sumAfter, proofAfter, withProof, proves, judged, axlesAfter, known, axlesReading}
@@ -49,7 +52,7 @@ use Rattle.panel.specs.Panel as panels
 use Rattle.step_facts.specs.Run.{box, boxInRun, stateAfter, answers, fromCold}
 use Rattle.panel.specs.Shown.{sectionShown, pointShown, signalShown, routeShown, distantShown, lineShown, blockShown}
 use Rattle.safety.specs.Said.{named, ofHeads, saidOf, takesEffect}
-use Rattle.safety.specs.History.{gaveByReading, gaveByHeads, headLog, gaveSection, reads, shown, moment, goesOn, history}
+use Rattle.safety.specs.History.{gaveByReading, gaveByHeads, headLog, gaveSection, reads, lampTold, shown, moment, goesOn, history}
 use Rattle.safety.specs.Locked.{gaveFirst, gaveSecond, secondsSince}
 use Rattle.safety.specs.Lights.{position}
 
@@ -57,28 +60,30 @@ use Rattle.safety.specs.Lights.{position}
 unfoldable pub runComputed : ℕ
 unfolding computed
     if_then_else_ _and_ _or_ implies every allBelow anyBelow lowestFrom lowest iter tableFrom table read eachFrom each put holds joined mergedSet addEntry setOf
-    recorded reading pointReading allFree inPosition linePlaced routePlaced place nearest isOpen unbarred enterable enterableBy letsOut clear fallen routeProceeds mainProceeds blockProceeds
+    recorded reading pointReading allFree inPosition linePlaced routePlaced place stageOf nearest isOpen unbarred enterable enterableBy letsOut clear fallen routeProceeds mainProceeds blockProceeds
     inBlock facing blockDetail lineSections blockReading blockGiven
-    ownStage departure arrival beyond sectionAt signalAt farSection farSignal farStage drops farMoved farStageAt farStages
+    freeStage ownStage departure arrival beyond sectionAt signalAt fromArrival farSection farSignal farStage drops farMoved farStageAt farStages
+    lineSignals blockSignals allSignals signalCount numberOf lampOf reportsNone farLamp farStopLit
+    goesOpen noOpening releasedEntranceBy arrives noArrival opensBeyond waitedStage waitedStageAt passedBack
     given watchedSection watchedBlock exitPair pathPair watchedPair stepsAfter toVacate endReading vacated secondsAfter goes lockingAfter
     innerSection entranceSignal nearestBlock
-    refused noRefusal refusedIf found firstOf unfree notFree misplaced notPlaced locked conflicting byRoute byLine exitLocked blockBarred blockHeld hasHeads
+    refused noRefusal refusedIf found firstOf unfree notFree misplaced notPlaced locked conflicting byRoute byLine exitLocked blockBarred blockHeld arrivalDark hasHeads
     routeLocks lineLocks failing lockedExitBy lockedExit
     throwRefusal exitRefusal routeRefusal setRefusal cancelRefusal secureRefusal manualRefusal
-    cold codes routesAndLinesInRange inRange withSections withPoints withRoutes withLines withBars
-    ownGiven ownStageAt ownSection ownPoint throwReading ownThrow ownSet ownCancel ownSecure openAt ownManual ownBar
-    fallenAt signals proceedsIn farSections lockingOf routeAfter unlessIdle routesBy routes
-    lastBlock passable wasInStage2 endsBy directionAfter directionsAfter lineRelease settle
-    numbersRefusal nothing givesReading aSecond sectionRow pointRow throwRow setRow cancelRow secureRow manualRow barRow secondRow noRow rowWith rowOf
+    cold codes routesAndLinesInRange inRange withSections withPoints withRoutes withLines withBars withLamps
+    ownGiven ownStageAt givenStages ownStages ownSection ownPoint throwReading ownThrow ownSet ownCancel ownSecure openAt ownManual ownBar ownLamp
+    fallenAt signals proceedsIn farSections lockingOf routeAfter unlessIdle routesBy routes arrivals
+    lastBlock passable wasPassed endsBy directionAfter directionsAfter lineRelease settle
+    numbersRefusal nothing givesReading aSecond sectionRow pointRow throwRow setRow cancelRow secureRow manualRow barRow secondRow lampRow noRow rowWith rowOf
     rowRefusal answeredBy stepWhere step askedInRun stepInRun refusal own gives after
     join blocks proceedShown shownBy shownFor mainShows routeByte hasSignal lightShown blockShows blockBytes lineBytes image panelLength panels.refused panels.answerWhere panels.answer drawnWhere drawn
-    box boxInRun stateAfter answers fromCold showsWith shows sectionShown pointShown signalShown routeShown distantShown lineShown blockShown isFitted gaveByReading gaveSection reads shown moment goesOn history
+    box boxInRun stateAfter answers fromCold showsWith shows sectionShown pointShown signalShown routeShown distantShown lineShown blockShown isFitted gaveByReading gaveSection reads lampTold shown moment goesOn history
     gaveFirst gaveSecond secondsSince position plain.ownSection path overlap routePoint routePosition linePoint linePosition
 runComputed = 0
 
 -- whoever unfolds this besides unfolds all that distants are made of (L2)
 unfoldable pub distantsComputed : ℕ
-unfolding noneOrReference noDistants distantTurn distantsFrom announcesCarrier carrierOf announcedBy lineSignals blockSignals allSignals signalCount signalOf
+unfolding noneOrReference noDistants distantTurn distantsFrom announcesCarrier carrierOf announcedBy signalOf
     numberShows warning stopOrDark carrierDarkens distantShows signalShows distantByte
 distantsComputed = 0
 

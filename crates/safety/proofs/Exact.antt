@@ -27,13 +27,13 @@ use Rattle.step_facts.proofs.Entries.{phase, direction, stage}
 use Rattle.panel.proofs.Image.{shows-section, shows-point, shows-route, shows-line, shows-block}
 use Rattle.panel.proofs.DistantLaws.{distants-show}
 use Rattle.safety.proofs.Invariant.{Inv}
-use Rattle.safety.proofs.Waits.{few-stages}
+use Rattle.safety.proofs.Through.{few-stages}
 use Rattle.safety.proofs.SignalBytes.{main-exact, block-signal-exact}
 use Rattle.safety.proofs.Kept.{run-has}
 
 -- ---- the byte of a route by its phase
 
-byte-idle : (p : ℕ) → routeByte p ≡ 0 ↔ p ≡ 0
+pub byte-idle : (p : ℕ) → routeByte p ≡ 0 ↔ p ≡ 0
 unfolding routeByte
 byte-idle p = (
   if-both (λ n. n ≡ 0 → p ≡ 0) (eqb p 0) (λ t z. eqb-true p 0 t) (λ f. if-both (λ n. n ≡ 0 → p ≡ 0) _ (λ t z. absurd (omega arith)) (λ t z. absurd (omega arith))),
@@ -67,6 +67,7 @@ module _ (L : Layout) (S : Sound L) (s : State) (h : History) (I : Inv L s h) wh
         opens = rw byte (told .opens);
         enters = rw byte (told .enters);
         passes = rw byte (λ z. (direction s l, told .passes z .1), λ p. told .waits (p .0) (p .1) .0);
+        waits = rw byte (λ z. (direction s l, told .holds z .1), λ p. told .held (p .0) (p .1) .0);
         most = rw byte (few-stages s (I .ranged) l i);
       }
 

@@ -1,13 +1,13 @@
 -- An accepted event keeps what the invariant says of a block in stage 2:
 -- a passage in the secured direction waits for the free reading that closes it.
-use Prim.Native.Nat.{ℕ, _+_, _<_, _≤_}
+use Prim.Native.Nat.{ℕ, _<_, _≤_}
 use mathlib.Core.Path.{_≡_, refl, sym, ap, _∙_}
-use mathlib.Core.Logic.{_≢_, inl, inr}
+use mathlib.Core.Logic.{_≢_, _⊎_, inl, inr}
 use mathlib.Core.Bool.{true, false}
 use mathlib.Core.List.{List, _∷_}
 use native.Mathlib.Decide.{ℕ-discrete}
 use native.Mathlib.Omega.{arith}
-use borrow.Author.Tests.{eqb-true, eq-eqb, ne-eqb, lt-ltb, not-true}
+use borrow.Author.Tests.{eqb-true, eq-eqb, not-true}
 use lib.ListN.{getD}
 use Rattle.laws.specs.Choice.{if_then_else_}
 use Rattle.laws.specs.Tests.{_and_}
@@ -19,7 +19,6 @@ use Rattle.tables.specs.Readings.{allFree}
 use Rattle.tables.specs.Readings as readings
 use Rattle.tables.specs.Blocks.{isOpen}
 use Rattle.signals.specs.Signals.{enterableBy, enterable, clear, routeProceeds, mainProceeds, blockProceeds}
-use Rattle.track.specs.Signal.{hasSignal}
 use Rattle.passage.specs.declared.Beyond.{Beyond}
 use Rattle.passage.specs.Passage.{beyond, sectionAt, signalAt, farSignal}
 use Rattle.passage.specs.Passage as passage
@@ -39,20 +38,20 @@ use Rattle.panel.specs.Shown.{panel}
 use Rattle.safety.specs.History.{History, gaveSection, gaveBlock, sectionReads, shown, Since}
 use Rattle.safety.specs.Cleared.{farSection, Proceeds, Stops, Passage}
 use Rattle.step_facts.specs.FarInState.{farReading, farProceeds, farDropped}
-use Rattle.laws.proofs.Choice.{chosen, passed-over}
 use Rattle.step_facts.proofs.Entries.{phase, direction, stage, block, block-there}
-use Rattle.step_facts.proofs.Passed.{two-ways, secure-neutral}
-use Rattle.step_facts.proofs.Within.{On, done, lit, end, phase-kept, lit-clear, direction-same, direction-held}
+use Rattle.step_facts.proofs.Passed.{two-ways}
+use Rattle.step_facts.proofs.Within.{On, done, lit, end, phase-kept, lit-clear, direction-held}
 use Rattle.safety.proofs.Given.{granted, one-section}
-use Rattle.safety.proofs.Blocks.{OwnCase, byHand, unread, frees, shuts, takes, own-of}
-use Rattle.step_facts.proofs.FarCases.{FarCase, keeps, proves, loses, far-of, open-same, enterable-same}
+use Rattle.safety.proofs.Blocks.{by-hand, stays-open, shown-stop, opens-with, waits-on, shut, entered}
+use Rattle.safety.proofs.Through.{way-kept, FarNow, Case, open-end, open-moves, case-of}
+use Rattle.step_facts.proofs.FarCases.{keeps, proves, loses, enterable-same}
 use Rattle.safety.proofs.Beyond.{BeyondCase, aBlock, aStation, beyond-case, far-there}
-use Rattle.safety.proofs.Signals.{one-each-way, main-lit, main-stopped, into-lit, into-stops}
+use Rattle.safety.proofs.Signals.{one-each-way, far-signal, main-lit, main-stopped, into-lit, into-stops}
 use Rattle.panel.proofs.Image.{shows-line}
 use Rattle.safety.proofs.Told.{reads-kept, reads-given}
 use Rattle.safety.proofs.Invariant.{Inv}
 use Rattle.safety.proofs.ReadAfter.{reads-done}
-use Rattle.safety.proofs.Held.{opened-then}
+use Rattle.safety.proofs.Held.{open-free}
 
 -- ---- the far section
 
@@ -84,15 +83,6 @@ module _ (L : Layout) (S : Sound L) (l i w : ℕ) (b : l < L .lines) (c : i < li
 
 -- ---- the far signal
 
--- there is a block signal into block j of n where it lies beyond another
-far-signal : (n w j : ℕ) → (w ≡ 1 → 0 < j) → (w ≢ 1 → j + 1 < n) → hasSignal n j w ≡ true
-unfolding hasSignal
-far-signal n w j up down = go (ℕ-discrete w 1)
-  where
-    go : Dec (w ≡ 1) → hasSignal n j w ≡ true
-    go (yes q) = chosen _ _ _ (eq-eqb w 1 q) ∙ lt-ltb 0 j (up q)
-    go (no q) = passed-over _ _ _ (ne-eqb w 1 q) ∙ lt-ltb (j + 1) n (down q)
-
 module _ (L : Layout) (S : Sound L) (s : State) (e : Event) (l i w : ℕ) (b : l < L .lines) where
   -- a far signal at proceed shows proceed
   far-showed : (x : Beyond) → BeyondCase L l i w x → w ≢ 0 → direction s l ≤ 2 → proceedsIn L s (signalAt (lineIn L l) l w x) ≡ true
@@ -103,16 +93,19 @@ module _ (L : Layout) (S : Sound L) (s : State) (e : Event) (l i w : ℕ) (b : l
       into-lit L s l j w b h (one-each-way w z (omega arith)) (far-signal _ w j up down) p
   far-showed x (aStation k h) z few p = main-lit L s _ (S .ranges .lines l b .entrances k h) p
 
-  -- one that fell within the event still shows stop at its end: phases never return to 1, and the far sections open no block
+  -- one that fell within the event still shows stop at its end: phases never return to 1, and a block that was open before it and is not after its own
+  -- reading does not open again
   far-stops : (x : Beyond) → BeyondCase L l i w x → w ≢ 0 → direction s l ≤ 2 → direction (done L s e) l ≡ w → direction (end L s e) l ≡ w
+      → ((j : ℕ) → j < lineIn L l .blocks → stage s l j ≡ 0 → stage (done L s e) l j ≢ 4)
       → proceedsIn L s (signalAt (lineIn L l) l w x) ≡ true → proceedsIn L (lit L s e) (signalAt (lineIn L l) l w x) ≡ false
       → Stops (panel L (image L (end L s e))) (signalAt (lineIn L l) l w x)
-  unfolding proceedsIn signalAt blockProceeds mainProceeds routeProceeds signals withRoutes entranceSignal
-  far-stops x (aBlock j h d up down) z few own now p f =
+  unfolding proceedsIn signalAt blockProceeds mainProceeds routeProceeds signals withRoutes entranceSignal enterable enterableBy isOpen
+  far-stops x (aBlock j h d up down) z few own now shuts p f =
       let way = eqb-true (direction s l) w (and-left _ _ p) in
+      let was = eqb-true (stage s l j) 0 (every-at _ (and-right _ _ p) 0) in
       into-stops L (end L s e) l j w b h (one-each-way w z (omega arith)) (far-signal _ w j up down) now
-      (fails-from _ (λ t. not-both (and-both _ _ (eq-eqb _ w own) (sym (enterable-same L S s e l j b h) ∙ t)) f))
-  far-stops x (aStation k h) z few own now p f =
+      (fails-from _ (λ t. not-both (and-both _ _ (eq-eqb _ w own) (sym (enterable-same L S s e l j b h (shuts j h was)) ∙ t)) f))
+  far-stops x (aStation k h) z few own now shuts p f =
       main-stopped L (end L s e) _ (S .ranges .lines l b .entrances k h)
       (fails-from _ (λ t.
       let (r, there, lit) = any-some _ _ t in
@@ -144,38 +137,18 @@ module _ (L : Layout) (S : Sound L) (s : State) (h : History) (I : Inv L s h) (e
     where
       opens : (j : ℕ) → j < lineIn L l .blocks → stage (done L s e) l j ≡ 0 → readings.reading (done L s e .section) (block L l j) ≡ 1
       opens j k z =
-          reads-done L S s h I e pass _ (block-there L S l j b k)
-          ∙ opened-then L S s h I e pass l j b k (eqb-true _ 0 (open-same L S s e l j b k ∙ eq-eqb _ 0 z)) .isFree
+          reads-done L S s h I e pass _ (block-there L S l j b k) ∙ open-free L S s h I e pass l j b k (open-end L S s h I e pass l b j k z)
 
-  -- a block that was in stage 2 and stays there: the passage waits on
-  waits-on : stage (done L s e) l i ≡ 3 → (direction (done L s e) l ≢ 0 → farReading L (lit L s e) l i (direction (done L s e) l) ≢ 3)
-      → (direction (done L s e) l ≢ 0) × Passage L l i (direction (done L s e) l) (granted L s e ∷ h)
+  -- a block that is entered in the same direction, in stage 1 or 2, before the event and not moved by it otherwise: its passage waits on
+  waits-still : stage s l i ≡ 3 → gaveBlock L l i (granted L s e) h ≢ 3 → gaveBlock L l i (granted L s e) h ≢ 1
+      → farReading L (lit L s e) l i (direction s l) ≢ 3 → Passage L l i (direction s l) (granted L s e ∷ h)
   unfolding Since
-  waits-on z far = go (own-of L S s h I e pass l i b c)
-    where
-      on : stage s l i ≡ 3 → ¬ On 7 e l → gaveBlock L l i (granted L s e) h ≢ 3 → gaveBlock L l i (granted L s e) h ≢ 1
-          → (direction (done L s e) l ≢ 0) × Passage L l i (direction (done L s e) l) (granted L s e ∷ h)
-      on was hand none free =
-          let P = I .blocks l i b c .passes was in
-          let same : direction (done L s e) l ≡ direction s l =
-          direction-same L (S .ranges .lineCount) s e l b (λ u. P .0 (ap (direction s) (sym (u .1)) ∙ secure-neutral L s e pass (u .0))) hand in (
-            λ q. P .0 (sym same ∙ q),
-            inr (((none, free), λ q. far (λ y. P .0 (sym same ∙ y)) (far-reads _ ∙ reads-given _ _ h 3 q (omega arith))), rw same (P .1)),
-          )
-
-      go : OwnCase (On 7 e l) (gaveBlock L l i (granted L s e) h) (stage s l i) (stage (done L s e) l i)
-          → (direction (done L s e) l ≢ 0) × Passage L l i (direction (done L s e) l) (granted L s e ∷ h)
-      go (byHand u q x) = absurd (omega arith)
-      go (unread n q x) = on (sym x ∙ z) n (omega arith) (omega arith)
-      go (frees n q was x) = absurd (omega arith)
-      go (shuts n q x) = absurd (omega arith)
-      go (takes n q (inl x) y) = absurd (let v = x .0 in omega arith)
-      go (takes n q (inr x) y) = on (sym x ∙ z) n (omega arith) (omega arith)
+  waits-still was none free far =
+      inr (((none, free), λ q. far (far-reads _ ∙ reads-given _ _ h 3 q (omega arith))), I .blocks l i b c .passes was .1)
 
   -- a block that goes from stage 1 to 2: this event dropped the far signal and left the far section occupied. The far section read free before, so
   -- this event gave it occupied, so it gave the block nothing: the block was entered by an event before
-  module _ (w : ℕ) (own : direction (done L s e) l ≡ w) (z : stage (done L s e) l i ≡ 2) (d : w ≢ 0) (taken : farReading L (lit L s e) l i w ≡ 2)
-      (up : farProceeds L s l i w ≡ true) where
+  module _ (w : ℕ) (taken : farReading L (lit L s e) l i w ≡ 2) (up : farProceeds L s l i w ≡ true) where
     -- the far section reads occupied then
     now : sectionReads L (farSection L l i w) (granted L s e ∷ h) ≡ 2
     now = sym (far-reads w) ∙ taken
@@ -201,46 +174,57 @@ module _ (L : Layout) (S : Sound L) (s : State) (h : History) (I : Inv L s h) (e
         go (yes q) = q
         go (no q) = absurd (far-other L S l i w b c (beyond (lineIn L l) i w) (there w) (one-section L _ _ (granted L s e) h q of-far))
 
-    -- so the block was in stage 1 or 2 before
-    entered-before : 2 ≤ stage s l i
-    entered-before = go (own-of L S s h I e pass l i b c)
-      where
-        go : OwnCase (On 7 e l) (gaveBlock L l i (granted L s e) h) (stage s l i) (stage (done L s e) l i) → 2 ≤ stage s l i
-        go (byHand u q x) = absurd (omega arith)
-        go (unread n q x) = omega arith
-        go (frees n q was x) = absurd (omega arith)
-        go (shuts n q x) = absurd (omega arith)
-        go (takes n q x y) = absurd (omega (arith, of-block))
-
   -- so this is the drop of a passage
-  dropped : stage (done L s e) l i ≡ 2 → direction (done L s e) l ≢ 0 → direction (end L s e) l ≡ direction (done L s e) l
+  dropped : (2 ≤ stage s l i) × (stage s l i ≤ 3) → direction (done L s e) l ≢ 0 → direction (end L s e) l ≡ direction (done L s e) l
       → farReading L (lit L s e) l i (direction (done L s e) l) ≡ 2 → farDropped L s (lit L s e) l i (direction (done L s e) l) ≡ true
       → Passage L l i (direction (done L s e) l) (granted L s e ∷ h)
   unfolding Since drops farSignal shown
-  dropped z d same taken fell =
+  dropped held d same taken fell =
       let w : ℕ = direction (done L s e) l in
       let x : Beyond = beyond (lineIn L l) i w in
       let up : farProceeds L s l i w ≡ true = and-left _ _ fell in
       let down : farProceeds L (lit L s e) l i w ≡ false = not-true _ (and-right _ _ fell) in
       let ways : direction s l ≤ 2 = two-ways L s e pass l in
       inl (record {
-        entered = I .blocks l i b c .enters .0 (entered-before w refl z d taken up);
-        stays = let quiet = of-block w refl z d taken up in (omega arith, omega arith);
+        entered = I .blocks l i b c .enters .0 held;
+        stays = let quiet = of-block w taken up in (omega arith, omega arith);
         secured = (shows-line L (end L s e) l b ∙ same, d);
-        taken = now w refl z d taken up;
+        taken = now w taken up;
         fromProceed = rw (I .seen) (far-showed L S s e l i w b x (there w) d ways up);
-        toStop = far-stops L S s e l i w b x (there w) d ways refl same up down;
+        toStop = far-stops L S s e l i w b x (there w) d ways refl same (λ j k z. open-moves L S s h I e pass l b j k z) up down;
       })
 
   -- a line with a held block keeps its direction through the event; then by what the far section did
   pub passing-then : stage (end L s e) l i ≡ 3 → (direction (end L s e) l ≢ 0) × Passage L l i (direction (end L s e) l) (granted L s e ∷ h)
-  passing-then z = rw unmoved (go (far-of L S s e l i b c))
+  unfolding drops
+  passing-then z = rw unmoved (go (case-of L S s h I e pass l b i c))
     where
       unmoved : direction (end L s e) l ≡ direction (done L s e) l
       unmoved = direction-held L (S .ranges .lineCount) s e l b i c (omega arith)
 
-      go : FarCase L s (lit L s e) l i (direction (done L s e) l) (stage (done L s e) l i) (stage (end L s e) l i)
+      -- it was in stage 2 and the far section left it there
+      waited : ¬ On 7 e l → gaveBlock L l i (granted L s e) h ≢ 3 → gaveBlock L l i (granted L s e) h ≢ 1 → stage s l i ≡ 3
+          → (direction (done L s e) l ≢ 0 → farReading L (lit L s e) l i (direction (done L s e) l) ≢ 3)
           → (direction (done L s e) l ≢ 0) × Passage L l i (direction (done L s e) l) (granted L s e ∷ h)
-      go (keeps x f g) = waits-on (sym x ∙ z) (f z)
-      go (proves x was d o p) = (d, dropped was d unmoved o p)
-      go (loses x was far) = absurd (omega arith)
+      waited n none free was far =
+          let kept = way-kept L S s h I e pass l b i c (omega arith) n in
+          let d : direction (done L s e) l ≢ 0 = λ q. kept .0 (sym (kept .1) ∙ q) in
+          (d, rw (kept .1) (waits-still was none free (rw (kept .1) at (far d))))
+
+      by-far : ¬ On 7 e l → (y : ℕ) → ((gaveBlock L l i (granted L s e) h ≡ 2) × (y ≡ 2) × (stage s l i ≢ 2) × (stage s l i ≢ 3))
+          ⊎ ((gaveBlock L l i (granted L s e) h ≢ 1) × (gaveBlock L l i (granted L s e) h ≢ 3) × (y ≡ stage s l i))
+          → FarNow L S s h I e pass l b i c y (stage (end L s e) l i) → (direction (done L s e) l ≢ 0) × Passage L l i (direction (done L s e) l) (granted L s e ∷ h)
+      by-far n y (inl v) (keeps x f g) = absurd (omega (arith, v .1))
+      by-far n y (inr v) (keeps x f g) = waited n (v .1) (v .0) (sym (v .2) ∙ sym x ∙ z) (f z)
+      by-far n y (inl v) (proves x was d o p) = absurd (omega (arith, v .0, of-block _ o (and-left _ _ p)))
+      by-far n y (inr v) (proves x was d o p) = (d, dropped (omega (arith, v .2)) d unmoved o p)
+      by-far n y v (loses x was far) = absurd (omega arith)
+
+      go : Case L S s h I e pass l b i c → (direction (done L s e) l ≢ 0) × Passage L l i (direction (done L s e) l) (granted L s e ∷ h)
+      go (by-hand u v x) = absurd (omega arith)
+      go (stays-open n v was x) = absurd (omega arith)
+      go (shown-stop n v was t x) = absurd (omega arith)
+      go (opens-with n w B x) = absurd (omega arith)
+      go (waits-on n w B x) = absurd (omega arith)
+      go (shut n v x) = absurd (omega arith)
+      go (entered n y v few far) = by-far n y v far

@@ -27,9 +27,9 @@ use Rattle.layout.specs.Sound.{sound}
 use Rattle.interlocking.specs.declared.State.{State}
 use Rattle.interlocking.specs.State.{inRange, headsAt, withSections, withRoutes, withLines, withAxles}
 use Rattle.interlocking.specs.Own.{ownSection, ownSet, ownCancel, ownSecure, ownManual, headsOf}
-use Rattle.interlocking.specs.Rows.{Row, nothing, givesReading, aSecond, sectionRow, pointRow, throwRow, setRow, cancelRow, secureRow, manualRow, barRow, secondRow, headRow, countRow, silentRow, resetRow, noRow}
+use Rattle.interlocking.specs.Rows.{Row, nothing, givesReading, aSecond, sectionRow, pointRow, throwRow, setRow, cancelRow, secureRow, manualRow, barRow, secondRow, headRow, countRow, silentRow, resetRow, lampRow, noRow}
 use Rattle.interlocking.specs.Step.{refusal, gives}
-use Rattle.interlocking.proofs.Rows.{OfKind, section-row, point-row, throw-row, set-row, cancel-row, secure-row, manual-row, bar-row, unbar-row, second-row, count-row, silent-row, reset-row, no-row, row-of, reset-named, heads-row}
+use Rattle.interlocking.proofs.Rows.{OfKind, section-row, point-row, throw-row, set-row, cancel-row, secure-row, manual-row, bar-row, unbar-row, second-row, count-row, silent-row, reset-row, lamp-row, no-row, row-of, reset-named, heads-row}
 use Rattle.panel.specs.Panel.{image}
 use Rattle.step_facts.specs.Run.{Event}
 use Rattle.step_facts.proofs.Own.{recorded-in, heads-say-in}
@@ -206,7 +206,7 @@ module _ (L : Layout) (s : State) (e : Event) (h : History) (H : HeadsHeld L (s 
 
     -- and so does what it takes any event to give it
     pub box-follows : g < mostSections → given (gives L s (e .kind) (e .first) (e .second)) g ≡ gaveSection L g (granted L s e) h
-    unfolding gives given sectionRow pointRow throwRow setRow cancelRow secureRow manualRow barRow secondRow headRow countRow silentRow resetRow noRow headsOf nothing aSecond
+    unfolding gives given sectionRow pointRow throwRow setRow cancelRow secureRow manualRow barRow secondRow headRow countRow silentRow resetRow lampRow noRow headsOf nothing aSecond
     box-follows b = go (row-of L s (e .kind) (e .first) (e .second))
       where
         none : Untold (e .kind) → (x : ℕ) → (if eqb mostSections g then x else 0) ≡ gaveSection L g (granted L s e) h
@@ -230,4 +230,5 @@ module _ (L : Layout) (s : State) (e : Event) (h : History) (H : HeadsHeld L (s 
         go (count-row (inr q)) = told (count-row (inr q)) (omega arith)
         go (silent-row q) = told (silent-row q) (omega arith)
         go (reset-row q) = told (reset-row q) (omega arith)
-        go (no-row u) = none (u .no-section, u .no-in, u .no-out, u .no-silent, u .no-reset) 0
+        go (lamp-row q) = none (omega arith) 0
+        go (no-row u) = none (u .others .no-section, u .no-in, u .no-out, u .no-silent, u .no-reset) 0

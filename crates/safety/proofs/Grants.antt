@@ -12,7 +12,7 @@ use Rattle.axles.specs.declared.Axles.{Axles}
 use Rattle.axles.specs.Heads.{speaking}
 use Rattle.layout_facts.proofs.Means.{eqb-means, and-means}
 use Rattle.layout.specs.declared.Layout.{Layout}
-use Rattle.layout.specs.Layout.{isFitted}
+use Rattle.layout.specs.Layout.{isFitted, signalsIn}
 use Rattle.layout.specs.Sound.{sound}
 use Rattle.layout_facts.specs.Plain.{Sound}
 use Rattle.layout_facts.proofs.Sound.{sound-says}
@@ -22,13 +22,13 @@ use Rattle.reasons.specs.Reasons.{noHeads, hasHeads}
 use Rattle.interlocking.specs.declared.State.{State}
 use Rattle.interlocking.specs.State.{inRange, headsAt}
 use Rattle.interlocking.specs.Own.{headSection, headsOf}
-use Rattle.interlocking.specs.Rows.{Row, sectionRow, pointRow, barRow, secondRow, headRow, countRow, silentRow, resetRow, stillSilent, noRow, rowWith, rowOf}
+use Rattle.interlocking.specs.Rows.{Row, sectionRow, pointRow, barRow, secondRow, headRow, countRow, silentRow, resetRow, stillSilent, lampRow, noRow, rowWith, rowOf}
 use Rattle.interlocking.specs.Step.{rowRefusal, refusal}
-use Rattle.interlocking.proofs.Rows.{OfKind, section-row, point-row, throw-row, set-row, cancel-row, secure-row, manual-row, bar-row, unbar-row, second-row, count-row, silent-row, reset-row, no-row, row-of, reset-named}
+use Rattle.interlocking.proofs.Rows.{OfKind, section-row, point-row, throw-row, set-row, cancel-row, secure-row, manual-row, bar-row, unbar-row, second-row, count-row, silent-row, reset-row, lamp-row, no-row, row-of, reset-named}
 use Rattle.step_facts.specs.Run.{Event, box}
 use Rattle.step_facts.proofs.Granted.{step-granted}
 use Rattle.safety.specs.History.{History, Throughout, moment, history}
-use Rattle.safety.specs.Grants.{MayRead, MayCount, MaySilence, MayReset, BlockThere, Grants, section, point, throw, set, cancel, secure, release, bar, unbar, second, count, silence, reset, AcceptedJust, AcceptsExactly}
+use Rattle.safety.specs.Grants.{MayRead, MayCount, MaySilence, MayReset, MayReport, BlockThere, Grants, section, point, throw, set, cancel, secure, release, bar, unbar, second, count, silence, reset, report, AcceptedJust, AcceptsExactly}
 use Rattle.safety.proofs.Heads.{speaks-told}
 use Rattle.safety.proofs.Invariant.{Inv}
 use Rattle.safety.proofs.EveryEvent.{in-every-event}
@@ -50,6 +50,11 @@ module _ (L : Layout) (ok : sound L ≡ true) (S : Sound L) (s : State) (h : His
   point-means : (a b : ℕ) → Lifts (rowRefusal (sound L and inRange s) a (pointRow L s a b)) (a < L .points)
   unfolding pointRow noRefusal refused
   point-means a b = Iff·trans (row-means L ok S s h I a _ (there-means _ a) refl Iff·rfl (λ p. Iff·rfl)) (λ (p, w, o). p, λ p. (p, refl, refl))
+
+  -- of a lamp (L3)
+  lamp-means : (a b : ℕ) → Lifts (rowRefusal (sound L and inRange s) a (lampRow L s a b)) (MayReport L a)
+  unfolding lampRow noRefusal refused signalsIn
+  lamp-means a b = Iff·trans (row-means L ok S s h I a _ (there-means _ a) refl Iff·rfl (λ p. Iff·rfl)) (λ (p, w, o). p, λ p. (p, refl, refl))
 
   -- bar, v is 1, and unbar, 0: line and block are there
   bar-means : (v a b : ℕ) → Lifts (rowRefusal (sound L and inRange s) a (barRow v L s a b)) (BlockThere L a b)
@@ -122,6 +127,7 @@ module _ (L : Layout) (ok : sound L ≡ true) (S : Sound L) (s : State) (h : His
         go (count-row k) z = count k (count-means _ _ _ .0 z)
         go (silent-row k) z = silence k (silence-means _ _ _ .0 z)
         go (reset-row k) z = reset k (reset-means _ _ _ _ (ap (headsAt (s .axles)) (reset-named _ _ k)) .0 z)
+        go (lamp-row k) z = report k (lamp-means _ _ .0 z)
         go (no-row u) z = absurd (no-row-granted _ z)
 
     -- what is granted is not refused
@@ -129,6 +135,7 @@ module _ (L : Layout) (ok : sound L ≡ true) (S : Sound L) (s : State) (h : His
     unfolding refusal rowOf rowWith headsOf headSection if_then_else_
     not-refuses (section k m) = rw k (section-means _ _ .1 m)
     not-refuses (point k m) = rw k (point-means _ _ .1 m)
+    not-refuses (report k m) = rw k (lamp-means _ _ .1 m)
     not-refuses (throw k m) = rw k (throw-means L ok S s h I _ _ .1 m)
     not-refuses (set k m) = rw k (set-means L ok S s h I _ _ .1 m)
     not-refuses (cancel k m) = rw k (cancel-means L ok S s h I _ _ .1 m)

@@ -8,7 +8,7 @@ use borrow.Author.Tests.{eqb-true, eqb-false, not-true}
 use lib.Dec.{eqb, ltb, leb}
 use Rattle.laws.specs.Tests.{_and_, _or_, implies, every, anyBelow}
 use Rattle.laws.proofs.Tests.{and-left, and-right, or-cases, not-both, any-some}
-use Rattle.track.specs.Codes.{aToB, bToA, openBlock, stage1, stage2}
+use Rattle.track.specs.Codes.{aToB, bToA, openBlock, stage1, stage2, stage3}
 use Rattle.track.specs.Signal.{main, into}
 use Rattle.signals.specs.Aspects.{stop}
 use Rattle.layout.specs.declared.Layout.{Layout}
@@ -21,8 +21,9 @@ use Rattle.safety.specs.Exact.{BlockExact, LineExact, RouteExact, MainSi
 use Rattle.safety.specs.WrongRuns.{told, Each}
 use Rattle.safety.specs.LateBoxes.{Part, aSection, aPoint, aBlock, aLine, aRoute, aMain, aBlockSignal, Inexact, late}
 use Rattle.safety.proofs.Computed.{runComputed}
-use Rattle.safety.proofs.Tested.{enteredTest, entered-means, waitsTest, waits-means, openedTest, opened-means}
-use Rattle.safety.proofs.TestedLocks.{cancelledTest, cancelled-means, lockedTest, locked-means, securedTest, secured-means}
+use Rattle.safety.proofs.Tested.{enteredTest, entered-means, somePassageTest, some-passage-means}
+use Rattle.safety.proofs.TestedLocks.{cancelledTest, cancelled-means, lockedTest, locked-means}
+use Rattle.safety.proofs.TestedBlocks.{someWaitsTest, some-waits-means, openedTest, opened-means, securedTest, secured-means}
 use Rattle.safety.proofs.TestedLights.{mayEnterTest, may-enter-means, someAtProceedTest, some-at-proceed-means}
 use Rattle.safety.proofs.WrongRuns.{passes, each-passes}
 
@@ -57,18 +58,20 @@ unlike {a} {b} p q t e = go a b t (λ u. q .1 (e .0 (p .0 u))) (λ u. p .1 (e .1
 -- ---- what shows against what is told
 
 module _ (L : Layout) (h : History) where
-  -- a block: open, entered, or waiting
+  -- a block: open, entered, passed, or waiting in stage 3 (L3)
   abbrev blockTest : ℕ → ℕ → Bool
   blockTest l i =
-      differ (eqb (shown L h .block l i) openBlock) (openedTest L l i h) or (differ (leb stage1 (shown L h .block l i)) (enteredTest (gaveBlock L l i) h)
-      or differ (eqb (shown L h .block l i) stage2) (waitsTest L l i h))
+      differ (eqb (shown L h .block l i) openBlock) (openedTest L l i h)
+      or (differ (leb stage1 (shown L h .block l i) and leb (shown L h .block l i) stage2) (enteredTest (gaveBlock L l i) h)
+      or (differ (eqb (shown L h .block l i) stage2) (somePassageTest L l i h) or differ (eqb (shown L h .block l i) stage3) (someWaitsTest L l i h)))
 
-  -- whichever of the three is unlike refutes it
+  -- whichever of the four is unlike refutes it
   block-inexact : (l i : ℕ) → blockTest l i ≡ true → ¬ BlockExact L h l i
   block-inexact l i t B =
       ⊎-elim (λ u. unlike (eqb-means _ openBlock) (opened-means L l i h) u (B .opens))
-      (λ v. ⊎-elim (λ u. unlike (leb-means stage1 _) (entered-means (gaveBlock L l i) h) u (B .enters))
-      (λ u. unlike (eqb-means _ stage2) (waits-means L l i h) u (B .passes)) (or-cases _ _ v)) (or-cases _ _ t)
+      (λ v. ⊎-elim (λ u. unlike (and-means (leb-means stage1 _) (leb-means _ stage2)) (entered-means (gaveBlock L l i) h) u (B .enters))
+      (λ z. ⊎-elim (λ u. unlike (eqb-means _ stage2) (some-passage-means L l i h) u (B .passes))
+      (λ u. unlike (eqb-means _ stage3) (some-waits-means L l i h) u (B .waits)) (or-cases _ _ z)) (or-cases _ _ v)) (or-cases _ _ t)
 
   -- a line: secured in direction w
   line-inexact : (l w : ℕ) → not (eqb w 0) and differ (eqb (shown L h .line l) w) (securedTest L l w h) ≡ true → ¬ LineExact L h l

@@ -32,7 +32,7 @@ use Rattle.layout_facts.proofs.Uses.{nearest-there}
 use Rattle.interlocking.specs.declared.State.{State}
 use Rattle.interlocking.specs.State.{inRange, withSections, withRoutes, withLines, withAxles}
 use Rattle.interlocking.specs.Own.{ownSection, ownSet, ownCancel, ownSecure, ownManual}
-use Rattle.interlocking.specs.Settle.{fallenAt, signals, farSections, lockingOf, routeAfter, unlessIdle, routesBy, routes, lineRelease, settle}
+use Rattle.interlocking.specs.Settle.{fallenAt, signals, farSections, lockingOf, routeAfter, unlessIdle, routesBy, routes, arrivals, lineRelease, settle}
 use Rattle.interlocking.specs.Step.{refusal, gives, after}
 use Rattle.step_facts.specs.Run.{Event}
 use Rattle.safety.specs.History.{History, gaveSection, reads, sectionReads}
@@ -143,7 +143,7 @@ pub data EndRoute (L : Layout) (s : State) (e : Event) (r : ℕ) : Type 0 where
 
 -- by whether it is idle, and whether it goes
 pub end-route : (L : Layout) → L .routes ≤ mostTrainRoutes → (s : State) (e : Event) (r : ℕ) → r < L .routes → EndRoute L s e r
-unfolding after settle lineRelease withLines routes routesBy withRoutes farSections signals routeAfter lockingOf lockingAfter unlessIdle routeIn
+unfolding after settle lineRelease withLines arrivals routes routesBy withRoutes farSections signals routeAfter lockingOf lockingAfter unlessIdle routeIn
 end-route L few s e r b = go (which (eqb (phase (lit L s e) r) 0)) (which (goesThen L s e r))
   where
     far : State

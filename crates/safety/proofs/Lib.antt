@@ -7,12 +7,16 @@ pub mod Invariant
 pub mod ReadAfter
 pub mod HeadsKept
 pub mod Blocks
+pub mod LampsTold
+pub mod Through
+pub mod Freed
 pub mod Beyond
 pub mod Signals
 pub mod Routes
 pub mod Held
 pub mod Far
 pub mod Waits
+pub mod StageThree
 pub mod LetGo
 pub mod Seconds
 pub mod Goes
@@ -32,6 +36,8 @@ pub mod Exact
 pub mod Distants
 pub mod HeadsTold
 pub mod Counts
+pub mod OneMore
+pub mod PassingBack
 pub mod Passing
 pub mod Stories
 pub mod Computed
@@ -40,6 +46,7 @@ pub mod WrongBoxes
 pub mod WrongBoxes10
 pub mod Tested
 pub mod TestedLocks
+pub mod TestedBlocks
 pub mod TestedLights
 pub mod OtherLayouts
 pub mod WrongRuns
@@ -54,5 +61,6 @@ pub mod Only
 pub mod OnlyEvents
 pub mod WrongGrants
 pub mod WrongHeads
+pub mod WrongLamps
 pub mod WrongDistants
 pub mod Sense

@@ -1,18 +1,19 @@
 -- The direction of a line is the one in which the history tells that it is secured (section 5).
 use Prim.Native.Nat.{ℕ, _<_, _≤_}
 use mathlib.Core.Path.{_≡_, refl, sym, ap, _∙_}
-use mathlib.Core.Logic.{_≢_, _⊎_, _↔_, inl, inr}
+use mathlib.Core.Logic.{_≢_, _⊎_, _↔_, inl, inr, ⊎-elim}
 use mathlib.Core.Bool.{true}
 use mathlib.Core.List.{_∷_}
 use native.Mathlib.Decide.{ℕ-discrete}
 use native.Mathlib.Omega.{arith}
 use borrow.Author.Tests.{eqb-true, eqb-false, eq-eqb, ne-eqb, not-true}
-use Rattle.laws.specs.Tests.{_and_}
-use Rattle.laws.proofs.Tests.{and-left, and-right, and-both, not-both, fails-not, every-at, every-one, every-more, all-at, all-from, any-none, any-fails}
+use lib.Dec.{eqb}
+use Rattle.laws.specs.Tests.{_and_, _or_}
+use Rattle.laws.proofs.Tests.{and-left, and-right, and-both, or-left, or-right, or-cases, not-both, fails-not, every-at, every-one, every-more, all-at, all-from, any-none, any-fails}
 use Rattle.track.specs.Sizes.{mostLines}
-use Rattle.tables.specs.Blocks.{isOpen, unbarred}
+use Rattle.tables.specs.Blocks.{stageOf, isOpen, unbarred}
 use Rattle.tables.specs.Locks.{locked, lockedExitBy, lockedExit}
-use Rattle.line_block.specs.LineRelease.{passable, wasInStage2, endsBy, directionAfter, directionsAfter}
+use Rattle.line_block.specs.LineRelease.{passable, wasPassed, endsBy, directionAfter, directionsAfter}
 use Rattle.line_block.specs.LineRelease as release
 use Rattle.layout.specs.declared.Layout.{Layout}
 use Rattle.layout.specs.Layout.{lineIn, routeIn}
@@ -22,23 +23,24 @@ use Rattle.layout_facts.proofs.Uses.{nearest-there}
 use Rattle.interlocking.specs.declared.State.{State}
 use Rattle.interlocking.specs.State.{inRange, withRoutes, withLines}
 use Rattle.interlocking.specs.Own.{ownSecure, ownManual}
-use Rattle.interlocking.specs.Settle.{signals, farSections, routesBy, routes, lineRelease, settle}
+use Rattle.interlocking.specs.Settle.{signals, farSections, routesBy, routes, arrivals, lineRelease, settle}
 use Rattle.interlocking.specs.Step.{refusal, after}
 use Rattle.step_facts.specs.Run.{Event}
-use Rattle.safety.specs.History.{Moment, History, gaveSection, gaveBlock, Since}
+use Rattle.safety.specs.History.{Moment, History, gaveSection, Since}
 use Rattle.safety.specs.Locked.{Locked}
-use Rattle.safety.specs.Cleared.{Opened}
 use Rattle.safety.specs.Secured.{Barred, lastBlock, LineEnds, StaysSecured, Secured}
 use Rattle.laws.proofs.Choice.{chosen, passed-over}
 use Rattle.step_facts.proofs.Entries.{phase, direction, stage, barAt, ends, read-each, put-here}
 use Rattle.step_facts.proofs.Passed.{secure-neutral}
 use Rattle.step_facts.proofs.Tells.{tells-no-order}
-use Rattle.step_facts.proofs.Within.{On, done, moved, end, Done, reads, sets, cancels, secures, opens, leaves, is-done, direction-same, released}
+use Rattle.step_facts.proofs.Within.{On, done, waited, end, Done, reads, sets, cancels, secures, opens, leaves, is-done, direction-same, released}
 use Rattle.safety.proofs.Given.{granted}
-use Rattle.safety.proofs.Told.{reads-kept, entered-reads}
 use Rattle.safety.proofs.Invariant.{Inv}
 use Rattle.safety.proofs.Blocks.{on}
+use Rattle.safety.proofs.Through.{few-stages}
+use Rattle.safety.proofs.Freed.{completed-way, opens-completed}
 use Rattle.safety.proofs.Held.{opens-told}
+use Rattle.safety.proofs.Refused.{quiet-completes}
 
 -- the last block in travel is there
 last-there : (L : Layout) → Sound L → (l w : ℕ) → l < L .lines → lastBlock L l w < lineIn L l .blocks
@@ -74,8 +76,8 @@ module _ (L : Layout) (few : L .lines ≤ mostLines) (s : State) (e : Event) (l 
       go (leaves f v) = absurd (f .2 (u .0))
 
   -- and then the line release
-  direction-end : direction (end L s e) l ≡ directionAfter (ends L s (moved L s e)) l (direction (done L s e) l)
-  unfolding after settle lineRelease directionsAfter withLines routes routesBy withRoutes farSections signals directionAfter lineIn
+  direction-end : direction (end L s e) l ≡ directionAfter (ends L s (waited L s e)) l (direction (done L s e) l)
+  unfolding after settle lineRelease directionsAfter withLines arrivals routes routesBy withRoutes farSections signals directionAfter lineIn
   direction-end = read-each mostLines 0 (L .lines) _ (done L s e .direction) l (omega arith) b
 
   -- a line that is not neutral at the end is as the event itself left it
@@ -83,7 +85,7 @@ module _ (L : Layout) (few : L .lines ≤ mostLines) (s : State) (e : Event) (l 
   kept d = go (released L few s e l b)
     where
       go : (direction (end L s e) l ≡ direction (done L s e) l)
-          ⊎ ((direction (end L s e) l ≡ 0) × (ends L s (moved L s e) l (direction (done L s e) l) ≡ true))
+          ⊎ ((direction (end L s e) l ≡ 0) × (ends L s (waited L s e) l (direction (done L s e) l) ≡ true))
           → direction (end L s e) l ≡ direction (done L s e) l
       go (inl q) = q
       go (inr t) = absurd (d (t .0))
@@ -97,15 +99,13 @@ module _ (L : Layout) (S : Sound L) (s : State) (h : History) (I : Inv L s h) (e
   few : L .lines ≤ mostLines
   few = S .ranges .lineCount
 
-  -- the line release comes only where the history tells: the last block in travel was in stage 2, so it was entered and did not read free, and is open
-  ends-told : (w : ℕ) → direction s l ≡ w → ends L s (moved L s e) l w ≡ true → LineEnds L l w (granted L s e) h
-  unfolding endsBy wasInStage2 passable isOpen unbarred lockedExit lockedExitBy locked release.lastBlock nearestBlock lineIn routeIn after settle lineRelease withLines
-  ends-told w way t = record {
-    closes = record {
-      ends = (λ q. omega (arith, entered-reads L l last h (I .blocks l last b c .enters .0 (omega (arith, was)))), opened last c .isFree);
-      passage = rw way at (I .blocks l last b c .passes was .1);
-    };
-    allOpen = opened;
+  -- the line release comes only where the history tells: the last block in travel was in stage 2 or 3, and is open
+  ends-told : ¬ On 7 e l → (w : ℕ) → direction s l ≡ w → ends L s (waited L s e) l w ≡ true → LineEnds L l w (granted L s e) h
+  unfolding endsBy wasPassed stageOf passable isOpen unbarred lockedExit lockedExitBy locked release.lastBlock nearestBlock lineIn routeIn after settle lineRelease withLines
+  ends-told n w way t = record {
+    held = λ O. let z = I .blocks l last b c .opens .1 O in omega (arith, was);
+    completes = rw way at (opens-completed L S s h I e pass locks l b n last c was .1 (omega (arith, was), opens last c));
+    allOpen = λ j k. opens-told L S s h I e pass l j b k locks .0 (opens j k);
     noExit = λ r k x q y. not-both (and-both _ _ (fails-not _ (ne-eqb (phase (end L s e) r) 0 (locks r k .1 y))) (and-both _ _ (eq-eqb _ 2 x) (eq-eqb _ l q)))
         (any-none _ _ (not-true _ (every-at _ t 2)) r k);
     noBar = λ j k x. bars j k .1 x (eqb-true _ 0 (and-right _ _ (all-at _ _ (every-at _ t 1) j k)));
@@ -117,18 +117,18 @@ module _ (L : Layout) (S : Sound L) (s : State) (h : History) (I : Inv L s h) (e
       c : last < lineIn L l .blocks
       c = last-there L S l w b
 
-      was : stage s l last ≡ 3
-      was = eqb-true _ 3 (every-at _ t 0)
+      was : 3 ≤ stage s l last
+      was = ⊎-elim (λ x. let q = eqb-true (stage s l last) 3 x in omega arith) (λ x. let q = eqb-true (stage s l last) 4 x in omega arith) (or-cases _ _ (every-at _ t 0))
 
-      opened : (j : ℕ) → j < lineIn L l .blocks → Opened L l j (granted L s e ∷ h)
-      opened j k = opens-told L S s h I e pass l j b k .0 (eqb-true _ 0 (and-left _ _ (all-at _ _ (every-at _ t 1) j k)))
+      opens : (j : ℕ) → j < lineIn L l .blocks → stage (end L s e) l j ≡ 0
+      opens j k = eqb-true _ 0 (and-left _ _ (all-at _ _ (every-at _ t 1) j k))
 
   -- and where the history tells it, it comes
-  ends-from : (w : ℕ) → LineEnds L l w (granted L s e) h → ends L s (moved L s e) l w ≡ true
-  unfolding endsBy wasInStage2 passable isOpen unbarred lockedExit lockedExitBy locked release.lastBlock nearestBlock lineIn routeIn after settle lineRelease withLines
-  ends-from w E =
-      every-more _ _ _ (eq-eqb _ 3 (I .blocks l _ b (last-there L S l w b) .waits w (E .closes .passage) .0))
-      (every-more _ _ _ (all-from _ _ (λ j k. and-both _ _ (eq-eqb _ 0 (opens-told L S s h I e pass l j b k .1 (E .allOpen j k))) (eq-eqb _ 0 (clear j k (ℕ-discrete (barAt (end L s e) l j) 0)))))
+  ends-from : ¬ On 7 e l → (w : ℕ) → LineEnds L l w (granted L s e) h → ends L s (waited L s e) l w ≡ true
+  unfolding endsBy wasPassed stageOf passable isOpen unbarred lockedExit lockedExitBy locked release.lastBlock nearestBlock lineIn routeIn after settle lineRelease withLines
+  ends-from n w E =
+      every-more _ _ _ (passed (completed-way L S s h I e pass locks l b n (lastBlock L l w) (last-there L S l w b) w (E .completes) .0) (ℕ-discrete (stage s l (lastBlock L l w)) 3))
+      (every-more _ _ _ (all-from _ _ (λ j k. and-both _ _ (eq-eqb _ 0 (opens-told L S s h I e pass l j b k locks .1 (E .allOpen j k))) (eq-eqb _ 0 (clear j k (ℕ-discrete (barAt (end L s e) l j) 0)))))
       (every-one _ (fails-not _ (any-fails _ _ (λ r k t.
       let u = and-right _ _ t in
       E .noExit r k (eqb-true _ 2 (and-left _ _ u)) (eqb-true _ l (and-right _ _ u)) (locks r k .0 (eqb-false _ 0 (not-true _ (and-left _ _ t)))))))))
@@ -137,10 +137,17 @@ module _ (L : Layout) (S : Sound L) (s : State) (h : History) (I : Inv L s h) (e
       clear j k (yes z) = z
       clear j k (no d) = absurd (E .noBar j k (bars j k .0 d))
 
-  -- a line that was neutral has no block in stage 2, so no line release comes
-  not-ending : (w : ℕ) → direction s l ≡ 0 → ends L s (moved L s e) l w ≡ true → ⊥
-  unfolding endsBy wasInStage2 release.lastBlock nearestBlock lineIn
-  not-ending w z t = I .blocks l (lastBlock L l w) b (last-there L S l w b) .passes (eqb-true _ 3 (every-at _ t 0)) .0 z
+      passed : 3 ≤ stage s l (lastBlock L l w) → Dec (stage s l (lastBlock L l w) ≡ 3)
+          → eqb (stage s l (lastBlock L l w)) 3 or eqb (stage s l (lastBlock L l w)) 4 ≡ true
+      passed k (yes q) = or-left _ _ (eq-eqb _ 3 q)
+      passed k (no q) = or-right _ _ (eq-eqb (stage s l (lastBlock L l w)) 4 (omega (arith, few-stages s (I .ranged) l (lastBlock L l w))))
+
+  -- a line that was neutral has no block in stage 2 or 3, so no line release comes
+  not-ending : (w : ℕ) → direction s l ≡ 0 → ends L s (waited L s e) l w ≡ true → ⊥
+  unfolding endsBy wasPassed stageOf release.lastBlock nearestBlock lineIn
+  not-ending w z t =
+      let B = I .blocks l (lastBlock L l w) b (last-there L S l w b) in
+      ⊎-elim (λ x. B .passes (eqb-true _ 3 x) .0 z) (λ x. B .holds (eqb-true _ 4 x) .0 z) (or-cases _ _ (every-at _ t 0))
 
   -- a line that the event neither secures nor releases by hand
   unmoved : ¬ On 6 e l → ¬ On 7 e l → direction (done L s e) l ≡ direction s l
@@ -165,7 +172,7 @@ module _ (L : Layout) (S : Sound L) (s : State) (h : History) (I : Inv L s h) (e
             record {
               noOrder = λ u. n (u .1, u .2);
               noRelease = λ u. hand (u .1, u .2);
-              noEnd = λ E. d (sym q ∙ direction-end L few s e l b ∙ passed-over _ _ _ (ne-eqb (direction (done L s e) l) 0 (omega (arith, own))) ∙ chosen _ _ _ (rw own (ends-from w E)));
+              noEnd = λ E. d (sym q ∙ direction-end L few s e l b ∙ passed-over _ _ _ (ne-eqb (direction (done L s e) l) 0 (omega (arith, own))) ∙ chosen _ _ _ (rw own (ends-from hand w E)));
             },
             I .lines l b w d .0 was,
           )
@@ -179,7 +186,7 @@ module _ (L : Layout) (S : Sound L) (s : State) (h : History) (I : Inv L s h) (e
       ordered = (u .0 .1, u .0 .2)
 
       go : (direction (end L s e) l ≡ direction (done L s e) l)
-          ⊎ ((direction (end L s e) l ≡ 0) × (ends L s (moved L s e) l (direction (done L s e) l) ≡ true))
+          ⊎ ((direction (end L s e) l ≡ 0) × (ends L s (waited L s e) l (direction (done L s e) l) ≡ true))
           → direction (end L s e) l ≡ w
       go (inl q) = q ∙ by-order L few s e l b ordered ∙ u .1
       go (inr t) = absurd (not-ending _ (ap (direction s) (sym (ordered .1)) ∙ secure-neutral L s e pass (ordered .0)) (t .1))
@@ -192,10 +199,10 @@ module _ (L : Layout) (S : Sound L) (s : State) (h : History) (I : Inv L s h) (e
       own = unmoved (λ v. u .0 .noOrder (refl, v .0, v .1)) (λ v. u .0 .noRelease (refl, v .0, v .1)) ∙ was
 
       go : (direction (end L s e) l ≡ direction (done L s e) l)
-          ⊎ ((direction (end L s e) l ≡ 0) × (ends L s (moved L s e) l (direction (done L s e) l) ≡ true))
+          ⊎ ((direction (end L s e) l ≡ 0) × (ends L s (waited L s e) l (direction (done L s e) l) ≡ true))
           → direction (end L s e) l ≡ w
       go (inl q) = q ∙ own
-      go (inr t) = absurd (u .0 .noEnd (ends-told w was (rw own at (t .1))))
+      go (inr t) = absurd (u .0 .noEnd (ends-told (λ v. u .0 .noRelease (refl, v .0, v .1)) w was (rw own at (t .1))))
 
   -- so the direction is the one told
   pub line-accepted : (w : ℕ) → w ≢ 0 → (direction (end L s e) l ≡ w ↔ Secured L l w (granted L s e ∷ h))
@@ -204,15 +211,15 @@ module _ (L : Layout) (S : Sound L) (s : State) (h : History) (I : Inv L s h) (e
 -- ---- an event that gives nothing and is no accepted order
 
 pub line-refused : (L : Layout) → Sound L → (s : State) (h : History) (m : Moment) → Inv L s h → ((g : ℕ) → gaveSection L g m h ≡ 0) → m .number ≢ 0
-    → (l : ℕ) → l < L .lines → (w : ℕ) → w ≢ 0 → (direction s l ≡ w ↔ Secured L l w (m ∷ h))
+    → ((r : ℕ) → r < L .routes → Locked L r h → Locked L r (m ∷ h)) → (l : ℕ) → l < L .lines → (w : ℕ) → w ≢ 0 → (direction s l ≡ w ↔ Secured L l w (m ∷ h))
 unfolding Since
-line-refused L S s h m I quiet d l b w z = (λ q. inr (stays, I .lines l b w z .0 q), back)
+line-refused L S s h m I quiet d still l b w z = (λ q. inr (stays, I .lines l b w z .0 q), back)
   where
     stays : StaysSecured L l w m h
     stays = record {
       noOrder = λ u. d (u .0);
       noRelease = λ u. d (u .0);
-      noEnd = λ E. E .closes .ends .0 (sym (reads-kept (gaveBlock L l (lastBlock L l w)) m h (quiet _)) ∙ E .closes .ends .1);
+      noEnd = λ E. quiet-completes L h m quiet still l (lastBlock L l w) w (E .completes);
     }
 
     back : Secured L l w (m ∷ h) → direction s l ≡ w

@@ -33,26 +33,35 @@ use Rattle.safety.specs.Only.{SameAnswer, SameAnswers, ExactLog, LogsExa
 use Rattle.safety.proofs.Kept.{kept}
 use Rattle.safety.proofs.EveryEvent.{in-every-event}
 use Rattle.safety.proofs.Exact.{exact}
-use Rattle.safety.proofs.Unseen.{showing, locked, opened, secured, may-enter, lit, at-proceed}
+use Rattle.safety.proofs.Unseen.{showing, locked, opened, secured, may-enter, lit, at-proceed, waits}
 use Rattle.panel.proofs.Whole.{ShowSame, show-same}
 
 -- ---- two images of one event that both show exactly
 
--- a block's byte, 0 to 3, is told by whether it is 0, at least 2, and 3
-stage-same : (u v : ℕ) → (u ≡ 0 ↔ v ≡ 0) → (2 ≤ u ↔ 2 ≤ v) → (u ≡ 3 ↔ v ≡ 3) → u ≤ 3 → v ≤ 3 → u ≡ v
-stage-same u v opens entered waits p q = go (ℕ-discrete u 0) (decLt u 2) (ℕ-discrete u 3)
+-- a number that is none of 0, 2, 3 and 4, and no more than 4, is 1
+one-left : (v : ℕ) → v ≢ 0 → v ≢ 4 → ¬ ((2 ≤ v) × (v ≤ 3)) → v ≤ 4 → v ≡ 1
+one-left v none four out q = go (decLt v 2) (decLt v 4)
   where
-    go : Dec (u ≡ 0) → Dec (u < 2) → Dec (u ≡ 3) → u ≡ v
-    go (yes e) f g = e ∙ sym (opens .0 e)
-    go (no e) f (yes g) = g ∙ sym (waits .0 g)
-    go (no e) (yes f) (no g) =
-        let one : v ≢ 0 = λ z. e (opens .1 z) in
-        let two : ¬ (2 ≤ v) = λ z. let t = entered .1 z in omega arith in
-        omega arith
-    go (no e) (no f) (no g) =
-        let two = entered .0 (omega arith) in
-        let three : v ≢ 3 = λ z. g (waits .1 z) in
-        omega arith
+    go : Dec (v < 2) → Dec (v < 4) → v ≡ 1
+    go (yes x) y = omega arith
+    go (no x) (yes y) = absurd (out (omega arith))
+    go (no x) (no y) = omega arith
+
+-- a block's byte, 0 to 4, is told by whether it is 0, 2 or 3, 3, and 4
+stage-same : (u v : ℕ) → (u ≡ 0 ↔ v ≡ 0) → ((2 ≤ u) × (u ≤ 3) ↔ (2 ≤ v) × (v ≤ 3)) → (u ≡ 3 ↔ v ≡ 3) → (u ≡ 4 ↔ v ≡ 4) → u ≤ 4 → v ≤ 4 → u ≡ v
+stage-same u v opens entered passes waited p q = go (ℕ-discrete u 0) (ℕ-discrete u 3) (ℕ-discrete u 4) (ℕ-discrete u 2)
+  where
+    two : u ≡ 2 → v ≢ 3 → v ≡ 2
+    two t d = let e = entered .0 (omega arith) in omega arith
+
+    go : Dec (u ≡ 0) → Dec (u ≡ 3) → Dec (u ≡ 4) → Dec (u ≡ 2) → u ≡ v
+    go (yes e) g w t = e ∙ sym (opens .0 e)
+    go (no e) (yes g) w t = g ∙ sym (passes .0 g)
+    go (no e) (no g) (yes w) t = w ∙ sym (waited .0 w)
+    go (no e) (no g) (no w) (yes t) = t ∙ sym (two t (λ z. g (passes .1 z)))
+    go (no e) (no g) (no w) (no t) =
+        let out : ¬ ((2 ≤ u) × (u ≤ 3)) = λ z. t (omega arith) in
+        one-left u e w out p ∙ sym (one-left v (λ z. e (opens .1 z)) (λ z. w (waited .1 z)) (λ z. out (entered .1 z)) q)
 
 -- what is not there shows the same in any image: so where the test says that it is there is enough
 where-same : (t : Bool) (u v d : ℕ) → (t ≡ true → (if t then u else d) ≡ (if t then v else d)) → (if t then u else d) ≡ (if t then v else d)
@@ -162,6 +171,9 @@ module _ (L : Layout) (m : Moment) (h : History) (a b : List ℕ) (x : Exact L (
       (λ z. two .enters .1 (one .enters .0 z), λ z. one .enters .1 (two .enters .0 z)) (
         λ z. let (w, p) = one .passes .0 z in two .passes .1 (w, passage-same L m h a b x y l i w p),
         λ z. let (w, p) = two .passes .0 z in one .passes .1 (w, passage-same L m h b a y x l i w p),
+      ) (
+        λ z. let (w, p) = one .waits .0 z in two .waits .1 (w, waits L m h l i w a b p),
+        λ z. let (w, p) = two .waits .0 z in one .waits .1 (w, waits L m h l i w b a p),
       )
       (one .most) (two .most)
 

@@ -1,7 +1,7 @@
 -- An order of each kind is not refused just where there is what the history tells that it asks (section 3).
 use Prim.Native.Nat.{ℕ, _+_, _<_, _≤_}
 use mathlib.Core.Path.{_≡_, refl}
-use mathlib.Core.Logic.{_⊎_, _↔_, inr, ⊎-elim, Iff·rfl, Iff·trans, Iff·and}
+use mathlib.Core.Logic.{_≢_, _⊎_, _↔_, inr, ⊎-elim, Iff·rfl, Iff·trans, Iff·and}
 use mathlib.Core.Bool.{Bool, true, false, not}
 use mathlib.Core.List.{List}
 use native.Mathlib.Decide.{ℕ-discrete}
@@ -12,24 +12,33 @@ use lib.ListN.{getD}
 use Rattle.laws.specs.Tests.{_and_}
 use Rattle.laws.specs.Tables.{read}
 use Rattle.laws.proofs.Arrays.{read-at}
+use Rattle.laws.proofs.Choice.{if-both}
 use Rattle.laws.proofs.Tests.{and-both}
 use Rattle.layout_facts.proofs.Means.{eqb-means, leb-means, not-means, and-means, any-means}
 use Rattle.layout_facts.proofs.Uses.{entered-block}
 use Rattle.layout_facts.proofs.Order.{one-of}
+use Rattle.layout_facts.proofs.Lists.{between-means}
+use Rattle.step_facts.proofs.Range.{inRange-means, read-within}
 use Rattle.sets.specs.Sets.{mergedSet, setOf, joined}
 use Rattle.track.specs.Lists.{between, among}
+use Rattle.track.specs.Objects.{entrance}
+use Rattle.track.specs.Signal.{main}
+use Rattle.track.specs.SignalNumbers.{numberOf}
+use Rattle.track.proofs.SignalNumbers.{one-number}
+use Rattle.passage.specs.Passage.{arrival}
+use Rattle.lamps.specs.Lamps.{lampOf, reportsNone}
 use Rattle.track.specs.Sizes.{mostSections, mostPoints}
 use Rattle.track.specs.Blocks.{blockDetail, lineSections}
 use Rattle.tables.specs.Readings.{reading, pointReading}
 use Rattle.tables.specs.Blocks.{isOpen, unbarred}
 use Rattle.tables.specs.Locks.{locked, lockedExitBy, lockedExit}
 use Rattle.layout.specs.declared.Layout.{Layout}
-use Rattle.layout.specs.Layout.{lineIn, routeIn}
+use Rattle.layout.specs.Layout.{lineIn, routeIn, signalsIn}
 use Rattle.layout.specs.Sound.{sound}
-use Rattle.layout_facts.specs.Plain.{ownSection, nearestBlock, linePoint, linePosition, path, overlap, routePoint, routePosition, RouteRanges, Sound}
+use Rattle.layout_facts.specs.Plain.{entranceSignal, ownSection, nearestBlock, linePoint, linePosition, path, overlap, routePoint, routePosition, RouteRanges, Sound}
 use Rattle.reasons.specs.Refusal.{noRefusal, refused, found}
 use Rattle.reasons.specs.Searches.{misplaced, routeLocks, lineLocks, failing}
-use Rattle.reasons.specs.Reasons.{notFree, notPlaced, conflicting, byRoute, byLine, exitLocked, blockBarred, blockHeld}
+use Rattle.reasons.specs.Reasons.{notFree, notPlaced, conflicting, byRoute, byLine, exitLocked, blockBarred, blockHeld, arrivalDark}
 use Rattle.refusals.specs.Events.{numbersRefusal}
 use Rattle.refusals.specs.Orders.{throwRefusal, exitRefusal, routeRefusal, setRefusal, cancelRefusal, secureRefusal, manualRefusal}
 use Rattle.interlocking.specs.declared.State.{State}
@@ -37,7 +46,7 @@ use Rattle.interlocking.specs.State.{inRange, tablesOf}
 use Rattle.interlocking.specs.Rows.{Row, throwRow, setRow, cancelRow, secureRow, manualRow}
 use Rattle.interlocking.specs.Step.{rowRefusal}
 use Rattle.step_facts.proofs.Entries.{block, block-there, block-below, phase, direction}
-use Rattle.safety.specs.History.{History, sectionReads, blockReads}
+use Rattle.safety.specs.History.{History, sectionReads, blockReads, lampTold}
 use Rattle.safety.specs.Locked.{Locked}
 use Rattle.safety.specs.Cleared.{Opened}
 use Rattle.safety.specs.Secured.{Barred, Secured}
@@ -57,6 +66,11 @@ two-means w =
 -- nor is 0, where it is not used
 none-means : (n : ℕ) → not (eqb n 0) ≡ false ↔ n ≡ 0
 none-means n = right-means (eqb-means n 0)
+
+-- a direction arrives at one of the two ends
+arrival-end : (w : ℕ) → arrival w ≤ 1
+unfolding arrival
+arrival-end w = if-both (λ n. n ≤ 1) (eqb w 1) (λ t. omega arith) (λ f. omega arith)
 
 module _ (L : Layout) (ok : sound L ≡ true) (S : Sound L) (s : State) (h : History) (I : Inv L s h) where
   -- ---- an event by its row
@@ -232,15 +246,30 @@ module _ (L : Layout) (ok : sound L ≡ true) (S : Sound L) (s : State) (h : His
 
   -- ---- secure
 
-  -- 12 by the line's direction, 11 and 10 by the searches over its blocks, 6 by its points
+  -- 31 by the lamp of the arrival entrance signal, which is a signal; a lamp has three codes (L3)
+  dark-means : (a b : ℕ) → a < L .lines → between 1 2 (lampOf (s .lamp) (entrance (lineIn L a) (arrival b))) ≡ true ↔ lampTold (entrance (lineIn L a) (arrival b)) h ≢ 3
+  unfolding entranceSignal signalsIn numberOf lampOf
+  dark-means a b p =
+      Iff·trans (between-means 1 2 _) (rw same (λ x z. omega arith, λ n. omega (arith, three)))
+    where
+      x : ℕ
+      x = entrance (lineIn L a) (arrival b)
+
+      same : lampOf (s .lamp) x ≡ lampTold x h
+      same = I .lamps x (one-number (L .signals) (L .lines) (L .line) (main x) (S .ranges .lines a p .entrances (arrival b) (arrival-end b)) .below)
+
+      three : (1 ≤ lampTold x h) × (lampTold x h ≤ 3)
+      three = rw same at (read-within (inRange-means s .0 (I .ranged) .lamp) 3 x (omega arith))
+
+  -- 12 by the line's direction, 11 and 10 by the searches over its blocks, 6 by its points, 31 by the lamp
   pub secure-means : (a b : ℕ) → Lifts (rowRefusal (sound L and inRange s) a (secureRow L s a b)) (MaySecure L a b h)
-  unfolding secureRow secureRefusal blockBarred blockHeld lineIn
+  unfolding secureRow secureRefusal blockBarred blockHeld arrivalDark reportsNone lineIn
   secure-means a b =
       Iff·trans (row-means a _ (there-means _ a) refl (two-means b) (λ p.
       reasons-mean (unless-means _ (omega arith) (neutral-means a p) before blocks-means a p _ (omega arith) (unbarred-means a p) before line-means a p before
-      last (blocks-means a p _ (omega arith) (open-means a p))))) (
-        λ (p, w, (n, (u, (q, o)))). record { there = p; direction = w; isNeutral = n; unbarred = u; placed = q; allOpen = o },
-        λ m. (m .there, m .direction, (m .isNeutral, (m .unbarred, (m .placed, m .allOpen)))),
+      blocks-means a p _ (omega arith) (open-means a p) before last (unless-means _ (omega arith) (dark-means a b p))))) (
+        λ (p, w, (n, (u, (q, (o, d))))). record { there = p; direction = w; isNeutral = n; unbarred = u; placed = q; allOpen = o; lamp = d },
+        λ m. (m .there, m .direction, (m .isNeutral, (m .unbarred, (m .placed, (m .allOpen, m .lamp))))),
       )
 
   -- ---- manual release

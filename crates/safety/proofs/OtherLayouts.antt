@@ -9,6 +9,7 @@ use Rattle.safety.specs.OtherLayouts.{
   threeAndTwo,
   twoLines,
   twoExits,
+  bothEnds,
   withOverlap,
   withLinePoint,
   innerIsBlock,
@@ -24,9 +25,9 @@ use Rattle.safety.proofs.Computed.{runComputed, distantsComputed}
 
 -- they are accepted
 pub others-load : (load twoBlocks .number ≡ 0) × (load twoLines .number ≡ 0) × (load twoExits .number ≡ 0) × (load withOverlap .number ≡ 0)
-    × (load withLinePoint .number ≡ 0) × (load withDistants .number ≡ 0) × (load threeAndTwo .number ≡ 0)
+    × (load withLinePoint .number ≡ 0) × (load withDistants .number ≡ 0) × (load threeAndTwo .number ≡ 0) × (load bothEnds .number ≡ 0)
 unfolding runComputed distantsComputed
-others-load = (refl, refl, refl, refl, refl, refl, refl)
+others-load = (refl, refl, refl, refl, refl, refl, refl, refl)
 
 -- these break rule 1 and keep the rest
 pub rule-1-off : (kept (whole innerIsBlock .layout) ≡ false ∷ true ∷ true ∷ true ∷ true ∷ true ∷ true ∷ [])

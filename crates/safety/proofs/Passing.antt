@@ -13,7 +13,7 @@ use Rattle.laws.specs.Tests.{_and_}
 use Rattle.tables.specs.Readings.{recorded}
 use Rattle.axles.specs.Since.{rolled}
 use Rattle.axles.specs.HeadLog.{said, lastTold, numberTold, readingTold}
-use Rattle.passage.specs.Passage.{beyond}
+use Rattle.passage.specs.Passage.{beyond, fromArrival}
 use Rattle.passage.specs.Passage as passage
 use Rattle.layout.specs.declared.Layout.{Layout}
 use Rattle.layout.specs.Layout.{isFitted, lineIn}
@@ -22,25 +22,28 @@ use Rattle.layout_facts.specs.Plain.{Sound}
 use Rattle.layout_facts.proofs.Sound.{sound-says}
 use Rattle.fitted.proofs.InUse.{in-use-sound}
 use Rattle.interlocking.specs.declared.State.{State}
-use Rattle.interlocking.specs.declared.Answer.{Answer}
-use Rattle.interlocking.specs.State.{cold, inRange}
+use Rattle.interlocking.specs.State.{inRange}
 use Rattle.interlocking.specs.Step.{refusal}
 use Rattle.panel.specs.Panel.{image}
-use Rattle.step_facts.specs.Run.{Event, event, box, stateAfter, fromCold}
+use Rattle.step_facts.specs.Run.{Event, event, fromCold}
 use Rattle.panel.specs.Shown.{Panel, panel}
-use Rattle.safety.specs.History.{Moment, History, gaveSection, gaveBlock, sectionReads, blockReads, shown, Since, moment, goesOn, history}
-use Rattle.safety.specs.Cleared.{farSection, farSignal, Proceeds, Passage}
-use Rattle.safety.specs.Passing.{MayGoOn, next, GivesNext, GoingOut, PassesOn, TrainsPass, headLogOf, Arrives, Leaves, byReading, byCount, PassByCounts, PassByReadings}
+use Rattle.safety.specs.History.{Moment, History, gaveSection, gaveBlock, sectionReads, blockReads, shown, Since, moment, history}
+use Rattle.safety.specs.Cleared.{farSection, farSignal, Proceeds, Passage, StopLit, Completed, whileLit, withBeyond, later, FreesBeyond}
+use Rattle.safety.specs.Passing.{MayGoOn, next, GivesNext, GoingOut, PassesOn, WaitsOn, TrainsPass, headLogOf, Arrives, Leaves, byReading, byCount, PassByCounts, PassByReadings}
 use Rattle.step_facts.proofs.Entries.{direction, stage, block, block-there}
 use Rattle.step_facts.proofs.Within.{On, done, end, direction-same, direction-held}
-use Rattle.step_facts.proofs.Granted.{step-granted}
 use Rattle.safety.proofs.Heads.{counted}
 use Rattle.safety.proofs.Given.{granted, order-gives-nothing, gives-recorded, gives-said, one-section, refused-gives-nothing}
-use Rattle.safety.proofs.Told.{reads-given, entered-reads, opened-by-passage}
+use Rattle.safety.proofs.Told.{reads-given, entered-reads, closing, opened-by-passage}
+use Rattle.safety.proofs.Blocks.{by-hand, stays-open, shown-stop, opens-with, waits-on, shut, entered}
+use Rattle.safety.proofs.Through.{Case, case-of}
+use Rattle.safety.proofs.OneMore.{box-grants, one-more}
+use Rattle.safety.proofs.Freed.{opens-completed}
+use Rattle.safety.proofs.PassingBack.{passes-back}
 use Rattle.safety.proofs.Invariant.{Inv}
 use Rattle.safety.proofs.Beyond.{beyond-case, far-there}
 use Rattle.panel.proofs.Image.{shows-line, shows-block}
-use Rattle.safety.proofs.Held.{own-keeps}
+use Rattle.safety.proofs.Held.{entered-moves}
 use Rattle.safety.proofs.Far.{there, far-other, far-free, far-reads}
 use Rattle.safety.proofs.Waits.{far-up, far-proves}
 use Rattle.safety.proofs.Kept.{run-has, accepted}
@@ -76,12 +79,6 @@ module _ (L : Layout) (ok : sound L ≡ true) (S : Sound L) (s : State) (h : His
         dec→stable (ℕ-discrete _ 0) (λ q. far-other L S l i w b c (beyond (lineIn L l) i w) (there L S s h I e arrival-granted l i b c w)
         (one-section L _ _ (granted L s e) h q some))
 
-    -- the block was entered, so it stays in stage 1 as far as the event itself goes
-    own : stage (done L s e) l i ≡ 2
-    own =
-        own-keeps L S s h I e arrival-granted l i b c (I .blocks l i b c .enters .0 (omega (arith, held))) (λ q. omega (arith, of-block)) (λ q. omega (arith, of-block))
-        ∙ held
-
     -- the event neither secures the line nor releases it
     unmoved : (k : ℕ) → 3 ≤ k → k ≤ 9 → ¬ On k e l
     unmoved k x y = no-order L ok s h I (granted L s e) _ some k l x y
@@ -90,11 +87,12 @@ module _ (L : Layout) (ok : sound L ≡ true) (S : Sound L) (s : State) (h : His
     same : direction (done L s e) l ≡ w
     same = direction-same L (S .ranges .lineCount) s e l b (unmoved 6 (omega arith) (omega arith)) (unmoved 7 (omega arith) (omega arith)) ∙ way
 
-    -- and then its far section, which reads occupied, and its far signal, which was at proceed, take it to stage 2
+    -- the block was entered, so its far section alone moves it: that reads occupied, and the far signal was at proceed
     pub proved : stage (end L s e) l i ≡ 3
     unfolding passage.farSignal
     proved =
-        far-proves L S s h I e arrival-granted l i b c w d same (omega (arith, own)) (omega (arith, own))
+        far-proves L S s h I e arrival-granted l i b c w d same (stage s l i) (omega (arith, held))
+        (entered-moves L S s h I e arrival-granted l i b c (I .blocks l i b c .enters .0 (omega (arith, held))) (λ q. omega (arith, of-block)) (λ q. omega (arith, of-block)) .1)
         (far-reads L S s h I e arrival-granted l i b c w ∙ reads-given (gaveSection L (farSection L l i w)) (granted L s e) h 2 of-far (omega arith))
         (far-up L s l i w (beyond (lineIn L l) i w) (there L S s h I e arrival-granted l i b c w) up)
 
@@ -106,33 +104,13 @@ module _ (L : Layout) (ok : sound L ≡ true) (S : Sound L) (s : State) (h : His
     pub waits : Passage L l i w (granted L s e ∷ h)
     waits = rw still at (accepted L ok S s h I e arrival-granted .blocks l i b c .passes proved .1)
 
--- ---- a run that goes on
-
--- the history of two lists of events, one after the other
-pub on-with : (L : Layout) (f : State → Event → Answer) (s : State) (h : History) (es more : List Event)
-    → goesOn L f s h (es ++ more) ≡ goesOn L f (stateAfter f s es) (goesOn L f s h es) more
-unfolding goesOn stateAfter
-on-with L f s h [] more = refl
-on-with L f s h (e ∷ es) more = on-with L f (f s e .next) _ es more
-
--- the answer to an event that nothing refuses
-box-grants : (L : Layout) (s : State) (e : Event) → refusal (sound L and inRange s) L s (e .kind) (e .first) (e .second) .number ≡ 0
-    → box L s e ≡ record { number = 0; detail = 0; next = end L s e }
-unfolding box
-box-grants L s e pass = step-granted L s e pass
-
--- the history of one event more
-one-more : (L : Layout) (es : List Event) (e : Event) → history L (es ++ (e ∷ [])) ≡ next L es e ∷ history L es
-unfolding history fromCold goesOn
-one-more L es e = on-with L (box L) cold [] es (e ∷ [])
-
 module _ (L : Layout) (ok : sound L ≡ true) (l i w : ℕ) where
   -- a passage waits while the train goes out
-  waits-on : (es more : List Event) → GoingOut L l i w es more → Passage L l i w (history L es) → Passage L l i w (history L (es ++ more))
+  goes-on : (es more : List Event) → GoingOut L l i w es more → Passage L l i w (history L es) → Passage L l i w (history L (es ++ more))
   unfolding GoingOut Since
-  waits-on es [] g p = rw (append-nil es) p
-  waits-on es (e ∷ more) g p =
-      rw (sym (append-assoc es (e ∷ []) more)) (waits-on (es ++ (e ∷ [])) more (g .1) (rw (one-more L es e) (inr (g .0, p))))
+  goes-on es [] g p = rw (append-nil es) p
+  goes-on es (e ∷ more) g p =
+      rw (sym (append-assoc es (e ∷ []) more)) (goes-on (es ++ (e ∷ [])) more (g .1) (rw (one-more L es e) (inr (g .0, p))))
 
   module _ (es : List Event) (T : MayGoOn L es l i w) where
     -- the state then
@@ -178,22 +156,90 @@ module _ (L : Layout) (ok : sound L ≡ true) (l i w : ℕ) where
       let z = told .waits w p .0 in
       entered-reads L l i (history L es) (told .enters .0 (omega arith))
 
-  -- and opens when it is given free
-  leaves : (es : List Event) (f : Event) → l < L .lines → i < lineIn L l .blocks → Passage L l i w (history L es)
+  -- given free, while the far signal's lamp reports stop, it opens
+  leaves : (es : List Event) (f : Event) → l < L .lines → i < lineIn L l .blocks → Passage L l i w (history L es) → StopLit L l i w (history L es)
       → GivesNext L es f (block L l i) 1 → shown L (history L (es ++ (f ∷ []))) .block l i ≡ 0
-  leaves es f b c p given =
+  leaves es f b c p lit given =
+      let told = run-has L ok es .blocks l i b c in
+      let z = told .waits w p .0 in
       exact-run L ok (es ++ (f ∷ [])) .blocks l i b c .opens .1
-      (rw (one-more L es f) (opened-by-passage L l i (next L es f) (history L es) w given (λ z. omega (arith, waiting-reads es b c p)) p))
+      (rw (one-more L es f)
+      (opened-by-passage L l i (next L es f) (history L es) w (whileLit (closing L l i (next L es f) (history L es) w given (told .enters .0 (omega arith)) p) lit)))
+
+  -- what a block shows after an event that gives a section something: its stage then
+  shows-after : (es : List Event) (f : Event) (g : ℕ) → l < L .lines → i < lineIn L l .blocks → GivesNext L es f g 1
+      → shown L (history L (es ++ (f ∷ []))) .block l i ≡ stage (end L (fromCold L es) f) l i
+  unfolding shown moment gaveSection
+  shows-after es f g b c given =
+      rw (one-more L es f, box-grants L (fromCold L es) f (giving-granted L ok (fromCold L es) (history L es) (run-has L ok es) (next L es f) g (λ z. omega arith)))
+      (shows-block L (end L (fromCold L es) f) l i b c)
+
+  -- given free while the lamp does not report stop, it waits in stage 3, or opens because the event frees what lies beyond it: that completed its passage
+  leaves-waiting : (es : List Event) (f : Event) → l < L .lines → i < lineIn L l .blocks → Passage L l i w (history L es) → ¬ StopLit L l i w (history L es)
+      → GivesNext L es f (block L l i) 1
+      → (shown L (history L (es ++ (f ∷ []))) .block l i ≡ 4)
+      ⊎ ((shown L (history L (es ++ (f ∷ []))) .block l i ≡ 0) × FreesBeyond L l w (fromArrival (lineIn L l) w i) (next L es f) (history L es))
+  unfolding moment gaveSection
+  leaves-waiting es f b c p dark given = rw (shows-after es f (block L l i) b c given, box-grants L s f pass) (go (case-of L S s (history L es) I f pass l b i c))
+    where
+      S : Sound L
+      S = sound-says L ok
+
+      s : State
+      s = fromCold L es
+
+      I : Inv L s (history L es)
+      I = run-has L ok es
+
+      pass : refusal (sound L and inRange s) L s (f .kind) (f .first) (f .second) .number ≡ 0
+      pass = giving-granted L ok s (history L es) I (next L es f) (block L l i) (λ z. omega arith)
+
+      three : (stage s l i ≡ 3) × (direction s l ≡ w)
+      three = I .blocks l i b c .waits w p
+
+      free : gaveBlock L l i (granted L s f) (history L es) ≡ 1
+      free = given
+
+      frees : Completed L l i w (granted L s f) (history L es) → FreesBeyond L l w (fromArrival (lineIn L l) w i) (granted L s f) (history L es)
+      frees (whileLit C t) = absurd (dark t)
+      frees (withBeyond C B) = B
+      frees (later W k B) = B
+
+      opened : ¬ On 7 f l → stage (end L s f) l i ≡ 0
+          → (stage (end L s f) l i ≡ 0) × FreesBeyond L l w (fromArrival (lineIn L l) w i) (granted L s f) (history L es)
+      opened n x = (
+        x,
+        frees (rw (three .1) at (opens-completed L S s (history L es) I f pass (λ r k. accepted L ok S s (history L es) I f pass .routes r k .locks) l b n i c (omega (arith, three .0)) .1
+            (omega (arith, three .0), x))),
+      )
+
+      go : Case L S s (history L es) I f pass l b i c
+          → (stage (end L s f) l i ≡ 4) ⊎ ((stage (end L s f) l i ≡ 0) × FreesBeyond L l w (fromArrival (lineIn L l) w i) (granted L s f) (history L es))
+      go (by-hand u v x) = absurd (omega (arith, free))
+      go (stays-open n v was x) = absurd (omega (arith, three .0))
+      go (shown-stop n v was t x) = inr (opened n x)
+      go (opens-with n wait B x) = inr (opened n x)
+      go (waits-on n wait B x) = inl x
+      go (shut n (inl v) x) = absurd (omega (arith, free))
+      go (shut n (inr (inl v)) x) = absurd (v .2 (three .0))
+      go (shut n (inr (inr v)) x) = absurd (omega (arith, free, v .0))
+      go (entered n y (inl v) few far) = absurd (omega (arith, free, v .0))
+      go (entered n y (inr v) few far) = absurd (v .0 free)
 
 -- on any sound layout, after any events
 pub passes-on : (L : Layout) → sound L ≡ true → PassesOn L
-passes-on L ok es more l i w e f T far out near =
-    leaves L ok l i w _ f (T .line) (T .block) (waits-on L ok l i w _ more out (arrives L ok l i w es T e far)) near
+passes-on L ok es more l i w e f T far out lit near =
+    leaves L ok l i w _ f (T .line) (T .block) (goes-on L ok l i w _ more out (arrives L ok l i w es T e far)) lit near
+
+-- where the lamp does not report stop it waits, or opens because what lies beyond it is freed
+pub passes-waiting : (L : Layout) → sound L ≡ true → WaitsOn L
+passes-waiting L ok es more l i w e f T far out dark near =
+    leaves-waiting L ok l i w _ f (T .line) (T .block) (goes-on L ok l i w _ more out (arrives L ok l i w es T e far)) dark near
 
 -- ---- on any layout in use
 
 pub trains-pass : TrainsPass
-trains-pass L u = passes-on L (in-use-sound u)
+trains-pass L u = let ok = in-use-sound u in (passes-on L ok, passes-waiting L ok, passes-back L ok)
 
 -- a count of head j gives its section what the log of its heads then tells
 count-gives : (L : Layout) (es : List Event) (g j k c : ℕ) → g < L .sections → isFitted L g ≡ true → j < 2 → (k ≡ 11) ⊎ (k ≡ 12) → c ≤ 65535
@@ -223,14 +269,14 @@ leaving-gives L es g b r (byCount f j x) =
 
 -- by readings and counts
 pub pass-by-counts : PassByCounts
-pass-by-counts L u es more l i w e f T a out d =
+pass-by-counts L u es more l i w e f T a out lit d =
     let ok : sound L ≡ true = in-use-sound u in
     let S : Sound L = sound-says L ok in
     let far : GivesNext L es e (farSection L l i w) 2 = arrival-gives L es _ (far-there L S l i w (T .line) (T .block)) (far-reads-free L ok l i w es T) a in
-    let p = waits-on L ok l i w _ more out (arrives L ok l i w es T e far) in
-    leaves L ok l i w _ f (T .line) (T .block) p
+    let p = goes-on L ok l i w _ more out (arrives L ok l i w es T e far) in
+    leaves L ok l i w _ f (T .line) (T .block) p lit
     (leaving-gives L _ _ (block-there L S l i (T .line) (T .block)) (waiting-reads L ok l i w _ (T .line) (T .block) p) d)
 
 -- by readings alone, where neither section has heads
 pub pass-by-readings : PassByReadings
-pass-by-readings L u es more l i w T far near out = pass-by-counts L u es more l i w _ _ T (byReading far) out (byReading near)
+pass-by-readings L u es more l i w T far near out lit = pass-by-counts L u es more l i w _ _ T (byReading far) out lit (byReading near)

@@ -20,7 +20,7 @@ use Rattle.layout_facts.specs.Plain.{Sound}
 use Rattle.interlocking.specs.declared.State.{State}
 use Rattle.interlocking.specs.State.{inRange, withPoints, withRoutes, withLines, withBars}
 use Rattle.interlocking.specs.Own.{ownPoint, throwReading, ownThrow, ownBar}
-use Rattle.interlocking.specs.Settle.{signals, farSections, routesBy, routes, lineRelease, settle}
+use Rattle.interlocking.specs.Settle.{signals, farSections, routesBy, routes, arrivals, lineRelease, settle}
 use Rattle.interlocking.specs.Step.{refusal, after}
 use Rattle.step_facts.specs.Run.{Event}
 use Rattle.safety.specs.History.{Moment, History, Accepted}
@@ -66,7 +66,7 @@ data PointCase (s : State) (e : Event) (p x : ℕ) : Type 0 where
 module _ (L : Layout) (S : Sound L) (s : State) (h : History) (I : Inv L s h) (e : Event) (p : ℕ) (b : p < L .points) where
   -- by its kind; nothing that follows the event's own effect touches points
   point-case : PointCase s e p (pointAt (end L s e) p)
-  unfolding after settle lineRelease withLines routes routesBy withRoutes farSections signals ownPoint ownThrow ownBar withPoints withBars pointReading
+  unfolding after settle lineRelease withLines arrivals routes routesBy withRoutes farSections signals ownPoint ownThrow ownBar withPoints withBars pointReading
   point-case = go (is-placed L s e)
     where
       below : p < mostPoints

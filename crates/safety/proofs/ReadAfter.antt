@@ -12,7 +12,7 @@ use Rattle.layout.specs.Sound.{sound}
 use Rattle.layout_facts.specs.Plain.{Sound}
 use Rattle.interlocking.specs.declared.State.{State}
 use Rattle.interlocking.specs.State.{inRange, withRoutes, withLines}
-use Rattle.interlocking.specs.Settle.{signals, farSections, routesBy, routes, lineRelease, settle}
+use Rattle.interlocking.specs.Settle.{signals, farSections, routesBy, routes, arrivals, lineRelease, settle}
 use Rattle.interlocking.specs.Step.{refusal, after}
 use Rattle.step_facts.specs.Run.{Event}
 use Rattle.safety.specs.History.{History, gaveSection, reads, sectionReads}
@@ -31,5 +31,5 @@ module _ (L : Layout) (S : Sound L) (s : State) (h : History) (I : Inv L s h) (e
 
   -- and at its end: nothing that follows touches sections
   pub reads-then : readings.reading (end L s e .section) g ≡ sectionReads L g (granted L s e ∷ h)
-  unfolding after settle lineRelease withLines routes routesBy withRoutes farSections signals
+  unfolding after settle lineRelease withLines arrivals routes routesBy withRoutes farSections signals
   reads-then = reads-done

@@ -11,9 +11,9 @@ use Rattle.layout.specs.declared.Layout.{Layout}
 use Rattle.layout.specs.Sound.{sound}
 use Rattle.interlocking.specs.declared.State.{State}
 use Rattle.interlocking.specs.State.{inRange}
-use Rattle.interlocking.specs.Rows.{Row, nothing, givesReading, aSecond, sectionRow, pointRow, throwRow, setRow, cancelRow, secureRow, manualRow, barRow, secondRow, headRow, countRow, silentRow, resetRow, noRow}
+use Rattle.interlocking.specs.Rows.{Row, nothing, givesReading, aSecond, sectionRow, pointRow, throwRow, setRow, cancelRow, secureRow, manualRow, barRow, secondRow, headRow, countRow, silentRow, resetRow, lampRow, noRow}
 use Rattle.interlocking.specs.Step.{refusal, gives}
-use Rattle.interlocking.proofs.Rows.{OfKind, section-row, point-row, throw-row, set-row, cancel-row, secure-row, manual-row, bar-row, unbar-row, second-row, count-row, silent-row, reset-row, no-row, row-of}
+use Rattle.interlocking.proofs.Rows.{OfKind, section-row, point-row, throw-row, set-row, cancel-row, secure-row, manual-row, bar-row, unbar-row, second-row, count-row, silent-row, reset-row, lamp-row, no-row, row-of}
 use Rattle.step_facts.specs.Run.{Event}
 use Rattle.safety.specs.History.{Moment, History, Second}
 use Rattle.safety.specs.Locked.{Cancels, secondsSince}
@@ -27,7 +27,7 @@ use Rattle.safety.proofs.LetGo.{givenBy}
 module _ (L : Layout) (s : State) (e : Event) (pass : refusal (sound L and inRange s) L s (e .kind) (e .first) (e .second) .number ≡ 0) where
   -- it gives a second just where it is of that kind
   tick-kind : givenBy L s e .tick ≡ 1 ↔ e .kind ≡ 10
-  unfolding gives sectionRow pointRow throwRow setRow cancelRow secureRow manualRow barRow secondRow headRow countRow silentRow resetRow noRow nothing givesReading aSecond
+  unfolding gives sectionRow pointRow throwRow setRow cancelRow secureRow manualRow barRow secondRow headRow countRow silentRow resetRow lampRow noRow nothing givesReading aSecond
   tick-kind = go (row-of L s (e .kind) (e .first) (e .second))
     where
       none : e .kind ≢ 10 → (_≡_ {A = ℕ} 0 1 ↔ e .kind ≡ 10)
@@ -48,7 +48,8 @@ module _ (L : Layout) (s : State) (e : Event) (pass : refusal (sound L and inRan
       go (count-row (inr q)) = none (omega arith)
       go (silent-row q) = none (omega arith)
       go (reset-row q) = none (omega arith)
-      go (no-row u) = none (u .no-second)
+      go (lamp-row q) = none (omega arith)
+      go (no-row u) = none (u .others .no-second)
 
   -- and so just where a second has passed
   pub tick-told : givenBy L s e .tick ≡ 1 ↔ Second (granted L s e)

@@ -1,16 +1,20 @@
 -- What signals show tells of the state, and the state tells what they show. There is a block signal each way, so its direction is one of two.
-use Prim.Native.Nat.{ℕ, _<_, _≤_}
+use Prim.Native.Nat.{ℕ, _+_, _<_, _≤_}
 use mathlib.Core.Path.{_≡_, sym, _∙_}
 use mathlib.Core.Logic.{_≢_, _⊎_, inl, inr}
 use mathlib.Core.Bool.{true, false}
 use native.Mathlib.Decide.{ℕ-discrete}
 use native.Mathlib.Omega.{arith}
-use borrow.Author.Tests.{eqb-true, ltb-true, lt-ltb}
+use borrow.Author.Tests.{eqb-true, eq-eqb, ne-eqb, ltb-true, lt-ltb}
+use Rattle.laws.proofs.Choice.{chosen, passed-over}
 use Rattle.laws.proofs.Tests.{and-left, and-right, and-both}
 use Rattle.signals.specs.Signals.{enterable, mainProceeds, blockProceeds}
 use Rattle.track.specs.Signal.{main, into, hasSignal}
 use Rattle.layout.specs.declared.Layout.{Layout}
-use Rattle.layout.specs.Layout.{lineIn}
+use Rattle.track.specs.Sizes.{mostLamps}
+use Rattle.track.proofs.SignalNumbers.{signals-few}
+use Rattle.layout.specs.Layout.{lineIn, signalsIn}
+use Rattle.layout_facts.specs.Plain.{Sound}
 use Rattle.interlocking.specs.declared.State.{State}
 use Rattle.panel.specs.Panel.{image}
 use Rattle.signals.proofs.Shows.{main-shows, main-stops, block-shows, block-stops}
@@ -61,3 +65,18 @@ module _ (L : Layout) (s : State) (l i w : ℕ) where
       let (b, c, way) = present-into L (image L s) l i w p in
       let t = sym (block-shows (L .line) (s .direction) (s .point) (s .stage) (s .bar) l i w) ∙ lt-ltb 20 _ (rw (shows-into L s l i w b c way) at p) in
       (and-left _ _ t, eqb-true _ w (and-left _ _ (and-right _ _ t)), and-right _ _ (and-right _ _ t))
+
+-- there are no more signals than lamps: a line has at most eight blocks
+pub all-signals : (L : Layout) → Sound L → signalsIn L ≤ mostLamps
+unfolding lineIn signalsIn
+all-signals L S =
+    omega (arith, signals-few (L .signals) (L .line) (L .lines) (λ l b. S .ranges .lines l b .blockCount .1), S .ranges .signalCount, S .ranges .lineCount)
+
+-- there is a block signal into block j of n where it lies beyond another
+pub far-signal : (n w j : ℕ) → (w ≡ 1 → 0 < j) → (w ≢ 1 → j + 1 < n) → hasSignal n j w ≡ true
+unfolding hasSignal
+far-signal n w j up down = go (ℕ-discrete w 1)
+  where
+    go : Dec (w ≡ 1) → hasSignal n j w ≡ true
+    go (yes q) = chosen _ _ _ (eq-eqb w 1 q) ∙ lt-ltb 0 j (up q)
+    go (no q) = passed-over _ _ _ (ne-eqb w 1 q) ∙ lt-ltb (j + 1) n (down q)

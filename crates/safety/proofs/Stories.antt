@@ -3,7 +3,7 @@ use Prim.Native.Nat.{ℕ, _<_}
 use mathlib.Core.Path.{_≡_, refl, sym, ap, _∙_}
 use mathlib.Core.Logic.{_≢_, inl, inr}
 use mathlib.Core.Bool.{true}
-use mathlib.Core.List.{List, [], _∷_}
+use mathlib.Core.List.{List, _∷_}
 use native.Mathlib.Decide.{ℕ-discrete}
 use Rattle.laws.specs.Tests.{_and_}
 use Rattle.track.specs.Signal.{Signal, main}
@@ -27,7 +27,7 @@ use Rattle.safety.specs.Demand3.{Enters, Safe}
 use Rattle.safety.specs.Exact.{Exact}
 use Rattle.safety.specs.Stories.{ThrowsFree, Lists, FallsAtOnce, OpenedSince, NoStory, StoriesKept}
 use Rattle.step_facts.proofs.Passed.{throw-routes, throw-lines, throw-free}
-use Rattle.safety.proofs.Told.{reads-given}
+use Rattle.safety.proofs.Told.{reads-given, since-map}
 use Rattle.safety.proofs.Invariant.{Inv}
 use Rattle.safety.proofs.Kept.{kept}
 use Rattle.safety.proofs.EveryEvent.{in-every-event}
@@ -95,14 +95,6 @@ module _ (L : Layout) (S : Sound L) (m : Moment) (h : History) (safely : Safe L 
       blocks x l i w has E = not-free g some other (ap (λ k. sectionReads L k (m ∷ h)) (sym (in-only (lineIn L l) i g has)) ∙ safely .guarded x l i w E .isFree)
 
 -- ---- dead inputs
-
--- what holds of an event and was kept so, weakened
-since-map : {Began Kept Other Still : Moment → History → Type 0} → ((m : Moment) (h : History) → Began m h → Other m h)
-    → ((m : Moment) (h : History) → Kept m h → Still m h) → (h : History) → Since Began Kept h → Since Other Still h
-unfolding Since
-since-map f g [] x = absurd x
-since-map f g (m ∷ h) (inl x) = inl (f m h x)
-since-map f g (m ∷ h) (inr x) = inr (g m h (x .0), since-map f g h (x .1))
 
 -- by a passage in some direction, or by hand
 opened-since : (L : Layout) (l i : ℕ) (h : History) → Cleared L l i h → OpenedSince L l i h

@@ -1,19 +1,19 @@
--- Tests on a history that hold just where what they test does: accepted orders, the passage of a block, and what cleared it. Where a test is cheap it
--- stands first.
+-- Tests on a history that hold just where what they test does: accepted orders, the passage of a block, and the free reading that closes it. Where a test is
+-- cheap it stands first.
 use Prim.Native.Nat.{ℕ}
 use mathlib.Core.Path.{_≡_, refl, ap, _∙_}
-use mathlib.Core.Logic.{_⊎_, _↔_, inl, inr, ⊎-elim, Iff·trans}
+use mathlib.Core.Logic.{_↔_, inl, inr, ⊎-elim, Iff·trans}
 use mathlib.Core.Bool.{Bool, true, false, not}
 use mathlib.Core.List.{[], _∷_}
 use lib.Dec.{eqb, ltb}
 use Rattle.laws.specs.Tests.{_and_, _or_, every}
-use Rattle.laws.proofs.Tests.{or-cases, or-left, or-right, not-both}
-use Rattle.track.specs.Codes.{free, occupied, readsNone, neutral, releaseLine}
+use Rattle.laws.proofs.Tests.{and-right, and-both, or-cases, or-left, or-right, not-both}
+use Rattle.track.specs.Codes.{free, occupied, readsNone, neutral}
 use Rattle.signals.specs.Aspects.{stop}
 use Rattle.layout.specs.declared.Layout.{Layout}
 use Rattle.layout_facts.proofs.Means.{eqb-means, ltb-means, not-means, and-means, or-means, lastly, _also_, _&_, every-means}
-use Rattle.safety.specs.History.{Moment, History, Given, gaveSection, gaveBlock, reads, sectionReads, blockReads, shown, Accepted, Releases, Came, Since, EndsSpell, LeavesFree}
-use Rattle.safety.specs.Cleared.{farSection, farSignal, Stays, Entered, Drops, Passage, Closes, Cleared, byPassage, byHand, Opened}
+use Rattle.safety.specs.History.{Moment, History, Given, gaveSection, gaveBlock, reads, sectionReads, shown, Accepted, Came, Since, EndsSpell}
+use Rattle.safety.specs.Cleared.{farSection, farSignal, Stays, Entered, Drops, Passage, Closes}
 
 -- ---- earlier and later
 
@@ -100,44 +100,45 @@ module _ (L : Layout) (l i w : ℕ) where
   passage-means : (h : History) → passageTest L l i w h ≡ true ↔ Passage L l i w h
   passage-means = since-means drops-means (λ m h. and-means (stays-means (gaveBlock L l i) m h) (not-means (eqb-means _ readsNone)))
 
--- ---- a passage in some direction: one that the line showed
+-- ---- a passage in some direction: one that the line showed in the event of its drop
 
--- line l showed a direction that passes a test
-abbrev wayTest : Layout → ℕ → (ℕ → Bool) → History → Bool
-wayTest L l p [] = false
-wayTest L l p (m ∷ h) = p (shown L (m ∷ h) .line l) or wayTest L l p h
+-- an event was the drop of a passage of block i of line l in a direction that passes a test
+abbrev pub wayTest : Layout → ℕ → ℕ → (ℕ → Bool) → History → Bool
+wayTest L l i p [] = false
+wayTest L l i p (m ∷ h) = (dropsTest L l i (shown L (m ∷ h) .line l) m h and p (shown L (m ∷ h) .line l)) or wayTest L l i p h
 
 -- so there is one that passes
-some-way : (L : Layout) (l : ℕ) (p : ℕ → Bool) (h : History) → wayTest L l p h ≡ true → (w : ℕ) × (p w ≡ true)
-some-way L l p [] t = not-both t refl
-some-way L l p (m ∷ h) t = ⊎-elim (λ u. (_, u)) (some-way L l p h) (or-cases _ _ t)
+pub some-way : (L : Layout) (l i : ℕ) (p : ℕ → Bool) (h : History) → wayTest L l i p h ≡ true → (w : ℕ) × (p w ≡ true)
+some-way L l i p [] t = not-both t refl
+some-way L l i p (m ∷ h) t = ⊎-elim (λ u. (_, and-right _ _ u)) (some-way L l i p h) (or-cases _ _ t)
 
 -- the direction of a passage was shown, in the event of its drop
-way-shown : (L : Layout) (l i w : ℕ) (p : ℕ → Bool) → p w ≡ true → (h : History) → Passage L l i w h → wayTest L l p h ≡ true
+pub way-shown : (L : Layout) (l i w : ℕ) (p : ℕ → Bool) → p w ≡ true → (h : History) → Passage L l i w h → wayTest L l i p h ≡ true
 unfolding Since
 way-shown L l i w p t [] x = absurd x
-way-shown L l i w p t (m ∷ h) (inl d) = or-left _ _ (ap p (d .secured .0) ∙ t)
+way-shown L l i w p t (m ∷ h) (inl d) =
+    or-left _ _ (ap (λ v. dropsTest L l i v m h and p v) (d .secured .0) ∙ and-both _ _ (drops-means L l i w m h .1 d) t)
 way-shown L l i w p t (m ∷ h) (inr k) = or-right _ _ (way-shown L l i w p t h (k .1))
 
--- a passage waits, in some direction
-abbrev pub waitsTest : Layout → ℕ → ℕ → History → Bool
-waitsTest L l i h = wayTest L l (λ w. passageTest L l i w h) h
+-- a passage waits for its free reading, in some direction
+abbrev pub somePassageTest : Layout → ℕ → ℕ → History → Bool
+somePassageTest L l i h = wayTest L l i (λ w. passageTest L l i w h) h
 
 -- the direction that passes the test has a passage, and that of a passage was shown
-pub waits-means : (L : Layout) (l i : ℕ) (h : History) → waitsTest L l i h ≡ true ↔ (w : ℕ) × Passage L l i w h
-waits-means L l i h = (
-  λ t. let (w, u) = some-way L l _ h t in (w, passage-means L l i w h .0 u),
+pub some-passage-means : (L : Layout) (l i : ℕ) (h : History) → somePassageTest L l i h ≡ true ↔ (w : ℕ) × Passage L l i w h
+some-passage-means L l i h = (
+  λ t. let (w, u) = some-way L l i _ h t in (w, passage-means L l i w h .0 u),
   λ (w, p). way-shown L l i w _ (passage-means L l i w h .1 p) h p,
 )
 
--- ---- a block that was cleared
+-- ---- the free reading that closes it
 
 -- the event ended a spell; after it the block reads free
 abbrev endsTest : Given → Moment → History → Bool
 endsTest gave m h = not (eqb (reads gave h) free) and eqb (reads gave (m ∷ h)) free
 
 -- after the event it reads free
-abbrev leavesTest : Given → Moment → History → Bool
+abbrev pub leavesTest : Given → Moment → History → Bool
 leavesTest gave m h = eqb (reads gave (m ∷ h)) free
 
 -- before and after
@@ -153,71 +154,3 @@ pub closes-means : (L : Layout) (l i w : ℕ) (m : Moment) (h : History) → clo
 closes-means L l i w m h =
     Iff·trans (and-means (ends-means (gaveBlock L l i) m h) (passage-means L l i w h))
     (λ (e, p). record { ends = e; passage = p }, λ c. (c .ends, c .passage))
-
--- it closed one in some direction
-abbrev pub someClosesTest : Layout → ℕ → ℕ → Moment → History → Bool
-someClosesTest L l i m older = endsTest (gaveBlock L l i) m older and waitsTest L l i older
-
--- likewise, whatever the direction
-pub some-closes-means : (L : Layout) (l i : ℕ) (m : Moment) (h : History) → someClosesTest L l i m h ≡ true ↔ (w : ℕ) × Closes L l i w m h
-some-closes-means L l i m h =
-    Iff·trans (and-means (ends-means (gaveBlock L l i) m h) (waits-means L l i h))
-    (λ (e, (w, p)). (w, record { ends = e; passage = p }), λ (w, c). (c .ends, (w, c .passage)))
-
--- it was cleared by a passage; by hand
-abbrev pub passedTest : Layout → ℕ → ℕ → History → Bool
-passedTest L l i h = sinceTest (someClosesTest L l i) (leavesTest (gaveBlock L l i)) h
-
--- it was cleared by hand
-abbrev pub byHandTest : Layout → ℕ → ℕ → History → Bool
-byHandTest L l i h =
-    sinceTest (λ m older. acceptedTest releaseLine l m and leavesTest (gaveBlock L l i) m older) (leavesTest (gaveBlock L l i)) h
-
-module _ (L : Layout) (l i : ℕ) where
-  -- one direction serves for all events since
-  some-closed : (h : History) → Since (λ m older. (w : ℕ) × Closes L l i w m older) (LeavesFree (gaveBlock L l i)) h
-      → (w : ℕ) × Since (Closes L l i w) (LeavesFree (gaveBlock L l i)) h
-  unfolding Since
-  some-closed [] x = absurd x
-  some-closed (m ∷ h) (inl (w, c)) = (w, inl c)
-  some-closed (m ∷ h) (inr (f, x)) = let (w, y) = some-closed h x in (w, inr (f, y))
-
-  -- and the other way round
-  closed-some : (w : ℕ) (h : History) → Since (Closes L l i w) (LeavesFree (gaveBlock L l i)) h
-      → Since (λ m older. (w : ℕ) × Closes L l i w m older) (LeavesFree (gaveBlock L l i)) h
-  unfolding Since
-  closed-some w [] x = absurd x
-  closed-some w (m ∷ h) (inl c) = inl (w, c)
-  closed-some w (m ∷ h) (inr (f, x)) = inr (f, closed-some w h x)
-
-  -- so for a passage
-  pub passed-means : (h : History) → passedTest L l i h ≡ true ↔ (w : ℕ) × Since (Closes L l i w) (LeavesFree (gaveBlock L l i)) h
-  passed-means h = Iff·trans (since-means (some-closes-means L l i) (λ m h. eqb-means _ free) h) (some-closed h, λ (w, x). closed-some w h x)
-
-  -- and by hand
-  pub by-hand-means : (h : History) → byHandTest L l i h ≡ true ↔ Since (λ m older. Releases l m × LeavesFree (gaveBlock L l i) m older) (LeavesFree (gaveBlock L l i)) h
-  by-hand-means = since-means (λ m h. and-means (accepted-means releaseLine l m) (eqb-means _ free)) (λ m h. eqb-means _ free)
-
-  -- one or the other
-  pub cleared-means : (h : History) → passedTest L l i h or byHandTest L l i h ≡ true ↔ Cleared L l i h
-  cleared-means h = Iff·trans (or-means (passed-means h) (by-hand-means h)) (to, from)
-    where
-      to : ((w : ℕ) × Since (Closes L l i w) (LeavesFree (gaveBlock L l i)) h)
-          ⊎ Since (λ m older. Releases l m × LeavesFree (gaveBlock L l i) m older) (LeavesFree (gaveBlock L l i)) h → Cleared L l i h
-      to (inl (w, p)) = byPassage w p
-      to (inr r) = byHand r
-
-      from : Cleared L l i h
-          → ((w : ℕ) × Since (Closes L l i w) (LeavesFree (gaveBlock L l i)) h)
-          ⊎ Since (λ m older. Releases l m × LeavesFree (gaveBlock L l i) m older) (LeavesFree (gaveBlock L l i)) h
-      from (byPassage w p) = inl (w, p)
-      from (byHand r) = inr r
-
--- the block is to be open
-abbrev pub openedTest : Layout → ℕ → ℕ → History → Bool
-openedTest L l i h = eqb (blockReads L l i h) free and (passedTest L l i h or byHandTest L l i h)
-
--- it reads free, and was cleared
-pub opened-means : (L : Layout) (l i : ℕ) (h : History) → openedTest L l i h ≡ true ↔ Opened L l i h
-opened-means L l i h =
-    Iff·trans (and-means (eqb-means _ free) (cleared-means L l i h)) (λ (f, c). record { isFree = f; cleared = c }, λ o. (o .isFree, o .cleared))

@@ -16,8 +16,9 @@ use Rattle.layout_facts.proofs.Means.{eqb-means, ltb-means, not-means, and-mean
 use Rattle.safety.specs.History.{History, sectionReads, shown}
 use Rattle.safety.specs.Lights.{position, MayEnter, Clear, NotFallen, AtProceed}
 use Rattle.safety.specs.Demand3.{LeadsOut, Leads, Enters}
-use Rattle.safety.proofs.Tested.{sinceTest, since-means, acceptedTest, accepted-means, openedTest, opened-means}
-use Rattle.safety.proofs.TestedLocks.{cancelledTest, cancelled-means, lockedTest, locked-means, barredTest, barred-means}
+use Rattle.safety.proofs.Tested.{sinceTest, since-means, acceptedTest, accepted-means}
+use Rattle.safety.proofs.TestedLocks.{cancelledTest, cancelled-means, lockedTest, locked-means}
+use Rattle.safety.proofs.TestedBlocks.{openedTest, opened-means, barredTest, barred-means}
 
 -- ---- a signal at proceed
 

@@ -1,5 +1,5 @@
--- Tests on a history that hold just where what they test does: locked routes and secured lines. The steps of a route are taken on event by event, so
--- that a long run is tested in one walk.
+-- Tests on a history that hold just where what they test does: locked routes. The steps of a route are taken on event by event, so that a long run is tested
+-- in one walk.
 use Prim.Native.Nat.{ℕ, _+_}
 use mathlib.Core.Path.{_≡_, refl}
 use mathlib.Core.Logic.{_↔_, inl, inr, ⊎-elim, Iff·trans}
@@ -11,17 +11,16 @@ use Rattle.laws.specs.Choice.{if_then_else_}
 use Rattle.laws.specs.Tests.{_and_, _or_, implies, every, allBelow}
 use Rattle.laws.proofs.Choice.{if-both}
 use Rattle.laws.proofs.Tests.{not-both}
-use Rattle.track.specs.Codes.{free, entranceRoute, exitRoute, setRoute, cancelRoute, secureLine, releaseLine, barBlock, unbarBlock, oneSecond}
+use Rattle.track.specs.Codes.{free, entranceRoute, exitRoute, setRoute, cancelRoute, oneSecond}
 use Rattle.release.specs.Release.{stepsAfter}
 use Rattle.layout.specs.declared.Layout.{Layout}
-use Rattle.layout.specs.Layout.{lineIn, routeIn}
+use Rattle.layout.specs.Layout.{routeIn}
 use Rattle.layout_facts.specs.Plain.{path}
 use Rattle.layout_facts.proofs.Means.{eqb-means, ltb-means, not-means, and-means, or-means, implies-means, lastly, _also_, _&_, every-means, all-means}
 use Rattle.safety.specs.History.{Moment, History, reads, sectionReads, Since}
 use Rattle.safety.specs.Locked.{Sets, gaveEnd, Vacated, Cancelled, secondsSince, ByTime, Goes, Locked}
-use Rattle.safety.specs.Secured.{Barred, lastBlock, LineEnds, StaysSecured, Secured}
 use Rattle.safety.proofs.Steps.{Steps, pairTold, steps-set, steps-on}
-use Rattle.safety.proofs.Tested.{sinceTest, since-means, acceptedTest, accepted-means, cameTest, came-means, closesTest, closes-means, openedTest, opened-means}
+use Rattle.safety.proofs.Tested.{sinceTest, since-means, acceptedTest, accepted-means, cameTest, came-means}
 
 -- ---- a route that goes
 
@@ -115,51 +114,3 @@ module _ (L : Layout) (r : ℕ) where
       let on = steps-on L r _ m h (steps-told h) not-set in
       Iff·trans (and-means (locked-means h) (not-means (goes-means L r _ m h on)))
       (λ (was, stay). inr (stay, was), ⊎-elim (λ u. absurd (not-set u)) (λ (stay, was). (was, stay))))
-
--- ---- a line that is secured
-
--- block i of line l is barred
-abbrev pub barredTest : ℕ → ℕ → History → Bool
-barredTest l i h = sinceTest (λ m older. cameTest barBlock l i m) (λ m older. not (cameTest unbarBlock l i m)) h
-
--- by the law of `Since`
-pub barred-means : (l i : ℕ) (h : History) → barredTest l i h ≡ true ↔ Barred l i h
-barred-means l i = since-means (λ m h. came-means barBlock l i m) (λ m h. not-means (came-means unbarBlock l i m))
-
-module _ (L : Layout) (l w : ℕ) where
-  -- the event releases the line
-  abbrev lineEndsTest : Moment → History → Bool
-  lineEndsTest m h = every (
-      closesTest L l (lastBlock L l w) w m h
-      ∷ allBelow (lineIn L l .blocks) (λ i. openedTest L l i (m ∷ h))
-      ∷ allBelow (L .routes) (λ r. implies (eqb (routeIn L r .kind) exitRoute) (implies (eqb (routeIn L r .line) l) (not (lockedTest L r (m ∷ h)))))
-      ∷ allBelow (lineIn L l .blocks) (λ i. not (barredTest l i (m ∷ h)))
-      ∷ [])
-
-  -- part by part, over blocks and routes
-  line-ends-means : (m : Moment) (h : History) → lineEndsTest m h ≡ true ↔ LineEnds L l w m h
-  line-ends-means m h =
-      Iff·trans
-      (every-means (closes-means L l (lastBlock L l w) w m h also all-means (λ i b. opened-means L l i (m ∷ h))
-      also all-means (λ r b. implies-means (eqb-means _ exitRoute) (implies-means (eqb-means _ l) (not-means (locked-means L r (m ∷ h)))))
-      also lastly (all-means (λ i b. not-means (barred-means l i (m ∷ h))))))
-      (λ (c, (o, (e, b))). record { closes = c; allOpen = o; noExit = e; noBar = b }, λ E. E .closes & E .allOpen & E .noExit & E .noBar)
-
-  -- the line stays secured
-  abbrev staysSecuredTest : Moment → History → Bool
-  staysSecuredTest m h = every (not (acceptedTest secureLine l m) ∷ not (acceptedTest releaseLine l m) ∷ not (lineEndsTest m h) ∷ [])
-
-  -- no order, no release, no line release
-  stays-secured-means : (m : Moment) (h : History) → staysSecuredTest m h ≡ true ↔ StaysSecured L l w m h
-  stays-secured-means m h =
-      Iff·trans
-      (every-means (not-means (accepted-means secureLine l m) also not-means (accepted-means releaseLine l m) also lastly (not-means (line-ends-means m h))))
-      (λ (o, (r, g)). record { noOrder = o; noRelease = r; noEnd = g }, λ s. s .noOrder & s .noRelease & s .noEnd)
-
-  -- it is secured
-  abbrev pub securedTest : History → Bool
-  securedTest h = sinceTest (λ m older. acceptedTest secureLine l m and eqb (m .event .second) w) staysSecuredTest h
-
-  -- by the law of `Since`
-  pub secured-means : (h : History) → securedTest h ≡ true ↔ Secured L l w h
-  secured-means = since-means (λ m h. and-means (accepted-means secureLine l m) (eqb-means _ w)) stays-secured-means

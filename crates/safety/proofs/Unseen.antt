@@ -1,7 +1,7 @@
 -- What a history tells of routes, lines, open blocks and signals does not look at the newest image: whatever image the last event left, the same is told.
 -- Each law goes from image a to image b, for any two; what is denied goes from b to a. What stands in no law here looks at the event alone, and is the same
 -- by computation.
-use Prim.Native.Nat.{ℕ}
+use Prim.Native.Nat.{ℕ, zero, suc}
 use mathlib.Core.Path.{_≡_, refl, _∙_}
 use mathlib.Core.Logic.{inl, inr}
 use mathlib.Core.Bool.{Bool, true, false}
@@ -12,7 +12,7 @@ use Rattle.layout.specs.declared.Layout.{Layout}
 use Rattle.layout.specs.Layout.{routeIn}
 use Rattle.safety.specs.History.{Moment, History, Given, gaveSection, reads, Since}
 use Rattle.safety.specs.Locked.{gaveFirst, gaveSecond, Unbroken, StepOne, StepTwo, StepThree, Vacated, secondsSince, Goes, Locked}
-use Rattle.safety.specs.Cleared.{Closes, Cleared, byPassage, byHand, Opened}
+use Rattle.safety.specs.Cleared.{Closes, CompletedBy, whileLit, withBeyond, later, FreesBeyond, Waits, Cleared, byPassage, byHand, Opened}
 use Rattle.safety.specs.Secured.{LineEnds, Secured}
 use Rattle.safety.specs.Lights.{position, MayEnter, Lit, Clear, NotFallen, AtProceed}
 
@@ -94,10 +94,40 @@ module _ (L : Layout) (m : Moment) (h : History) where
   unfolding reads gaveSection
   closes l i w a b x = record { ends = x .ends; passage = x .passage }
 
-  -- so a block was cleared or not
+  -- so an event completes a passage or not, where it frees what lies beyond or not
+  completed : (l i w : ℕ) (Beyond : Moment → History → Type 0) → ((a b : List ℕ) → Beyond (showing m a) h → Beyond (showing m b) h)
+      → (a b : List ℕ) → CompletedBy L l i w Beyond (showing m a) h → CompletedBy L l i w Beyond (showing m b) h
+  unfolding reads gaveSection
+  completed l i w Beyond f a b (whileLit x t) = whileLit (closes l i w a b x) t
+  completed l i w Beyond f a b (withBeyond x y) = withBeyond (closes l i w a b x) (f a b y)
+  completed l i w Beyond f a b (later x k y) = later x k (f a b y)
+
+  -- along the line, from the arrival end back: an entrance route is released, or the next passage completed
+  frees : (l w d : ℕ) (a b : List ℕ) → FreesBeyond L l w d (showing m a) h → FreesBeyond L l w d (showing m b) h
+  unfolding FreesBeyond
+  frees l w zero a b (r, x) = (
+    r,
+    record {
+      there = x .there;
+      isEntrance = x .isEntrance;
+      ofLine = x .ofLine;
+      ofEnd = x .ofEnd;
+      locked = x .locked;
+      released = λ k. x .released (locked r b a k);
+    },
+  )
+  frees l w (suc d) a b x = completed l _ w (FreesBeyond L l w d) (frees l w d) a b x
+
+  -- so a block waits or not
+  pub waits : (l i w : ℕ) (a b : List ℕ) → Waits L l i w (showing m a ∷ h) → Waits L l i w (showing m b ∷ h)
+  unfolding Since reads gaveSection
+  waits l i w a b (inl (x, dark, none)) = inl (closes l i w a b x, dark, λ y. none (frees l w _ b a y))
+  waits l i w a b (inr ((free, hand, none), x)) = inr ((free, hand, λ y. none (frees l w _ b a y)), x)
+
+  -- and was cleared or not
   cleared : (l i : ℕ) (a b : List ℕ) → Cleared L l i (showing m a ∷ h) → Cleared L l i (showing m b ∷ h)
   unfolding Since reads gaveSection
-  cleared l i a b (byPassage w (inl x)) = byPassage w (inl (closes l i w a b x))
+  cleared l i a b (byPassage w (inl x)) = byPassage w (inl (completed l i w _ (frees l w _) a b x))
   cleared l i a b (byPassage w (inr x)) = byPassage w (inr x)
   cleared l i a b (byHand x) = byHand x
 
@@ -110,7 +140,8 @@ module _ (L : Layout) (m : Moment) (h : History) where
   line-ends : (l w : ℕ) (a b : List ℕ) → LineEnds L l w (showing m a) h → LineEnds L l w (showing m b) h
   unfolding Since
   line-ends l w a b x = record {
-    closes = closes l _ w a b (x .closes);
+    held = x .held;
+    completes = completed l _ w _ (frees l w _) a b (x .completes);
     allOpen = λ i c. opened l i a b (x .allOpen i c);
     noExit = λ r c e k y. x .noExit r c e k (locked r b a y);
     noBar = x .noBar;

@@ -7,40 +7,56 @@ use mathlib.Core.List.{_∷_}
 use native.Mathlib.Decide.{ℕ-discrete}
 use native.Mathlib.Omega.{arith}
 use borrow.Author.Tests.{eqb-true, eq-eqb}
-use Rattle.laws.proofs.Tests.{implies-same}
+use Rattle.laws.specs.Tests.{_and_}
+use Rattle.laws.proofs.Tests.{implied, implies-same, every-at}
 use Rattle.track.specs.Sizes.{mostTrainRoutes}
 use Rattle.track.specs.Objects.{nearest}
-use Rattle.signals.specs.Signals.{enterable, letsOut, clear, fallen}
+use Rattle.signals.specs.Signals.{enterableBy, enterable, letsOut, clear, fallen}
 use Rattle.layout.specs.declared.Layout.{Layout}
 use Rattle.layout.specs.Layout.{lineIn, routeIn}
 use Rattle.layout_facts.specs.Plain.{nearestBlock, Sound}
 use Rattle.layout_facts.proofs.Uses.{entered-block}
 use Rattle.interlocking.specs.declared.State.{State}
-use Rattle.interlocking.specs.State.{withRoutes, withLines}
-use Rattle.interlocking.specs.Settle.{fallenAt, signals, farSections, routesBy, routes, lineRelease, settle}
-use Rattle.interlocking.specs.Step.{after}
+use Rattle.layout.specs.Sound.{sound}
+use Rattle.tables.specs.Blocks.{isOpen}
+use Rattle.interlocking.specs.State.{inRange, withRoutes, withLines}
+use Rattle.interlocking.specs.Settle.{fallenAt, signals, farSections, routesBy, routes, arrivals, lineRelease, settle}
+use Rattle.interlocking.specs.Step.{refusal, after}
 use Rattle.step_facts.specs.Run.{Event}
 use Rattle.safety.specs.History.{Moment, History, Since}
 use Rattle.safety.specs.Lights.{Clear, NotFallen}
 use Rattle.laws.proofs.Choice.{chosen}
-use Rattle.step_facts.proofs.Entries.{phase}
+use Rattle.step_facts.proofs.Entries.{phase, stage}
 use Rattle.step_facts.proofs.Within.{done, lit, end, fallen-else, phase-lit, phase-kept, phase-clear}
+use Rattle.step_facts.proofs.Passed.{set-open}
+use Rattle.step_facts.proofs.FarCases.{enterable-same}
 use Rattle.safety.proofs.Given.{granted}
+use Rattle.safety.proofs.Through.{open-moves}
 use Rattle.safety.proofs.Invariant.{Inv}
 use Rattle.safety.proofs.LetGo.{OwnRoute, set, cancel, keep, own-route}
 use Rattle.safety.proofs.Lights.{SignalsTold, clear-means}
 
--- ---- an accepted event: what keeps a signal at proceed is the same after its own effect and at its end, since far sections open no block and shut none
+-- an exit route's signal that has all that keeps it at proceed enters an open block
+lets-out : (L : Layout) (t : State) (r : ℕ) → routeIn L r .kind ≡ 2 → clear (L .line) (t .section) (t .point) (t .stage) (t .bar) (routeIn L r) ≡ true
+    → stage t (routeIn L r .line) (nearestBlock L (routeIn L r .line) (routeIn L r .end)) ≡ 0
+unfolding clear letsOut enterable enterableBy isOpen nearestBlock lineIn
+lets-out L t r k c = eqb-true _ 0 (every-at _ (implied _ _ (every-at _ c 3) (eq-eqb _ 2 k)) 0)
+
+-- ---- an accepted event: what keeps a signal at proceed is the same after its own effect and at its end, since a block that is open before the event or after
+-- its own effect neither opens nor shuts afterwards
 
 module _ (L : Layout) (S : Sound L) (s : State) (e : Event)
-    (same : (l i : ℕ) → l < L .lines → i < lineIn L l .blocks
-    → enterable (L .line) (end L s e .point) (end L s e .stage) (end L s e .bar) l i ≡ enterable (L .line) (done L s e .point) (done L s e .stage) (done L s e .bar) l i)
     (r : ℕ) (b : r < L .routes) where
+  -- the block that an exit route enters does not wait after the event's own effect
+  abbrev Shuts : Type 0
+  Shuts = routeIn L r .kind ≡ 2 → stage (done L s e) (routeIn L r .line) (nearestBlock L (routeIn L r .line) (routeIn L r .end)) ≢ 4
+
   -- nothing after the event's own effect touches sections, points and bars
-  clear-same : clear (L .line) (end L s e .section) (end L s e .point) (end L s e .stage) (end L s e .bar) (routeIn L r)
+  clear-same : Shuts → clear (L .line) (end L s e .section) (end L s e .point) (end L s e .stage) (end L s e .bar) (routeIn L r)
       ≡ clear (L .line) (done L s e .section) (done L s e .point) (done L s e .stage) (done L s e .bar) (routeIn L r)
-  unfolding clear letsOut nearest nearestBlock lineIn after settle lineRelease withLines routes routesBy withRoutes farSections signals
-  clear-same = rw (implies-same _ _ _ (λ t. let k = eqb-true (routeIn L r .kind) 2 t in same _ _ (S .ranges .routes r b .line (inr k) .0) (entered-block L S r b k)))
+  unfolding clear letsOut nearest nearestBlock lineIn after settle lineRelease withLines arrivals routes routesBy withRoutes farSections signals
+  clear-same shuts =
+      rw (implies-same _ _ _ (λ t. let k = eqb-true (routeIn L r .kind) 2 t in enterable-same L S s e _ _ (S .ranges .routes r b .line (inr k) .0) (entered-block L S r b k) (shuts k)))
 
   -- a signal that is at proceed after the event's own effect stays so where it has all that keeps it there
   stays-up : phase (done L s e) r ≡ 1
@@ -51,9 +67,21 @@ module _ (L : Layout) (S : Sound L) (s : State) (e : Event)
   -- and one that is at proceed at the end has all that keeps it there
   pub lights-accepted : phase (end L s e) r ≡ 1
       → clear (L .line) (end L s e .section) (end L s e .point) (end L s e .stage) (end L s e .bar) (routeIn L r) ≡ true
-  lights-accepted z = clear-same ∙ phase-clear L (S .ranges .routeCount) s e r b z
+  lights-accepted z =
+      let c = phase-clear L (S .ranges .routeCount) s e r b z in
+      clear-same (λ k. let o = lets-out L (done L s e) r k c in omega arith) ∙ c
 
-  module _ (h : History) (I : Inv L s h) (T : SignalsTold L (end L s e) (granted L s e ∷ h)) where
+  module _ (h : History) (I : Inv L s h) (T : SignalsTold L (end L s e) (granted L s e ∷ h))
+      (pass : refusal (sound L and inRange s) L s (e .kind) (e .first) (e .second) .number ≡ 0) where
+    -- where its signal is at proceed after the event's own effect, the block that it enters was open before, so it does not wait
+    shuts-up : phase (done L s e) r ≡ 1 → Shuts
+    shuts-up z k = open-moves L S s h I e pass _ (S .ranges .routes r b .line (inr k) .0) _ (entered-block L S r b k) (go (own-route L (S .ranges .routeCount) s e r b))
+      where
+        go : OwnRoute s (done L s e) e r → stage s (routeIn L r .line) (nearestBlock L (routeIn L r .line) (routeIn L r .end)) ≡ 0
+        go (set u p q) = rw (u .1) at (set-open L s e pass (u .0) (rw (u .1) k))
+        go (cancel u p q x) = absurd (omega arith)
+        go (keep n c p q x) = lets-out L s r k (I .lights r b (sym p ∙ z))
+
     -- the signal of a route that stays locked and standing is at proceed just where it is set, or was not fallen, and has all that keeps it there
     pub upright-accepted : phase (end L s e) r ≢ 0 → phase (end L s e) r ≢ 3 → (phase (end L s e) r ≡ 1 ↔ NotFallen L r (granted L s e ∷ h))
     unfolding Since
@@ -87,7 +115,7 @@ module _ (L : Layout) (S : Sound L) (s : State) (e : Event)
         kept (inr x) = x .0
 
         up : phase (done L s e) r ≡ 1 → Clear L r (granted L s e ∷ h) → phase (end L s e) r ≡ 1
-        up z c = phase-kept L few s e r b locked ∙ stays-up z (sym clear-same ∙ means .1 c)
+        up z c = phase-kept L few s e r b locked ∙ stays-up z (sym (clear-same (shuts-up z)) ∙ means .1 c)
 
         to : OwnRoute s (done L s e) e r → NotFallen L r (granted L s e ∷ h) → phase (done L s e) r ≡ 1
         to (set u p q) x = p

@@ -10,7 +10,6 @@ use native.Mathlib.Omega.{arith}
 use borrow.Author.Tests.{eq-eqb}
 use Rattle.laws.specs.Tests.{_and_}
 use Rattle.laws.proofs.Tests.{and-both}
-use Rattle.tables.specs.Blocks.{place}
 use Rattle.signals.specs.Signals.{blockProceeds}
 use Rattle.passage.specs.declared.Beyond.{Beyond}
 use Rattle.passage.specs.Passage.{beyond, signalAt, farSignal}
@@ -25,22 +24,21 @@ use Rattle.interlocking.specs.Settle.{proceedsIn}
 use Rattle.interlocking.specs.Step.{refusal}
 use Rattle.panel.specs.Panel.{image}
 use Rattle.step_facts.specs.Run.{Event}
-use Rattle.step_facts.proofs.Range.{inRange-means, read-within}
 use Rattle.panel.specs.Shown.{panel}
 use Rattle.safety.specs.History.{History, gaveSection, gaveBlock, sectionReads, shown, Since}
-use Rattle.safety.specs.Cleared.{farSection, Proceeds, Entered, Drops, Passage}
+use Rattle.safety.specs.Cleared.{farSection, Proceeds, Drops, Passage}
 use Rattle.step_facts.specs.FarInState.{farReading, farProceeds, farDropped}
 use Rattle.step_facts.proofs.Entries.{direction, stage}
-use Rattle.step_facts.proofs.Passed.{secure-neutral}
-use Rattle.step_facts.proofs.Within.{done, lit, end, direction-same, direction-held}
+use Rattle.step_facts.proofs.Within.{On, done, lit, end, direction-held}
 use Rattle.safety.proofs.Given.{granted}
-use Rattle.step_facts.proofs.FarCases.{FarCase, keeps, proves, loses, far-of}
+use Rattle.step_facts.proofs.FarCases.{FarCase, keeps, proves, loses}
 use Rattle.safety.proofs.Beyond.{BeyondCase, aBlock, aStation}
 use Rattle.panel.proofs.Image.{shows-line}
 use Rattle.safety.proofs.Signals.{main-shown, into-shown}
-use Rattle.safety.proofs.Told.{not-none, entered-reads}
+use Rattle.safety.proofs.Told.{not-none}
+use Rattle.safety.proofs.Through.{way-kept, FarNow}
 use Rattle.safety.proofs.Invariant.{Inv}
-use Rattle.safety.proofs.Held.{hand-free, own-keeps, enters-told}
+use Rattle.safety.proofs.Held.{entered-moves, enters-told}
 use Rattle.safety.proofs.Far.{there, far-reads, stop-follows}
 
 -- ---- of the history alone
@@ -51,11 +49,6 @@ unfolding Since
 passage-far L l i w [] p = absurd p
 passage-far L l i w (m ∷ h) (inl d) = let t = d .taken in omega arith
 passage-far L l i w (m ∷ h) (inr p) = not-none (gaveSection L (farSection L l i w)) m h (p .0 .1) (passage-far L l i w h (p .1))
-
--- ---- there are four codes
-
-pub few-stages : (s : State) → inRange s ≡ true → (l i : ℕ) → stage s l i ≤ 3
-few-stages s ok l i = read-within (inRange-means s .0 ok .stage) 1 (place l i) (omega arith) .1
 
 -- ---- what a far signal shows tells that it is at proceed
 
@@ -74,17 +67,17 @@ module _ (L : Layout) (S : Sound L) (s : State) (h : History) (I : Inv L s h) (e
   Waiting w = (stage (end L s e) l i ≡ 3) × (direction (end L s e) l ≡ w)
 
   -- the far section reads occupied, its signal was at proceed: a block in stage 1 goes to stage 2, and one in stage 2 stays there
-  pub far-proves : (w : ℕ) → w ≢ 0 → direction (done L s e) l ≡ w → 2 ≤ stage (done L s e) l i → stage (done L s e) l i ≤ 3 → farReading L (lit L s e) l i w ≡ 2
-      → farProceeds L s l i w ≡ true → stage (end L s e) l i ≡ 3
+  pub far-proves : (w : ℕ) → w ≢ 0 → direction (done L s e) l ≡ w → (y : ℕ) → (2 ≤ y) × (y ≤ 3) → FarNow L S s h I e pass l b i c y (stage (end L s e) l i)
+      → farReading L (lit L s e) l i w ≡ 2 → farProceeds L s l i w ≡ true → stage (end L s e) l i ≡ 3
   unfolding drops
-  far-proves w d same held few taken before = go (rw same at (far-of L S s e l i b c))
+  far-proves w d same y held far taken before = go (rw same at far)
     where
       dropped : farDropped L s (lit L s e) l i w ≡ true
       dropped = and-both _ _ before (ap not (stop-follows L S s h I e pass l i b c w taken))
 
-      go : FarCase L s (lit L s e) l i w (stage (done L s e) l i) (stage (end L s e) l i) → stage (end L s e) l i ≡ 3
+      go : FarCase L s (lit L s e) l i w y (stage (end L s e) l i) → stage (end L s e) l i ≡ 3
       go (proves x was z o p) = x
-      go (loses x was far) = absurd (omega arith)
+      go (loses x was f) = absurd (omega arith)
       go (keeps x f g) = at (ℕ-discrete (stage (end L s e) l i) 2)
         where
           at : Dec (stage (end L s e) l i ≡ 2) → stage (end L s e) l i ≡ 3
@@ -95,16 +88,13 @@ module _ (L : Layout) (S : Sound L) (s : State) (h : History) (I : Inv L s h) (e
   -- signal showed proceed
   drop-proves : (w : ℕ) → Drops L l i w (granted L s e) h → Waiting w
   unfolding shown farSignal Since
-  drop-proves w D = (far-proves w (D .secured .1) same (omega (arith, was, kept)) (omega (arith, few-stages s (I .ranged) l i, kept)) taken before, way)
+  drop-proves w D = (far-proves w (D .secured .1) same (stage s l i) (I .blocks l i b c .enters .1 (D .entered)) moves taken before, way)
     where
-      kept : stage (done L s e) l i ≡ stage s l i
-      kept = own-keeps L S s h I e pass l i b c (D .entered) (D .stays .0) (D .stays .1)
-
-      was : 2 ≤ stage s l i
-      was = I .blocks l i b c .enters .1 (D .entered)
+      moves : FarNow L S s h I e pass l b i c (stage s l i) (stage (end L s e) l i)
+      moves = entered-moves L S s h I e pass l i b c (D .entered) (D .stays .0) (D .stays .1) .1
 
       held : 2 ≤ stage (end L s e) l i
-      held = enters-told L S s h I e pass l i b c .1 (inr (D .stays, D .entered))
+      held = enters-told L S s h I e pass l i b c .1 (inr (D .stays, D .entered)) .0
 
       way : direction (end L s e) l ≡ w
       way = sym (shows-line L (end L s e) l b) ∙ D .secured .0
@@ -126,28 +116,19 @@ module _ (L : Layout) (S : Sound L) (s : State) (h : History) (I : Inv L s h) (e
       was : (stage s l i ≡ 3) × (direction s l ≡ w)
       was = I .blocks l i b c .waits w p
 
-      entered : Entered (gaveBlock L l i) h
-      entered = I .blocks l i b c .enters .0 (omega (arith, was .0))
-
-      secured : direction s l ≢ 0
-      secured = I .blocks l i b c .passes (was .0) .0
+      moves : (¬ On 7 e l) × FarNow L S s h I e pass l b i c (stage s l i) (stage (end L s e) l i)
+      moves = entered-moves L S s h I e pass l i b c (I .blocks l i b c .enters .0 (omega (arith, was .0))) n f
 
       same : direction (done L s e) l ≡ w
-      same =
-          direction-same L (S .ranges .lineCount) s e l b (λ u. secured (ap (direction s) (sym (u .1)) ∙ secure-neutral L s e pass (u .0)))
-          (λ u. let r = hand-free L S s h I e pass l i b c u in omega (arith, entered-reads L l i h entered))
-          ∙ was .1
+      same = way-kept L S s h I e pass l b i c (omega (arith, was .0)) (moves .0) .1 ∙ was .1
 
-      own : stage (done L s e) l i ≡ 3
-      own = own-keeps L S s h I e pass l i b c entered n f ∙ was .0
-
-      go : FarCase L s (lit L s e) l i w (stage (done L s e) l i) (stage (end L s e) l i) → stage (end L s e) l i ≡ 3
-      go (keeps x u v) = x ∙ own
+      go : FarCase L s (lit L s e) l i w (stage s l i) (stage (end L s e) l i) → stage (end L s e) l i ≡ 3
+      go (keeps x u v) = x ∙ was .0
       go (proves x u d o q) = x
       go (loses x u far) = absurd (passage-far L l i w _ now (sym (far-reads L S s h I e pass l i b c w) ∙ far))
 
       three : stage (end L s e) l i ≡ 3
-      three = go (rw same at (far-of L S s e l i b c))
+      three = go (rw same at (moves .1))
 
   -- a block that waits for the free reading that closes a passage is in stage 2, and its line is secured that way
   pub waits-then : (w : ℕ) → Passage L l i w (granted L s e ∷ h) → Waiting w

@@ -9,12 +9,12 @@ use Rattle.layout.specs.Load.{load}
 use Rattle.layout_facts.specs.BranchT.{layoutT}
 use Rattle.step_facts.specs.Run.{Event}
 use Rattle.safety.specs.History.{History}
-use Rattle.safety.specs.Grants.{MayRead, MaySet, MaySecure, MayCount, MayReset, Grants, section, point, throw, set, cancel, secure, release, bar, unbar, second, count, silence, reset}
+use Rattle.safety.specs.Grants.{MayRead, MaySet, MaySecure, MayCount, MayReset, Grants, section, point, throw, set, cancel, secure, release, bar, unbar, second, count, silence, reset, report}
 use Rattle.safety.specs.OtherLayouts.{withOverlap}
 use Rattle.safety.specs.WrongRuns.{told}
 use Rattle.safety.specs.WrongGrants.{MisjudgedLast, overTheOverlap, turnedUnder, noBar}
 use Rattle.safety.proofs.Computed.{runComputed}
-use Rattle.safety.proofs.TestedLocks.{secured-means}
+use Rattle.safety.proofs.TestedBlocks.{secured-means}
 
 -- what an event asks: a reading of a section, a route that is set, a line that is secured, a count of axles in, a reset
 abbrev Asked : Layout → Event → History → Type 0
@@ -43,6 +43,7 @@ granted-asks L e h (count (inl k) x) = rw k x
 granted-asks L e h (count (inr k) x) = rw k tt
 granted-asks L e h (silence k x) = rw k tt
 granted-asks L e h (reset k x) = rw k x
+granted-asks L e h (report k x) = rw k tt
 
 -- it was accepted, and the overlap does not read free
 pub overlap-not-free : MisjudgedLast (load withOverlap .layout) (told overTheOverlap)

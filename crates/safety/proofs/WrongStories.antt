@@ -22,8 +22,9 @@ use Rattle.safety.specs.Stories.{BladesFree, ThrowsFree, Lists, Falls, O
 use Rattle.safety.specs.WrongRuns.{told, Each}
 use Rattle.safety.specs.WrongStories.{Story, blades, falls, opens, BrokenLast, bent}
 use Rattle.safety.proofs.Computed.{runComputed}
-use Rattle.safety.proofs.Tested.{sinceTest, since-means, acceptedTest, accepted-means, someClosesTest, some-closes-means}
-use Rattle.safety.proofs.TestedLocks.{lockedTest, locked-means, securedTest, secured-means}
+use Rattle.safety.proofs.Tested.{sinceTest, since-means, acceptedTest, accepted-means}
+use Rattle.safety.proofs.TestedLocks.{lockedTest, locked-means}
+use Rattle.safety.proofs.TestedBlocks.{someCompletedTest, some-completed-means, securedTest, secured-means}
 use Rattle.safety.proofs.TestedLights.{entersTest, enters-means}
 use Rattle.safety.proofs.WrongRuns.{passes, each-passes, someSignal, find}
 
@@ -103,12 +104,12 @@ module _ (L : Layout) (m : Moment) (h : History) where
   -- block i of line l was opened by a passage or by hand, and has read free since
   abbrev sinceFreeTest : ℕ → ℕ → Bool
   sinceFreeTest l i =
-      sinceTest (λ n older. someClosesTest L l i n older or (acceptedTest releaseLine l n and eqb (blockReads L l i (n ∷ older)) free)) (λ n older. eqb (blockReads L l i (n ∷ older)) free) (m ∷ h)
+      sinceTest (λ n older. someCompletedTest L l i n older or (acceptedTest releaseLine l n and eqb (blockReads L l i (n ∷ older)) free)) (λ n older. eqb (blockReads L l i (n ∷ older)) free) (m ∷ h)
 
   -- by the law of `Since`
   since-free-means : (l i : ℕ) → sinceFreeTest l i ≡ true ↔ OpenedSince L l i (m ∷ h)
   since-free-means l i =
-      since-means (λ n older. or-means (some-closes-means L l i n older) (and-means (accepted-means releaseLine l n) (eqb-means _ free))) (λ n older. eqb-means _ free) (m ∷ h)
+      since-means (λ n older. or-means (some-completed-means L l i n older) (and-means (accepted-means releaseLine l n) (eqb-means _ free))) (λ n older. eqb-means _ free) (m ∷ h)
 
   -- it shows open, and was not
   abbrev opensTest : Bool

@@ -28,11 +28,11 @@ route0 (a ∷ rest) = getD (a .next .phase) 0 0 ∷ route0 rest
 abbrev pub look : State → List ℕ
 look s = getD (s .phase) 0 0 ∷ getD (s .direction) 0 0 ∷ getD (s .stage) 0 0 ∷ []
 
--- P1: the events of section 8
+-- P1: the events of section 8; L3: with the report of the lamp of B's entrance signal before the ninth
 abbrev pub p1 : List Event
 p1 =
     event 4 0 0 ∷ event 1 0 1 ∷ event 1 1 1 ∷ event 1 2 1 ∷ event 1 3 1 ∷ event 2 0 1
-    ∷ event 6 0 1 ∷ event 7 0 1 ∷ event 6 0 1 ∷ event 4 1 0 ∷ event 4 0 0 ∷ event 4 2 0
+    ∷ event 6 0 1 ∷ event 7 0 1 ∷ event 15 2 1 ∷ event 6 0 1 ∷ event 4 1 0 ∷ event 4 0 0 ∷ event 4 2 0
     ∷ []
 
 -- P3: a train leaves A for the block
@@ -69,7 +69,7 @@ cases bytes =
     let less = load (take 48 bytes) in
     -- P1: the answers
     same (numbers (answers (box L) cold p1))
-    (8 ∷ 0 ∷ 0 ∷ 0 ∷ 0 ∷ 0 ∷ 0 ∷ 0 ∷ 0 ∷ 0 ∷ 0 ∷ 0 ∷ 10 ∷ 1 ∷ 0 ∷ 0 ∷ 0 ∷ 0 ∷ 0 ∷ 0 ∷ 0 ∷ 0 ∷ 5 ∷ 1 ∷ [])
+    (8 ∷ 0 ∷ 0 ∷ 0 ∷ 0 ∷ 0 ∷ 0 ∷ 0 ∷ 0 ∷ 0 ∷ 0 ∷ 0 ∷ 10 ∷ 1 ∷ 0 ∷ 0 ∷ 0 ∷ 0 ∷ 0 ∷ 0 ∷ 0 ∷ 0 ∷ 0 ∷ 0 ∷ 5 ∷ 1 ∷ [])
     -- P2: the cold panel
     ∷ same (image L cold) coldPanel
     -- P3: route 0 is released, the line secured, the block held in stage 1

@@ -1,6 +1,7 @@
 -- Demand 3. From a cold start, after each event of any run on any accepted layout: no two conflicting routes are locked; a signal shows proceed into a
 -- block only if the line is secured its way, no other signal shows proceed into it, it reads free, and the free reading that ended its last spell of
--- not reading free (the cold start counts as one) closed a proved passage, or a manual release of its line was accepted since that spell. And besides: a
+-- not reading free (the cold start counts as one) closed a proved passage, or a manual release of its line was accepted since that spell. L3: a passage is
+-- proved once stop was lit on the far signal, by its lamp's latest report at the closing free reading, or what lies beyond was freed. And besides: a
 -- main signal shows proceed only for a locked route that starts at it and has all that keeps it there; the line of a locked exit route is secured its
 -- way, and a line shows a direction only where it is secured so. Told from the history: the events, their answers, and the bytes that showed.
 --

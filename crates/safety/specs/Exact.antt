@@ -10,7 +10,7 @@ use mathlib.Core.Logic.{_≢_, _⊎_, _↔_}
 use mathlib.Core.List.{List}
 use lib.Dec.{eqb}
 use Rattle.laws.specs.Choice.{if_then_else_}
-use Rattle.track.specs.Codes.{neutral, aToB, bToA, openBlock, stage1, stage2}
+use Rattle.track.specs.Codes.{neutral, aToB, bToA, openBlock, stage1, stage2, stage3}
 use Rattle.track.specs.Signal.{main, into}
 use Rattle.signals.specs.Aspects.{dark, stop}
 use Rattle.layout.specs.declared.Layout.{Layout}
@@ -21,7 +21,7 @@ use Rattle.panel.specs.Shown.{showsIdle, showsLocked, showsCancelling}
 use Rattle.panel.specs.Distants.{DistantsShow}
 use Rattle.safety.specs.History.{History, gaveBlock, sectionReads, shown, history}
 use Rattle.safety.specs.Locked.{Cancelled, Locked}
-use Rattle.safety.specs.Cleared.{Proceeds, Entered, Passage, Opened}
+use Rattle.safety.specs.Cleared.{Proceeds, Entered, Passage, Waits, Opened}
 use Rattle.safety.specs.Secured.{Secured}
 use Rattle.safety.specs.Lights.{position, MayEnter, Lit, AtProceed}
 
@@ -32,11 +32,13 @@ pub record BlockExact (L : Layout) (h : History) (l i : ℕ) : Type 0 where
   -- open: it reads free and was cleared
   pub opens : shown L h .block l i ≡ openBlock ↔ Opened L l i h
   -- stage 1 or 2: it was entered
-  pub enters : stage1 ≤ shown L h .block l i ↔ Entered (gaveBlock L l i) h
+  pub enters : (stage1 ≤ shown L h .block l i) × (shown L h .block l i ≤ stage2) ↔ Entered (gaveBlock L l i) h
   -- stage 2: it waits for the free reading that closes a passage
   pub passes : shown L h .block l i ≡ stage2 ↔ (w : ℕ) × Passage L l i w h
+  -- stage 3: that reading came, and it waits until what lies beyond it is freed (L3)
+  pub waits : shown L h .block l i ≡ stage3 ↔ (w : ℕ) × Waits L l i w h
   -- and there is nothing above that
-  pub most : shown L h .block l i ≤ stage2
+  pub most : shown L h .block l i ≤ stage3
 
 -- ---- lines (section 5)
 

@@ -7,13 +7,15 @@ use mathlib.Core.Path.{_≡_}
 use mathlib.Core.Logic.{_≢_, _⊎_, _↔_}
 use mathlib.Core.Bool.{true, false}
 use mathlib.Core.List.{List}
-use Rattle.track.specs.Codes.{free, left, right, exitRoute, neutral, aToB, bToA, leaving, readSection, readPoint, throwPoint, setRoute, cancelRoute, secureLine, releaseLine, barBlock, unbarBlock, oneSecond, axlesIn, axlesOut, headSilent, resetAxles}
+use Rattle.track.specs.Codes.{free, left, right, exitRoute, neutral, aToB, bToA, leaving, readSection, readPoint, throwPoint, setRoute, cancelRoute, secureLine, releaseLine, barBlock, unbarBlock, oneSecond, axlesIn, axlesOut, headSilent, resetAxles, reportLamp, lampNone}
+use Rattle.track.specs.Objects.{entrance}
+use Rattle.passage.specs.Passage.{arrival}
 use Rattle.layout.specs.declared.Layout.{Layout}
-use Rattle.layout.specs.Layout.{lineIn, routeIn, conflict, isFitted}
+use Rattle.layout.specs.Layout.{lineIn, routeIn, signalsIn, conflict, isFitted}
 use Rattle.fitted.specs.InUse.{InUse}
 use Rattle.axles.specs.HeadLog.{bothSpeak}
 use Rattle.step_facts.specs.Run.{Event}
-use Rattle.safety.specs.History.{Moment, History, headLog, blockReads, Throughout, history}
+use Rattle.safety.specs.History.{Moment, History, headLog, blockReads, lampTold, Throughout, history}
 use Rattle.safety.specs.Locked.{Cancelled, Locked}
 use Rattle.safety.specs.Cleared.{Opened}
 use Rattle.safety.specs.Secured.{Barred, Secured}
@@ -75,6 +77,8 @@ pub record MaySecure (L : Layout) (a b : ℕ) (h : History) : Type 0 where
   pub placed : LinePlaced L a h
   -- 10
   pub allOpen : (i : ℕ) → i < lineIn L a .blocks → Opened L a i h
+  -- 31: the lamp of the arrival entrance signal reports 1 or 2 (L3)
+  pub lamp : lampTold (entrance (lineIn L a) (arrival b)) h ≢ lampNone
 
 -- release line a by hand, on ground b
 pub record MayRelease (L : Layout) (a b : ℕ) (h : History) : Type 0 where
@@ -125,6 +129,10 @@ pub record MayReset (L : Layout) (a b : ℕ) (h : History) : Type 0 where
   -- 35
   pub speak : bothSpeak (headLog a h) ≡ true
 
+-- the lamp of signal a reports, with any code (L3): 2, by its number among main and block signals
+abbrev pub MayReport : Layout → ℕ → Type 0
+MayReport L a = a < signalsIn L
+
 -- there is block b of line a
 pub record BlockThere (L : Layout) (a b : ℕ) : Type 0 where
   -- 2
@@ -132,7 +140,7 @@ pub record BlockThere (L : Layout) (a b : ℕ) : Type 0 where
   -- 3
   pub block : b < lineIn L a .blocks
 
--- the event is of a kind that section 3's table or L1 has, and there is what it asks. Every other kind is refused by 1
+-- the event is of a kind that section 3's table, L1 or L3 has, and there is what it asks. Every other kind is refused by 1
 pub data Grants (L : Layout) (e : Event) (h : History) : Type 0 where
   -- readings, with any code; of a point 2
   section : e .kind ≡ readSection → MayRead L (e .first) → Grants L e h
@@ -152,6 +160,8 @@ pub data Grants (L : Layout) (e : Event) (h : History) : Type 0 where
   count : (e .kind ≡ axlesIn) ⊎ (e .kind ≡ axlesOut) → MayCount L (e .first) (e .second) → Grants L e h
   silence : e .kind ≡ headSilent → MaySilence L (e .first) (e .second) → Grants L e h
   reset : e .kind ≡ resetAxles → MayReset L (e .first) (e .second) h → Grants L e h
+  -- lamps (L3)
+  report : e .kind ≡ reportLamp → MayReport L (e .first) → Grants L e h
 
 -- ---- what is proved
 

@@ -1,6 +1,6 @@
 -- A run as an outsider with a log sees it: of each event its three numbers, the number and the detail of its answer, and the bytes of the panel image after
 -- it. What is told of a history looks at nothing else. What is given to a section is told from the layout and the events alone, whatever the box
--- answered: every code counts (section 1), and all that was said of its heads (L1).
+-- answered: every code counts (section 1), and all that was said of its heads (L1). So is what lamps report (L3).
 use Prim.Native.Nat.{ℕ}
 use mathlib.Core.Path.{_≡_}
 use mathlib.Core.Logic.{_≢_, _⊎_}
@@ -8,7 +8,7 @@ use mathlib.Core.List.{List, [], _∷_}
 use lib.Dec.{eqb, ltb}
 use Rattle.laws.specs.Choice.{if_then_else_}
 use Rattle.laws.specs.Tests.{_and_}
-use Rattle.track.specs.Codes.{free, occupied, readsNone, readSection, releaseLine, oneSecond}
+use Rattle.track.specs.Codes.{free, occupied, readsNone, readSection, releaseLine, oneSecond, reportLamp, lampStop, lampOther, lampNone}
 use Rattle.track.specs.Blocks.{jointReading}
 use Rattle.layout.specs.declared.Layout.{Layout}
 use Rattle.layout.specs.Layout.{lineIn, isFitted}
@@ -78,6 +78,17 @@ sectionReads L g h = reads (gaveSection L g) h
 
 abbrev pub blockReads : Layout → ℕ → ℕ → History → ℕ
 blockReads L l i h = reads (gaveBlock L l i) h
+
+-- ---- what lamps report (L3)
+
+-- the latest report of the lamp of signal x, by its number (L2): code 1 is stop lit, 2 another light lit, every other code none; none at the cold start. Every
+-- report of a signal that there is is accepted
+unfoldable pub lampTold : ℕ → History → ℕ
+lampTold x [] = lampNone
+lampTold x (m ∷ h) =
+    if eqb (m .event .kind) reportLamp and eqb (m .event .first) x then
+    (if eqb (m .event .second) 1 then lampStop else if eqb (m .event .second) 2 then lampOther else lampNone)
+    else lampTold x h
 
 -- ---- what showed, and what was done
 

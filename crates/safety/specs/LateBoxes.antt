@@ -17,13 +17,13 @@ use Rattle.passage.specs.Passage.{ownStage}
 use Rattle.layout.specs.declared.Layout.{Layout}
 use Rattle.layout.specs.Layout.{lineIn}
 use Rattle.interlocking.specs.State.{withPoints, withRoutes, withLines}
-use Rattle.interlocking.specs.Settle.{signals, farSections, routes, lineRelease}
+use Rattle.interlocking.specs.Settle.{signals, farSections, routes, arrivals, lineRelease}
 use Rattle.step_facts.specs.Run.{event}
 use Rattle.safety.specs.Cases.{p4}
 use Rattle.safety.specs.History.{History, sectionReads, shown}
 use Rattle.safety.specs.Lights.{position}
 use Rattle.safety.specs.Exact.{BlockExact, LineExact, RouteExact, MainSignalExact, BlockSignalExact}
-use Rattle.safety.specs.WrongBoxes.{Box, stepBy, refuses, does, readBy, readsBy, refusesNone, waits89}
+use Rattle.safety.specs.WrongBoxes.{Box, stepBy, refuses, does, readBy, stopLit, readsBy, refusesNone, waits89}
 use Rattle.safety.specs.WrongPanels.{litBy, neverLit}
 use Rattle.safety.specs.WrongRuns.{Run, readings, released, opened, letOut, gone, onT, drawnBy, broughtBack, overlapKept, wronglyEnded}
 
@@ -33,21 +33,21 @@ use Rattle.safety.specs.WrongRuns.{Run, readings, released, opened, letO
 abbrev throwsBlindly : Box
 throwsBlindly =
     stepBy refuses (λ L s e. if eqb (e .kind) throwPoint then withPoints (does L s e) (s .point) (does L s e .order) else does L s e)
-    signals farSections routes lineRelease
+    signals farSections routes arrivals lineRelease
 
 -- ---- blocks
 
 -- occupied leaves a block in stage 0
 abbrev neverEnters : Box
-neverEnters = readsBy (λ v was. if eqb v occupied then stage0 else ownStage v was)
+neverEnters = readsBy (λ v lit was. if eqb v occupied then stage0 else ownStage v lit was)
 
 -- far sections are left out
 abbrev neverPasses : Box
-neverPasses = stepBy refuses does signals (λ L before s. s) routes lineRelease
+neverPasses = stepBy refuses does signals (λ L before s. s) routes arrivals lineRelease
 
 -- the free reading that closes a passage opens nothing
 abbrev neverOpens : Box
-neverOpens = readsBy (λ v was. if eqb v free and eqb was stage2 then stage0 else ownStage v was)
+neverOpens = readsBy (λ v lit was. if eqb v free and eqb was stage2 then stage0 else ownStage v lit was)
 
 -- the block opens with the next second only
 abbrev opensLate : Box
@@ -55,26 +55,26 @@ opensLate =
     stepBy refuses (λ L s e. if eqb (e .kind) oneSecond then withLines (does L s e) (s .direction)
     (each (mostBlocks * L .lines) (λ k was.
     if eqb was stage2 and eqb (blockReading (s .section) (line (L .line) (k / mostBlocks)) (k % mostBlocks)) free then openBlock else was) (s .stage))
-    else readBy (λ v was. if eqb v free and eqb was stage2 then stage2 else ownStage v was) L s e)
-    signals farSections routes lineRelease
+    else readBy stopLit (λ v lit was. if eqb v free and eqb was stage2 then stage2 else ownStage v lit was) L s e)
+    signals farSections routes arrivals lineRelease
 
 -- a manual release makes the line neutral and opens nothing
 abbrev handOpensNothing : Box
 handOpensNothing =
     stepBy refuses (λ L s e. if eqb (e .kind) releaseLine then withLines s (put mostLines (s .direction) (e .first) neutral) (s .stage) else does L s e)
-    signals farSections routes lineRelease
+    signals farSections routes arrivals lineRelease
 
 -- ---- routes and signals
 
 -- a route is never let go
 abbrev neverLetsGo : Box
-neverLetsGo = stepBy refuses does signals farSections (λ L s g. s) lineRelease
+neverLetsGo = stepBy refuses does signals farSections (λ L s g. s) arrivals lineRelease
 
 -- the signal of a route that is set stays at stop
 abbrev neverClears : Box
 neverClears =
     stepBy refuses (λ L s e. if eqb (e .kind) setRoute then withRoutes (does L s e) (put mostRoutes (s .phase) (e .first) atStop) (s .steps) (s .seconds) else does L s e)
-    signals farSections routes lineRelease
+    signals farSections routes arrivals lineRelease
 
 -- ---- what is not exact
 

@@ -25,4 +25,5 @@ pub mod Only
 pub mod OnlyEvents
 pub mod WrongGrants
 pub mod WrongHeads
+pub mod WrongLamps
 pub mod WrongDistants

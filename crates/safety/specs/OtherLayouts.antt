@@ -65,6 +65,18 @@ twoExits =
     ∷ 1 ∷ 0 ∷ 1
     ∷ []
 
+-- one line of one block, section 1; route 0 goes out at A, route 1 in at B by 2 and 3, route 2 in at A by 0 and 4, and 0 and 2 conflict (L3)
+abbrev pub bothEnds : List ℕ
+bothEnds =
+    1 ∷ 5 ∷ 0 ∷ 3 ∷ 1
+    ∷ 1 ∷ 1 ∷ 0 ∷ 2 ∷ 1 ∷ 2 ∷ 0
+    ∷ 3
+    ∷ 0 ∷ 2 ∷ 0 ∷ 0 ∷ 0 ∷ 1 ∷ 0 ∷ 0 ∷ 0
+    ∷ 2 ∷ 1 ∷ 0 ∷ 1 ∷ 0 ∷ 2 ∷ 2 ∷ 3 ∷ 0 ∷ 0
+    ∷ 1 ∷ 1 ∷ 0 ∷ 0 ∷ 0 ∷ 2 ∷ 0 ∷ 4 ∷ 0 ∷ 0
+    ∷ 1 ∷ 0 ∷ 2
+    ∷ []
+
 -- one line of one block, section 1; route 0 goes out at A, route 1 in at B by 2 and 3, with section 4 as its overlap
 abbrev pub withOverlap : List ℕ
 withOverlap =

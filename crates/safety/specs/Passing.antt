@@ -1,23 +1,28 @@
 -- It lets trains pass, on every layout in use and from every state that a run reaches: a train that is in a block, in stage 1, with its far signal at
--- proceed clears the block by going on: its far section is given occupied, and later the block free. Beside the demands of document 01.
+-- proceed clears the block by going on: its far section is given occupied, and later the block free, while the far signal's lamp reports stop (L3). Where it
+-- does not, the block waits until what lies beyond it is freed. Beside the demands of document 01.
 --
 -- Read as `Demand3` says.
 use Prim.Native.Nat.{ℕ, _+_, _*_, _<_, _≤_}
 use mathlib.Core.Path.{_≡_}
-use mathlib.Core.Logic.{_≢_}
+use mathlib.Core.Logic.{_≢_, _⊎_}
 use mathlib.Core.Bool.{true, false}
 use mathlib.Core.List.{List, [], _∷_, _++_}
 use lib.Signed.{mag}
-use Rattle.track.specs.Codes.{free, occupied, readsNone, neutral, openBlock, stage1, readSection, axlesIn, axlesOut}
+use Rattle.track.specs.Codes.{free, occupied, readsNone, neutral, entranceRoute, openBlock, stage1, stage3, readSection, axlesIn, axlesOut}
 use Rattle.track.specs.Blocks.{onlySection}
 use Rattle.axles.specs.HeadLog.{HeadLog, lastTold, numberTold}
 use Rattle.axles.specs.Since.{rolled}
 use Rattle.layout.specs.declared.Layout.{Layout}
-use Rattle.layout.specs.Layout.{isFitted, lineIn}
+use Rattle.passage.specs.declared.Beyond.{Beyond}
+use Rattle.passage.specs.declared.Beyond.the-variants.{Block, Station}
+use Rattle.passage.specs.Passage.{beyond, fromArrival}
+use Rattle.layout.specs.Layout.{isFitted, lineIn, routeIn}
+use Rattle.panel.specs.Shown.{Panel, showsIdle}
 use Rattle.fitted.specs.InUse.{InUse}
 use Rattle.step_facts.specs.Run.{Event, event, box, fromCold}
 use Rattle.safety.specs.History.{Moment, headLog, gaveSection, gaveBlock, shown, moment, history}
-use Rattle.safety.specs.Cleared.{farSection, farSignal, Proceeds, Stays}
+use Rattle.safety.specs.Cleared.{farSection, farSignal, Proceeds, Stays, StopLit, FreesBeyond}
 
 -- ---- a train in a block
 
@@ -47,17 +52,45 @@ GoingOut L l i w es (e ∷ more) =
 
 -- ---- whatever the events are
 
--- on layout L: an event that gives the far section occupied, any events while the train goes out, and one that gives the block free open the block
+-- on layout L: an event that gives the far section occupied, any events while the train goes out, after which the far signal's lamp reports stop (L3), and one
+-- that gives the block free open the block
 abbrev pub PassesOn : Layout → Type 0
 PassesOn L =
     (es more : List Event) (l i w : ℕ) (e f : Event) → MayGoOn L es l i w
     → GivesNext L es e (farSection L l i w) occupied → GoingOut L l i w (es ++ (e ∷ [])) more
+    → StopLit L l i w (history L ((es ++ (e ∷ [])) ++ more))
     → GivesNext L ((es ++ (e ∷ [])) ++ more) f (onlySection (lineIn L l) i) free
     → shown L (history L (((es ++ (e ∷ [])) ++ more) ++ (f ∷ []))) .block l i ≡ openBlock
 
+-- where the lamp does not report stop, the block waits in stage 3, or opens because the same event frees what lies beyond it (L3)
+abbrev pub WaitsOn : Layout → Type 0
+WaitsOn L =
+    (es more : List Event) (l i w : ℕ) (e f : Event) → MayGoOn L es l i w
+    → GivesNext L es e (farSection L l i w) occupied → GoingOut L l i w (es ++ (e ∷ [])) more
+    → ¬ StopLit L l i w (history L ((es ++ (e ∷ [])) ++ more))
+    → GivesNext L ((es ++ (e ∷ [])) ++ more) f (onlySection (lineIn L l) i) free
+    → (shown L (history L (((es ++ (e ∷ [])) ++ more) ++ (f ∷ []))) .block l i ≡ stage3)
+    ⊎ ((shown L (history L (((es ++ (e ∷ [])) ++ more) ++ (f ∷ []))) .block l i ≡ openBlock)
+    × FreesBeyond L l w (fromArrival (lineIn L l) w i) (next L ((es ++ (e ∷ [])) ++ more) f) (history L ((es ++ (e ∷ [])) ++ more)))
+
+-- what lies beyond a block, by what shows before an event and after it, is freed: the next block opens, or an entrance route of the station there goes
+unfoldable pub FreedNext : Layout → ℕ → Panel → Panel → Beyond → Type 0
+FreedNext L l before after (Block j) = (before .block l j ≢ openBlock) × (after .block l j ≡ openBlock)
+FreedNext L l before after (Station end) =
+    (r : ℕ) × (r < L .routes) × (routeIn L r .kind ≡ entranceRoute) × (routeIn L r .line ≡ l) × (routeIn L r .end ≡ end)
+    × (before .route r ≢ showsIdle) × (after .route r ≡ showsIdle)
+
+-- a block that waits opens with the event that frees what lies beyond it (L3); one that gives the block itself a reading gives it free
+abbrev pub PassesBack : Layout → Type 0
+PassesBack L =
+    (es : List Event) (l i w : ℕ) (e : Event) → l < L .lines → i < lineIn L l .blocks → shown L (history L es) .block l i ≡ stage3
+    → shown L (history L es) .line l ≡ w → gaveBlock L l i (next L es e) (history L es) ≢ occupied → gaveBlock L l i (next L es e) (history L es) ≢ readsNone
+    → FreedNext L l (shown L (history L es)) (shown L (history L (es ++ (e ∷ [])))) (beyond (lineIn L l) i w)
+    → shown L (history L (es ++ (e ∷ []))) .block l i ≡ openBlock
+
 -- so on every layout in use
 abbrev pub TrainsPass : Type 0
-TrainsPass = (L : Layout) → InUse L → PassesOn L
+TrainsPass = (L : Layout) → InUse L → PassesOn L × WaitsOn L × PassesBack L
 
 -- ---- by readings and counts
 
@@ -82,7 +115,7 @@ pub data Leaves (L : Layout) (es : List Event) (g : ℕ) : Event → Type 0 wher
 abbrev pub PassByCounts : Type 0
 PassByCounts =
     (L : Layout) → InUse L → (es more : List Event) (l i w : ℕ) (e f : Event) → MayGoOn L es l i w
-    → Arrives L es (farSection L l i w) e → GoingOut L l i w (es ++ (e ∷ [])) more → Leaves L ((es ++ (e ∷ [])) ++ more) (onlySection (lineIn L l) i) f
+    → Arrives L es (farSection L l i w) e → GoingOut L l i w (es ++ (e ∷ [])) more → StopLit L l i w (history L ((es ++ (e ∷ [])) ++ more)) → Leaves L ((es ++ (e ∷ [])) ++ more) (onlySection (lineIn L l) i) f
     → shown L (history L (((es ++ (e ∷ [])) ++ more) ++ (f ∷ []))) .block l i ≡ openBlock
 
 -- so by two readings where neither section has heads
@@ -91,5 +124,6 @@ PassByReadings =
     (L : Layout) → InUse L → (es more : List Event) (l i w : ℕ) → MayGoOn L es l i w
     → isFitted L (farSection L l i w) ≡ false → isFitted L (onlySection (lineIn L l) i) ≡ false
     → GoingOut L l i w (es ++ (event readSection (farSection L l i w) occupied ∷ [])) more
+    → StopLit L l i w (history L ((es ++ (event readSection (farSection L l i w) occupied ∷ [])) ++ more))
     → shown L (history L (((es ++ (event readSection (farSection L l i w) occupied ∷ [])) ++ more) ++ (event readSection (onlySection (lineIn L l) i) free ∷ []))) .block l i
     ≡ openBlock

@@ -12,7 +12,7 @@ use Rattle.layout.specs.Layout.{lineIn, routeIn}
 use Rattle.layout_facts.specs.Plain.{nearestBlock}
 use Rattle.safety.specs.History.{Moment, History, Accepted, Releases, Came, Since}
 use Rattle.safety.specs.Locked.{Locked}
-use Rattle.safety.specs.Cleared.{Closes, Opened}
+use Rattle.safety.specs.Cleared.{Completed, Opened}
 
 -- block i of line l is barred: a bar of it came, and no unbar since
 abbrev pub Barred : ℕ → ℕ → History → Type 0
@@ -22,11 +22,12 @@ Barred l i h = Since (λ m older. Came barBlock l i m) (λ m older. ¬ Came unba
 abbrev pub lastBlock : Layout → ℕ → ℕ → ℕ
 lastBlock L l w = nearestBlock L l (arrival w)
 
--- "When the last block in travel goes from 2 to open, the line becomes neutral if every block is open, no exit route of the line is locked and no block
--- is barred": the event m, line l secured in direction w
+-- "When the last block in travel goes from 2 to open" (L3: or from 3), "the line becomes neutral if every block is open, no exit route of the line is locked
+-- and no block is barred": the event m, line l secured in direction w
 pub record LineEnds (L : Layout) (l w : ℕ) (m : Moment) (older : History) : Type 0 where
-  -- the event closed a passage of the last block in travel
-  pub closes : Closes L l (lastBlock L l w) w m older
+  -- the last block in travel was not open, and the event completed its passage
+  pub held : ¬ Opened L l (lastBlock L l w) older
+  pub completes : Completed L l (lastBlock L l w) w m older
   -- every block is open after it
   pub allOpen : (i : ℕ) → i < lineIn L l .blocks → Opened L l i (m ∷ older)
   -- no exit route of the line is locked after it

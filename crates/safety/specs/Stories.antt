@@ -17,7 +17,7 @@ use Rattle.fitted.specs.InUse.{InUse}
 use Rattle.step_facts.specs.Run.{Event}
 use Rattle.safety.specs.History.{Moment, History, nothing, gaveSection, gaveBlock, sectionReads, shown, Accepted, Releases, Since, Throughout, LeavesFree, history}
 use Rattle.safety.specs.Locked.{Locked}
-use Rattle.safety.specs.Cleared.{Proceeds, Closes}
+use Rattle.safety.specs.Cleared.{Proceeds, Completed}
 use Rattle.safety.specs.Secured.{Secured}
 use Rattle.safety.specs.Demand3.{Enters}
 
@@ -53,7 +53,7 @@ Falls L m h = (g : ℕ) → gaveSection L g m h ≢ nothing → gaveSection L g 
 -- whatever else is given: a block that shows open was opened by a passage or by hand, and has read free since, so after the last none that it was given
 abbrev pub OpenedSince : Layout → ℕ → ℕ → History → Type 0
 OpenedSince L l i h =
-    Since (λ m older. ((w : ℕ) × Closes L l i w m older) ⊎ (Releases l m × LeavesFree (gaveBlock L l i) m older)) (LeavesFree (gaveBlock L l i)) h
+    Since (λ m older. ((w : ℕ) × Completed L l i w m older) ⊎ (Releases l m × LeavesFree (gaveBlock L l i) m older)) (LeavesFree (gaveBlock L l i)) h
 
 abbrev pub OpensCleared : Layout → Moment → History → Type 0
 OpensCleared L m h = (l i : ℕ) → l < L .lines → i < lineIn L l .blocks → shown L (m ∷ h) .block l i ≡ openBlock → OpenedSince L l i (m ∷ h)

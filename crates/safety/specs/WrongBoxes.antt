@@ -1,10 +1,10 @@
 -- Boxes that are wrong in one thing, for demand 3 to refuse: the step of a run with one of its parts done another way, as an error that looks reasonable
 -- would (section 9), or with one guard left out. `proofs/WrongBoxes` proves that with the step's own parts they are the step of a run, so each differs from
 -- it in that alone; `WrongRuns` has a run of each that shows it. `WrongOrders` has the boxes that are wrong in what they refuse of an order, `WrongHeads` those
--- that are wrong in axle counters.
+-- that are wrong in axle counters, `WrongLamps` those that are wrong in lamps and stage 3.
 use Prim.Native.Nat.{ℕ, _*_, _/_, _%_}
 use mathlib.Core.Bool.{Bool, true, false, not}
-use mathlib.Core.List.{[], _∷_}
+use mathlib.Core.List.{List, [], _∷_}
 use lib.Dec.{eqb}
 use lib.ListN.{replicate}
 use Rattle.laws.specs.Choice.{if_then_else_}
@@ -14,24 +14,26 @@ use Rattle.track.specs.Codes.{free, occupied, readsNone, exitRoute, neutral, aT
 use Rattle.track.specs.Sizes.{mostSections, mostBlocks, mostPlaces, mostTrainRoutes}
 use Rattle.track.specs.Objects.{line, route}
 use Rattle.tables.specs.Readings.{recorded, allFree}
-use Rattle.tables.specs.Blocks.{isOpen, unbarred}
+use Rattle.tables.specs.Blocks.{stageOf, isOpen, unbarred}
 use Rattle.passage.specs.Passage.{ownStage, farStage}
 use Rattle.tables.specs.declared.Gives.{Gives}
 use Rattle.layout.specs.declared.Layout.{Layout}
 use Rattle.reasons.specs.declared.Refusal.{Refusal}
 use Rattle.reasons.specs.Refusal.{refusedIf, firstOf}
 use Rattle.tables.specs.Locks.{direction, phase, lockedExit}
-use Rattle.line_block.specs.LineRelease.{lastBlock, passable, wasInStage2, directionAfter}
+use Rattle.lamps.specs.Lamps.{farStopLit}
+use Rattle.line_block.specs.OwnReadings.{ownGiven}
+use Rattle.line_block.specs.PassingBack.{goesOpen, noArrival, passedBack}
+use Rattle.line_block.specs.LineRelease.{lastBlock, passable, wasPassed, directionAfter}
 use Rattle.interlocking.specs.declared.State.{State}
 use Rattle.interlocking.specs.declared.Answer.{Answer}
 use Rattle.interlocking.specs.State.{cold, withSections, withRoutes, withLines}
-use Rattle.interlocking.specs.Own.{ownGiven}
-use Rattle.interlocking.specs.Settle.{signals, farSections, routes, lineRelease}
+use Rattle.interlocking.specs.Settle.{signals, farSections, routes, arrivals, lineRelease}
 use Rattle.interlocking.specs.Step.{askedInRun, refusal, own, gives}
 use Rattle.step_facts.specs.Run.{Event}
 use Rattle.step_facts.specs.FarInState.{farReading, farProceeds, farDropped}
 
--- ---- a step from its parts: what is refused; what the event does itself; then signals, far sections, routes, line release (section 5)
+-- ---- a step from its parts: what is refused; what the event does itself; then signals, far sections, routes, blocks that wait (L3), line release (section 5)
 
 -- a box: in each state, for each event, an answer with the next state
 abbrev pub Box : Type 0
@@ -45,9 +47,9 @@ answersBy refuse next L s e =
 
 -- which is made by one part after the other
 abbrev pub stepBy : (Layout → State → Event → Refusal) → (Layout → State → Event → State) → (Layout → State → State) → (Layout → State → State → State)
-    → (Layout → State → Gives → State) → (Layout → State → State → State) → Box
-stepBy refuse act light move free end =
-    answersBy refuse (λ L s e. end L s (free L (move L s (light L (act L s e))) (gives L s (e .kind) (e .first) (e .second))))
+    → (Layout → State → Gives → State) → (Layout → State → State → State) → (Layout → State → State → State) → Box
+stepBy refuse act light move free arrive end =
+    answersBy refuse (λ L s e. end L s (arrive L s (free L (move L s (light L (act L s e))) (gives L s (e .kind) (e .first) (e .second)))))
 
 -- what is refused, soundness being asked before the first event
 abbrev pub refuses : Layout → State → Event → Refusal
@@ -61,7 +63,7 @@ does L s e = own L s (e .kind) (e .first) (e .second)
 
 -- section 9: code 0 is refused, and the stored reading kept
 abbrev pub refusesNone : Box
-refusesNone = stepBy (λ L s e. firstOf (refusedIf (eqb (e .kind) readSection and eqb (e .second) 0) 3 0 ∷ refuses L s e ∷ [])) does signals farSections routes lineRelease
+refusesNone = stepBy (λ L s e. firstOf (refusedIf (eqb (e .kind) readSection and eqb (e .second) 0) 3 0 ∷ refuses L s e ∷ [])) does signals farSections routes arrivals lineRelease
 
 -- ---- a block's own reading
 
@@ -69,32 +71,43 @@ refusesNone = stepBy (λ L s e. firstOf (refusedIf (eqb (e .kind) readSection an
 abbrev pub givenBy : Event → Gives
 givenBy e = record { section = e .first; reading = recorded (e .second); tick = 0 }
 
--- what an event does itself, where a reading takes a block from stage to stage by this
-abbrev pub readBy : (ℕ → ℕ → ℕ) → Layout → State → Event → State
-readBy stage L s e =
+-- the stages of all blocks by what a reading gives them: where the far signal's lamp of a block counts as at stop (L3) by the test, the stage of the block
+-- becomes this
+abbrev stagesBy : (Layout → State → ℕ → ℕ → Bool) → (ℕ → Bool → ℕ → ℕ) → Layout → State → Event → List ℕ
+stagesBy lit stage L s e =
+    each (mostBlocks * L .lines)
+    (λ k was. stage (ownGiven (givenBy e) (line (L .line) (k / mostBlocks)) (k % mostBlocks)) (lit L s (k / mostBlocks) (k % mostBlocks)) was) (s .stage)
+
+-- what an event does itself, where a reading takes blocks so from stage to stage; an opening passes back
+abbrev pub readBy : (Layout → State → ℕ → ℕ → Bool) → (ℕ → Bool → ℕ → ℕ) → Layout → State → Event → State
+readBy lit stage L s e =
     if eqb (e .kind) readSection then withSections (does L s e) (does L s e .section)
-    (each (mostBlocks * L .lines) (λ k was. stage (ownGiven (givenBy e) (line (L .line) (k / mostBlocks)) (k % mostBlocks)) was) (s .stage))
+    (passedBack (L .lines) (L .line) (s .direction) (goesOpen (s .stage) (stagesBy lit stage L s e)) noArrival (stagesBy lit stage L s e))
     else does L s e
 
+-- that lamp reports stop
+abbrev pub stopLit : Layout → State → ℕ → ℕ → Bool
+stopLit L s l i = farStopLit (L .signals) (L .line) (s .lamp) l i (direction (s .direction) l)
+
 -- the box that reads so
-abbrev pub readsBy : (ℕ → ℕ → ℕ) → Box
-readsBy stage = stepBy refuses (readBy stage) signals farSections routes lineRelease
+abbrev pub readsBy : (ℕ → Bool → ℕ → ℕ) → Box
+readsBy stage = stepBy refuses (readBy stopLit stage) signals farSections routes arrivals lineRelease
 
 -- section 9: a block opens because it reads free again
 abbrev pub opensFree : Box
-opensFree = readsBy (λ v was. if eqb v free then openBlock else ownStage v was)
+opensFree = readsBy (λ v lit was. if eqb v free then openBlock else ownStage v lit was)
 
 -- section 5: none of the block is passed over, so that a passage is counted with a none between
 abbrev pub passesNone : Box
-passesNone = readsBy (λ v was. if eqb v readsNone then was else ownStage v was)
+passesNone = readsBy (λ v lit was. if eqb v readsNone then was else ownStage v lit was)
 
 -- none is taken as occupied
 abbrev pub takesNone : Box
-takesNone = readsBy (λ v was. ownStage (if eqb v readsNone then occupied else v) was)
+takesNone = readsBy (λ v lit was. ownStage (if eqb v readsNone then occupied else v) lit was)
 
 -- free leaves stage 1 as it is
 abbrev pub keepsStage1 : Box
-keepsStage1 = readsBy (λ v was. if eqb v free and eqb was stage1 then stage1 else ownStage v was)
+keepsStage1 = readsBy (λ v lit was. if eqb v free and eqb was stage1 then stage1 else ownStage v lit was)
 
 -- ---- far sections (section 5)
 
@@ -106,7 +119,7 @@ moveBy way stage L before s =
 
 -- the box that moves its blocks so
 abbrev movesBy : (State → ℕ → ℕ) → (Layout → State → State → ℕ → ℕ → ℕ → ℕ → ℕ) → Box
-movesBy way stage = stepBy refuses does signals (moveBy way stage) routes lineRelease
+movesBy way stage = stepBy refuses does signals (moveBy way stage) routes arrivals lineRelease
 
 -- the direction that the line is secured in
 abbrev pub secured : State → ℕ → ℕ
@@ -134,17 +147,21 @@ asksNoEntry = movesBy secured (λ L before s l i w was.
     if eqb was stage0 and eqb (farStage (farReading L s l i w) (farDropped L before s l i w) stage1) stage2 then stage2
     else farStage (farReading L s l i w) (farDropped L before s l i w) was)
 
--- in neutral the far section is that of A to B
+-- the direction that a line is secured in, and A to B in neutral
+abbrev upInNeutral : State → ℕ → ℕ
+upInNeutral s l = if eqb (secured s l) neutral then aToB else secured s l
+
+-- in neutral far section and far signal are those of A to B
 abbrev pub movesInNeutral : Box
 movesInNeutral =
-    movesBy (λ s l. if eqb (secured s l) neutral then aToB else secured s l)
-    (λ L before s l i w was. farStage (farReading L s l i w) (farDropped L before s l i w) was)
+    stepBy refuses (readBy (λ L s l i. farStopLit (L .signals) (L .line) (s .lamp) l i (upInNeutral s l)) ownStage) signals
+    (moveBy upInNeutral (λ L before s l i w was. farStage (farReading L s l i w) (farDropped L before s l i w) was)) routes arrivals lineRelease
 
 -- ---- signals and manual release
 
 -- section 4: a signal never falls
 abbrev pub neverFalls : Box
-neverFalls = stepBy refuses does (λ L s. s) farSections routes lineRelease
+neverFalls = stepBy refuses does (λ L s. s) farSections routes arrivals lineRelease
 
 -- every fallen exit signal is at proceed again
 abbrev raised : Layout → State → State
@@ -153,19 +170,19 @@ raised L s =
 
 -- section 9: a cleared bar brings back a fallen exit signal, where it has all that keeps it at proceed
 abbrev pub bringsBack : Box
-bringsBack = stepBy refuses (λ L s e. if eqb (e .kind) unbarBlock then raised L (does L s e) else does L s e) signals farSections routes lineRelease
+bringsBack = stepBy refuses (λ L s e. if eqb (e .kind) unbarBlock then raised L (does L s e) else does L s e) signals farSections routes arrivals lineRelease
 
 -- section 3: a manual release opens the blocks of every line
 abbrev pub releasesAll : Box
 releasesAll =
     stepBy refuses (λ L s e. if eqb (e .kind) releaseLine then withLines (does L s e) (does L s e .direction) (replicate mostPlaces openBlock) else does L s e)
-    signals farSections routes lineRelease
+    signals farSections routes arrivals lineRelease
 
 -- ---- letting a route go (section 6)
 
 -- cancel is granted, and the signal stays as it is
 abbrev pub neverCancels : Box
-neverCancels = stepBy refuses (λ L s e. if eqb (e .kind) cancelRoute then s else does L s e) signals farSections routes lineRelease
+neverCancels = stepBy refuses (λ L s e. if eqb (e .kind) cancelRoute then s else does L s e) signals farSections routes arrivals lineRelease
 
 -- route r has waited one second
 abbrev counted : State → ℕ → State
@@ -173,13 +190,13 @@ counted s r = withRoutes s (s .phase) (s .steps) (put mostTrainRoutes (s .second
 
 -- section 9: the cancel wait ends at 89: the cancel counts as a second
 abbrev pub waits89 : Box
-waits89 = stepBy refuses (λ L s e. if eqb (e .kind) cancelRoute then counted (does L s e) (e .first) else does L s e) signals farSections routes lineRelease
+waits89 = stepBy refuses (λ L s e. if eqb (e .kind) cancelRoute then counted (does L s e) (e .first) else does L s e) signals farSections routes arrivals lineRelease
 
 -- the second step is not asked: a route that has done the first goes on as from the second
 abbrev pub asksNoSecond : Box
 asksNoSecond =
     stepBy refuses does signals farSections
-    (λ L s g. routes L (withRoutes s (s .phase) (each (L .routes) (λ r was. if eqb was 1 then 2 else was) (s .steps)) (s .seconds)) g) lineRelease
+    (λ L s g. routes L (withRoutes s (s .phase) (each (L .routes) (λ r was. if eqb was 1 then 2 else was) (s .steps)) (s .seconds)) g) arrivals lineRelease
 
 -- the overlap of route r reads free
 abbrev overlapFree : Layout → State → ℕ → Bool
@@ -190,7 +207,7 @@ abbrev pub keepsOverlap : Box
 keepsOverlap =
     stepBy refuses does signals farSections
     (λ L s g. withRoutes s (each (L .routes) (λ r was. if overlapFree L s r then phase (routes L s g .phase) r else was) (s .phase)) (routes L s g .steps) (routes L s g .seconds))
-    lineRelease
+    arrivals lineRelease
 
 -- ---- line release (section 5)
 
@@ -201,7 +218,7 @@ endBy ended L before s =
 
 -- the box that releases lines so
 abbrev endsWhere : (Layout → State → State → ℕ → ℕ → Bool) → Box
-endsWhere ended = stepBy refuses does signals farSections routes (endBy ended)
+endsWhere ended = stepBy refuses does signals farSections routes arrivals (endBy ended)
 
 -- no exit route of the line is locked
 abbrev unlocked : Layout → State → ℕ → Bool
@@ -213,13 +230,13 @@ neverEnds = endsWhere (λ L before s l w. false)
 
 -- a locked exit route is not asked
 abbrev pub endsLocked : Box
-endsLocked = endsWhere (λ L before s l w. wasInStage2 (before .stage) (line (L .line) l) l w and allBelow (line (L .line) l .blocks) (passable (s .stage) (s .bar) l))
+endsLocked = endsWhere (λ L before s l w. wasPassed (before .stage) (line (L .line) l) l w and allBelow (line (L .line) l .blocks) (passable (s .stage) (s .bar) l))
 
 -- a held block is not asked, but for the last in travel
 abbrev pub endsHeld : Box
 endsHeld =
     endsWhere (λ L before s l w. every (
-    wasInStage2 (before .stage) (line (L .line) l) l w
+    wasPassed (before .stage) (line (L .line) l) l w
     ∷ isOpen (s .stage) l (lastBlock (line (L .line) l) w)
     ∷ allBelow (line (L .line) l .blocks) (unbarred (s .bar) l)
     ∷ unlocked L s l
@@ -228,11 +245,20 @@ endsHeld =
 -- a bar is not asked
 abbrev pub endsBarred : Box
 endsBarred =
-    endsWhere (λ L before s l w. every (wasInStage2 (before .stage) (line (L .line) l) l w ∷ allBelow (line (L .line) l .blocks) (isOpen (s .stage) l) ∷ unlocked L s l ∷ []))
+    endsWhere (λ L before s l w. every (wasPassed (before .stage) (line (L .line) l) l w ∷ allBelow (line (L .line) l .blocks) (isOpen (s .stage) l) ∷ unlocked L s l ∷ []))
 
--- it is not asked that the last block in travel went from stage 2 to open
+-- it is not asked that the last block in travel went from stage 2 or 3 to open
 abbrev pub endsUnpassed : Box
 endsUnpassed = endsWhere (λ L before s l w. allBelow (line (L .line) l .blocks) (passable (s .stage) (s .bar) l) and unlocked L s l)
+
+-- a last block that opens from stage 3 does not count (L3)
+abbrev pub endsFromStage2 : Box
+endsFromStage2 =
+    endsWhere (λ L before s l w. every (
+    eqb (stageOf (before .stage) l (lastBlock (line (L .line) l) w)) stage2
+    ∷ allBelow (line (L .line) l .blocks) (passable (s .stage) (s .bar) l)
+    ∷ unlocked L s l
+    ∷ []))
 
 -- ---- the cold start (sections 1 and 5)
 

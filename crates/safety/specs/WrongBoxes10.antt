@@ -60,13 +60,13 @@ unlikeAt look n (a ∷ rest) (b ∷ bs) = if same (look a) (look b) then unlikeA
 
 -- ---- the runs, on branch T from the cold start
 
--- the events of P1, P3 and P4: P3 ends with event 15, P4 with event 18
+-- the events of P1, P3 and P4: P3 ends with event 16, P4 with event 19
 abbrev pub p1to4 : List Event
 p1to4 = p1 ++ (p3 ++ p4)
 
 -- the numbers of all these events but the first
 abbrev afterTheFirst : List ℕ
-afterTheFirst = 2 ∷ 3 ∷ 4 ∷ 5 ∷ 6 ∷ 7 ∷ 8 ∷ 9 ∷ 10 ∷ 11 ∷ 12 ∷ 13 ∷ 14 ∷ 15 ∷ 16 ∷ 17 ∷ 18 ∷ []
+afterTheFirst = 2 ∷ 3 ∷ 4 ∷ 5 ∷ 6 ∷ 7 ∷ 8 ∷ 9 ∷ 10 ∷ 11 ∷ 12 ∷ 13 ∷ 14 ∷ 15 ∷ 16 ∷ 17 ∷ 18 ∷ 19 ∷ []
 
 -- the answers of the box
 abbrev pub ofBox : List Event → List Answer
@@ -75,10 +75,10 @@ ofBox es = answers (box layoutT) cold es
 -- where each of the four is unlike the box, against what section 10 says
 abbrev pub rejected : List Bool
 rejected =
-    -- every order refused: P1 events 8 to 11 are granted
-    same (unlikeAt granted 1 (answers (refusesOrders layoutT) cold p1) (ofBox p1)) (8 ∷ 9 ∷ 10 ∷ 11 ∷ [])
-    -- 0 always: P1 events 1, 7, 12
-    ∷ same (unlikeAt said 1 (answers (answersZero layoutT) cold p1) (ofBox p1)) (1 ∷ 7 ∷ 12 ∷ [])
+    -- every order refused: P1's orders from the eighth event to the last but one are granted; the ninth is a lamp's report (L3)
+    same (unlikeAt granted 1 (answers (refusesOrders layoutT) cold p1) (ofBox p1)) (8 ∷ 10 ∷ 11 ∷ 12 ∷ [])
+    -- 0 always: P1 events 1, 7, 13
+    ∷ same (unlikeAt said 1 (answers (answersZero layoutT) cold p1) (ofBox p1)) (1 ∷ 7 ∷ 13 ∷ [])
     -- the state never moves: P3 and P4, and all before them but the first event, which the box refuses
     ∷ same (unlikeAt panelAfter 1 (answers (neverMoves layoutT) cold p1to4) (ofBox p1to4)) afterTheFirst
     -- the first event only: each event after it

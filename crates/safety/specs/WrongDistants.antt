@@ -148,7 +148,7 @@ late events = record { layout = load withDistants .layout; history = lately (loa
 
 -- the line secured from B to A
 abbrev turned : List Event
-turned = released ++ (event 6 0 2 ∷ [])
+turned = released ++ (event 15 1 1 ∷ event 6 0 2 ∷ [])
 
 -- on `threeAndTwo` both lines released by hand
 abbrev bothReleased : List Event
@@ -167,9 +167,9 @@ misleading permissive =
     -- the signal A to B is lit, and the one B to A announced
     ∷ drawn everyBlock opened
     -- of three blocks the first is barred: the signal into it is announced, and the one into the second at proceed
-    ∷ drawnOn threeAndTwo fromEndB (bothReleased ++ (event 6 0 2 ∷ event 8 0 0 ∷ []))
+    ∷ drawnOn threeAndTwo fromEndB (bothReleased ++ (event 15 0 1 ∷ event 6 0 2 ∷ event 8 0 0 ∷ []))
     -- the second line is secured from A to B, and a dark signal B to A of the first announced
-    ∷ drawnOn threeAndTwo wayByWay (bothReleased ++ (event 6 1 1 ∷ []))
+    ∷ drawnOn threeAndTwo wayByWay (bothReleased ++ (event 15 3 1 ∷ event 6 1 1 ∷ []))
     ∷ []
 misleading litAtStop =
     -- the exit signal at A is at stop, and the block signal behind it at proceed

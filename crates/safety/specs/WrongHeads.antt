@@ -68,7 +68,7 @@ abbrev pub doesBy : Ways → Layout → State → Event → State
 doesBy way L s e =
     if isOfHeads (e .kind) then
     (if eqb (theySay way s e) nothing then withAxles s (set (s .axles) (sectionOf e) (headsBecome way s e))
-    else ownSection (L .line) (L .lines) (withAxles s (set (s .axles) (sectionOf e) (headsBecome way s e))) (sectionOf e) (theySay way s e))
+    else ownSection (L .signals) (L .line) (L .lines) (withAxles s (set (s .axles) (sectionOf e) (headsBecome way s e))) (sectionOf e) (theySay way s e))
     else does L s e
 
 -- and what it gives
@@ -189,9 +189,9 @@ resetAt n = bothTold n ++ (event 14 1 0 ∷ [])
 abbrev provedAt : ℕ → List Event
 provedAt n = resetAt n ++ (event 11 2 (n + 1) ∷ event 12 3 1 ∷ [])
 
--- the line is released by hand and secured, the routes in at B and out at A are set
+-- the line is released by hand and secured, the lamp of the entrance signal at B reporting stop (L3), the routes in at B and out at A are set
 abbrev ordered : List Event
-ordered = event 7 0 1 ∷ event 6 0 1 ∷ event 4 1 0 ∷ event 4 0 0 ∷ []
+ordered = event 7 0 1 ∷ event 15 2 1 ∷ event 6 0 1 ∷ event 4 1 0 ∷ event 4 0 0 ∷ []
 
 -- so a train is let out, the block's heads having counted from n
 abbrev pub letOutAt : ℕ → List Event

@@ -21,7 +21,7 @@ use Rattle.refusals.specs.Orders.{routeRefusal, secureRefusal}
 use Rattle.refusals.specs.Events.{numbersRefusal}
 use Rattle.interlocking.specs.declared.State.{State}
 use Rattle.interlocking.specs.State.{tablesOf, withLines}
-use Rattle.interlocking.specs.Settle.{signals, farSections, routes, lineRelease}
+use Rattle.interlocking.specs.Settle.{signals, farSections, routes, arrivals, lineRelease}
 use Rattle.interlocking.specs.Rows.{Row, rowOf}
 use Rattle.interlocking.specs.Step.{askedInRun}
 use Rattle.step_facts.specs.Run.{Event}
@@ -34,39 +34,39 @@ asksBy k misfit besides L s e =
     if eqb (e .kind) k then firstOf (numbersRefusal (askedInRun L) (row .missing) (e .first) (misfit row) (row .wrong) ∷ besides row ∷ []) else refuses L s e
 
 -- where an order of kind k is refused by this
-abbrev pub refuseBy : ℕ → (Layout → State → ℕ → Refusal) → Layout → State → Event → Refusal
-refuseBy k refuse L s e = asksBy k (λ row. row .misfit) (λ row. refuse L s (e .first)) L s e
+abbrev pub refuseBy : ℕ → (Layout → State → ℕ → ℕ → Refusal) → Layout → State → Event → Refusal
+refuseBy k refuse L s e = asksBy k (λ row. row .misfit) (λ row. refuse L s (e .first) (e .second)) L s e
 
 -- the box that refuses so
-abbrev refusesBy : ℕ → (Layout → State → ℕ → Refusal) → Box
-refusesBy k refuse = stepBy (refuseBy k refuse) does signals farSections routes lineRelease
+abbrev pub refusesBy : ℕ → (Layout → State → ℕ → ℕ → Refusal) → Box
+refusesBy k refuse = stepBy (refuseBy k refuse) does signals farSections routes arrivals lineRelease
 
 -- ---- manual release
 
 -- 17 is not asked
 abbrev pub releasesLocked : Box
-releasesLocked = refusesBy releaseLine (λ L s l. notFree (s .section) (lineSections (line (L .line) l)))
+releasesLocked = refusesBy releaseLine (λ L s l ground. notFree (s .section) (lineSections (line (L .line) l)))
 
 -- 7 and 8 are not asked
 abbrev pub releasesTaken : Box
-releasesTaken = refusesBy releaseLine (λ L s l. exitLocked L (s .phase) l)
+releasesTaken = refusesBy releaseLine (λ L s l ground. exitLocked L (s .phase) l)
 
 -- ---- secure
 
 -- 12 is not asked: as if the line were neutral
 abbrev pub securesAnew : Box
-securesAnew = refusesBy secureLine (λ L s l. secureRefusal L (tablesOf (withLines s (put mostLines (s .direction) l neutral) (s .stage))) l)
+securesAnew = refusesBy secureLine (λ L s l w. secureRefusal L (tablesOf (withLines s (put mostLines (s .direction) l neutral) (s .stage))) l w)
 
 -- only 17 is asked, as of a manual release: the line may be turned as soon as no exit route of it is locked
 abbrev pub turnsUnlocked : Box
-turnsUnlocked = refusesBy secureLine (λ L s l. exitLocked L (s .phase) l)
+turnsUnlocked = refusesBy secureLine (λ L s l w. exitLocked L (s .phase) l)
 
 -- ---- set route
 
 -- what is refused of a route that is set, the conflicting routes by this and the rest by that
 abbrev setBy : (Layout → State → ℕ → Refusal) → (Layout → State → Route → Refusal) → Box
 setBy conflicts rest =
-    refusesBy setRoute (λ L s r. firstOf (refusedIf (locked (s .phase) r) 4 r ∷ conflicts L s r ∷ rest L s (route (L .route) r) ∷ []))
+    refusesBy setRoute (λ L s r b. firstOf (refusedIf (locked (s .phase) r) 4 r ∷ conflicts L s r ∷ rest L s (route (L .route) r) ∷ []))
 
 -- 5 is not asked
 abbrev pub asksNoConflict : Box
@@ -108,13 +108,13 @@ asksNoOverlap = setBy (λ L s r. conflicting L (s .phase) r) (λ L s a. routeRef
 -- 15 is not asked
 abbrev pub throwsLocked : Box
 throwsLocked =
-    refusesBy throwPoint (λ L s p. firstOf (byLine L (s .direction) p ∷ notFree (s .section) (joined 0 (read mostPoints 0 (L .pointsection) p)) ∷ []))
+    refusesBy throwPoint (λ L s p w. firstOf (byLine L (s .direction) p ∷ notFree (s .section) (joined 0 (read mostPoints 0 (L .pointsection) p)) ∷ []))
 
 -- 16 is not asked
 abbrev pub throwsSecured : Box
 throwsSecured =
-    refusesBy throwPoint (λ L s p. firstOf (byRoute L (s .phase) p ∷ notFree (s .section) (joined 0 (read mostPoints 0 (L .pointsection) p)) ∷ []))
+    refusesBy throwPoint (λ L s p w. firstOf (byRoute L (s .phase) p ∷ notFree (s .section) (joined 0 (read mostPoints 0 (L .pointsection) p)) ∷ []))
 
 -- 7 and 8 are not asked
 abbrev pub throwsTaken : Box
-throwsTaken = refusesBy throwPoint (λ L s p. firstOf (byRoute L (s .phase) p ∷ byLine L (s .direction) p ∷ []))
+throwsTaken = refusesBy throwPoint (λ L s p w. firstOf (byRoute L (s .phase) p ∷ byLine L (s .direction) p ∷ []))

@@ -16,7 +16,7 @@ use Rattle.safety.specs.Cases.{p3, p4, p5}
 use Rattle.safety.specs.History.{History}
 use Rattle.safety.specs.Broken.{Clause, apart, exits, directions, backed, secured, showsSecured, alone, isFree, cleared}
 use Rattle.safety.specs.OtherLayouts.{twoBlocks, twoLines, twoExits, withOverlap, innerIsBlock, sharedBlock, sharedSecond, sharedEntrance, innerPassedBy, unlistedExits}
-use Rattle.safety.specs.WrongBoxes.{Box, refusesNone, opensFree, passesNone, takesNone, keepsStage1, countsStopped, asksNoSignal, asksNoArrival, passesFarNone, asksNoEntry, movesInNeutral, neverFalls, bringsBack, releasesAll, neverCancels, waits89, asksNoSecond, keepsOverlap, neverEnds, endsLocked, endsHeld, endsBarred, endsUnpassed, coldOpen, coldFree}
+use Rattle.safety.specs.WrongBoxes.{Box, refusesNone, opensFree, passesNone, takesNone, keepsStage1, countsStopped, asksNoSignal, asksNoArrival, passesFarNone, asksNoEntry, movesInNeutral, neverFalls, bringsBack, releasesAll, neverCancels, waits89, asksNoSecond, keepsOverlap, neverEnds, endsLocked, endsHeld, endsBarred, endsUnpassed, endsFromStage2, coldOpen, coldFree}
 use Rattle.safety.specs.WrongOrders.{releasesLocked, releasesTaken, securesAnew, asksNoConflict, asksLower, setsUnsecured, asksNoOverlap, throwsLocked}
 use Rattle.safety.specs.WrongPanels.{Image, litBy, bothWays, inNeutral, allSecured}
 
@@ -33,9 +33,13 @@ readings = event 1 0 1 ∷ event 1 1 1 ∷ event 1 2 1 ∷ event 1 3 1 ∷ event
 abbrev pub released : List Event
 released = readings ++ (event 7 0 1 ∷ [])
 
--- and secured from A to B
+-- and secured from A to B, the lamp of signal x, the entrance signal at B, reporting stop (L3)
+abbrev openedBy : ℕ → List Event
+openedBy x = released ++ (event 15 x 1 ∷ event 6 0 1 ∷ [])
+
+-- it is signal 2 on most layouts
 abbrev pub opened : List Event
-opened = released ++ (event 6 0 1 ∷ [])
+opened = openedBy 2
 
 -- signals at A and B at proceed: a route in at B, a route out at A
 abbrev pub letOut : List Event
@@ -51,11 +55,27 @@ again = event 1 1 1 ∷ event 6 0 1 ∷ event 4 0 0 ∷ []
 
 -- the line is secured from B to A, and route 1, in at B, is set; route 2, out at B, conflicts with it
 abbrev letIn : List Event
-letIn = released ++ (event 6 0 2 ∷ event 4 1 0 ∷ [])
+letIn = released ++ (event 15 1 1 ∷ event 6 0 2 ∷ event 4 1 0 ∷ [])
 
--- a train in the first of two blocks goes on to the second, and route 0 is set for another behind it
+-- a train in the first of two blocks goes on to the second, the lamp of the signal between reporting stop, and route 0 is set for another behind it
 abbrev followed : List Event
-followed = gone ++ (event 1 2 2 ∷ event 1 1 1 ∷ event 4 0 0 ∷ [])
+followed = gone ++ (event 15 3 1 ∷ event 1 2 2 ∷ event 1 1 1 ∷ event 4 0 0 ∷ [])
+
+-- the lamp of the entrance signal at B reports this code, the train arrives there, and the block reads free (L3)
+abbrev pub arrivedWith : ℕ → List Event
+arrivedWith code = gone ++ (event 15 2 code ∷ event 1 2 2 ∷ event 1 1 1 ∷ [])
+
+-- where the lamp is dark the block waits
+abbrev pub waiting : List Event
+waiting = arrivedWith 0
+
+-- the train goes on, and its route in at B is released; where there are two blocks the same events leave both waiting, no far lamp reporting stop
+abbrev pub openedByRoute : List Event
+openedByRoute = waiting ++ (event 1 3 2 ∷ event 1 2 1 ∷ [])
+
+-- and there the route is released by these
+abbrev pub bothOpened : List Event
+bothOpened = openedByRoute ++ (event 1 4 2 ∷ event 1 3 1 ∷ [])
 
 -- ---- the runs
 
@@ -103,7 +123,7 @@ abbrev pub unsafe : Clause → List Run
 unsafe apart =
     -- set route: 5 is not asked; asked of lower numbers only
     onT asksNoConflict (letIn ++ (event 4 2 0 ∷ []))
-    ∷ onT asksLower (released ++ (event 6 0 2 ∷ event 4 2 0 ∷ event 4 1 0 ∷ []))
+    ∷ onT asksLower (released ++ (event 15 1 1 ∷ event 6 0 2 ∷ event 4 2 0 ∷ event 4 1 0 ∷ []))
     -- section 9: the cancel wait ends at 89, and route 2 is set while route 1 is still locked
     ∷ onT waits89 (letIn ++ (event 5 1 0 ∷ (replicate 89 (event 10 0 0) ++ (event 4 2 0 ∷ []))))
     -- letting a route go: the second step is not asked. A train stands in section 2 and goes back
@@ -111,9 +131,9 @@ unsafe apart =
     ∷ []
 unsafe exits =
     -- secure: 12 is not asked. A train has passed its exit signal, the line is turned, and another is let out against it
-    onT securesAnew (opened ++ (event 4 0 0 ∷ event 1 0 2 ∷ event 6 0 2 ∷ event 4 2 0 ∷ []))
+    onT securesAnew (opened ++ (event 4 0 0 ∷ event 1 0 2 ∷ event 15 1 1 ∷ event 6 0 2 ∷ event 4 2 0 ∷ []))
     -- manual release: 17 is not asked. The same, the line being released by hand in between
-    ∷ onT releasesLocked (opened ++ (event 4 0 0 ∷ event 1 0 2 ∷ event 7 0 1 ∷ event 6 0 2 ∷ event 4 2 0 ∷ []))
+    ∷ onT releasesLocked (opened ++ (event 4 0 0 ∷ event 1 0 2 ∷ event 7 0 1 ∷ event 15 1 1 ∷ event 6 0 2 ∷ event 4 2 0 ∷ []))
     ∷ []
 unsafe directions =
     -- panel: a neutral line shows as secured from A to B
@@ -129,7 +149,7 @@ unsafe secured =
     -- manual release: 17 is not asked
     onT releasesLocked (letOut ++ (event 7 0 1 ∷ []))
     -- secure: 12 is not asked. The line is secured the other way under a set route
-    ∷ onT securesAnew (letOut ++ (event 6 0 2 ∷ []))
+    ∷ onT securesAnew (letOut ++ (event 15 1 1 ∷ event 6 0 2 ∷ []))
     -- set route: 9 is not asked. The line is neutral
     ∷ onT setsUnsecured (released ++ (event 4 0 0 ∷ []))
     -- panel: block signals lit both ways; lit in neutral
@@ -146,9 +166,9 @@ unsafe alone =
     -- rule 6 off: the same, where the two routes are not listed as conflicting
     ∷ coldRun boxInRun (whole unlistedExits .layout) (opened ++ (event 4 0 0 ∷ event 4 1 0 ∷ []))
     -- rule 1 off: one section is the block of two lines, and a train let into it by each
-    ∷ coldRun boxInRun (whole sharedBlock .layout) (opened ++ (event 7 1 1 ∷ event 6 1 1 ∷ event 4 0 0 ∷ event 4 1 0 ∷ []))
+    ∷ coldRun boxInRun (whole sharedBlock .layout) (openedBy 3 ++ (event 7 1 1 ∷ event 15 5 1 ∷ event 6 1 1 ∷ event 4 0 0 ∷ event 4 1 0 ∷ []))
     -- rule 1 off: it is the second block of both, and a block signal of each shows proceed into it
-    ∷ coldRun boxInRun (whole sharedSecond .layout) (opened ++ (event 7 1 1 ∷ event 6 1 1 ∷ []))
+    ∷ coldRun boxInRun (whole sharedSecond .layout) (openedBy 1 ++ (event 7 1 1 ∷ event 15 3 1 ∷ event 6 1 1 ∷ []))
     ∷ []
 unsafe isFree =
     -- section 9: code 0 refused. The block's wire dies under a signal at proceed
@@ -158,12 +178,12 @@ unsafe isFree =
     -- manual release: 7 and 8 are not asked. The line is released over a train
     ∷ onT releasesTaken (gone ++ (event 7 0 1 ∷ event 6 0 1 ∷ event 4 0 0 ∷ []))
     -- the cold start open; free
-    ∷ from coldOpen (event 1 0 1 ∷ event 6 0 1 ∷ event 4 0 0 ∷ [])
-    ∷ from coldFree (event 7 0 1 ∷ event 6 0 1 ∷ event 4 0 0 ∷ [])
+    ∷ from coldOpen (event 1 0 1 ∷ event 15 2 1 ∷ event 6 0 1 ∷ event 4 0 0 ∷ [])
+    ∷ from coldFree (event 7 0 1 ∷ event 15 2 1 ∷ event 6 0 1 ∷ event 4 0 0 ∷ [])
     ∷ []
 unsafe cleared =
     -- the cold start open: the block need only read free
-    from coldOpen (event 1 0 1 ∷ again)
+    from coldOpen (event 1 0 1 ∷ event 15 2 1 ∷ again)
     -- section 9: a block opens because it reads free again, under the train
     ∷ onT opensFree (gone ++ (event 1 1 1 ∷ event 4 0 0 ∷ []))
     -- the same of the second of two blocks, into which a block signal shows proceed
@@ -183,11 +203,11 @@ unsafe cleared =
     -- own reading: free leaves stage 1 as it is. The block reads free again before section 2 is occupied
     ∷ onT keepsStage1 (gone ++ (event 1 1 1 ∷ event 1 2 2 ∷ again))
     -- far section: there is one in neutral. The block is occupied, then section 2, before the line is secured
-    ∷ onT movesInNeutral (readings ++ (event 4 1 0 ∷ event 1 1 2 ∷ event 1 2 2 ∷ again))
+    ∷ onT movesInNeutral (readings ++ (event 15 2 1 ∷ event 4 1 0 ∷ event 1 1 2 ∷ event 1 2 2 ∷ again))
     -- the passage is counted with a none of the block between: P5
     ∷ onT passesNone (gone ++ (p5 ++ (event 6 0 1 ∷ event 4 0 0 ∷ [])))
     -- manual release: the blocks of every line open. The other line is released
-    ∷ coldRun releasesAll (load twoLines .layout) (readings ++ (event 7 1 1 ∷ event 6 0 1 ∷ event 4 0 0 ∷ []))
+    ∷ coldRun releasesAll (load twoLines .layout) (readings ++ (event 7 1 1 ∷ event 15 2 1 ∷ event 6 0 1 ∷ event 4 0 0 ∷ []))
     -- rule 1 off: the inner section is the block, so that one reading of it is a passage
     ∷ coldRun boxInRun (whole innerIsBlock .layout) (gone ++ again)
     -- rule 5 off: the inner section is occupied under a signal at proceed, which the block's own reading drops
@@ -231,8 +251,10 @@ wronglyEnded =
     ∷ coldRun endsHeld (load twoBlocks .layout) (followed ++ (p3 ++ (event 1 3 2 ∷ event 1 2 1 ∷ [])))
     -- a bar is not asked
     ∷ onT endsBarred (gone ++ (event 1 2 2 ∷ event 8 0 0 ∷ event 1 1 1 ∷ []))
-    -- that the last block went from stage 2 to open is not asked. The line is neutral as soon as it is secured
+    -- that the last block went from stage 2 or 3 to open is not asked. The line is neutral as soon as it is secured
     ∷ onT endsUnpassed opened
+    -- a last block that waited does not count (L3)
+    ∷ onT endsFromStage2 openedByRoute
     ∷ []
 
 -- the runs; the first is of a box that does not ask the overlap of a route that is set: it is occupied

@@ -2,18 +2,20 @@
 //   step_bench LAYOUT FITTED PREFIX EVENTS TURNS step|run
 // loads a layout file with the sections that FITTED tells and plays, from the cold state, the events of PREFIX once and those of EVENTS so many times.
 // By `step` each event asks soundness; by `run` it is asked once before the first. Both go through the one step that the event program has: the nine
-// tables and the heads apart, so that an event copies only the heads that it names (request L1). With a second call the compiler would not fold the step into
-// the loop, and a run would take longer here than there. An event is three words of four bytes, lowest byte first. Of a file the first 65,536 bytes are
-// read.
+// tables, the heads and the lamps apart, so that an event copies only the heads that it names (request L1), and of lamps none (request L3). With a second call
+// the compiler would not fold the step into the loop, and a run would take longer here than there. An event is three words of four bytes, lowest byte first.
+// Of a file the first 65,536 bytes are read.
 use axles::Axles;
 use interlocking::Core;
 use interlocking::State;
 use interlocking::parts::core_of;
 use interlocking::parts::head_place;
+use interlocking::parts::lamps_then;
 use interlocking::parts::whole;
 use layout::Layout;
 use libc::STDERR_FILENO;
 use libc::STDOUT_FILENO;
+use track::sizes::LAMPS;
 use track::sizes::SECTIONS;
 ghost use Prim.Native.Nat.{_≤_};
 
@@ -67,8 +69,8 @@ fn event_of(e: &[u8]) -> Event {
 }
 
 // Layout and state are sound, as `State::step` asks it.
-fn is_sound(plan: Layout, core: Core, axles: [Axles; SECTIONS]) -> bool {
-    let s = whole(core, axles);
+fn is_sound(plan: Layout, core: Core, axles: [Axles; SECTIONS], lamp: [u8; LAMPS]) -> bool {
+    let s = whole(core, axles, lamp);
     plan.sound() & s.in_range()
 }
 
@@ -77,6 +79,7 @@ fn play(plan: Layout, asking: bool, events: &[u8], turns: u64, given: Played) ->
     let s = given.state;
     let mut core = core_of(s);
     let mut axles = s.axles;
+    let mut lamp = s.lamp;
     let mut sum = given.sum;
     let mut left = turns;
     while left > 0 {
@@ -84,29 +87,30 @@ fn play(plan: Layout, asking: bool, events: &[u8], turns: u64, given: Played) ->
         while at < events.len() {
             if events.len() - at < 12 {
                 return Played {
-                    state: whole(core, axles),
+                    state: whole(core, axles, lamp),
                     sum,
                 };
             }
             let e = event_of(&events[at..]);
             at += 12;
-            if asking && !is_sound(plan, core, axles) {
+            if asking && !is_sound(plan, core, axles, lamp) {
                 return Played {
-                    state: whole(core, axles),
+                    state: whole(core, axles, lamp),
                     sum,
                 };
             }
             let place = head_place(e.kind, e.first);
             let heads = axles[place];
-            let r = core.step_in_run(heads, plan, e.kind, e.first, e.second);
+            let r = core.step_in_run(heads, &lamp, plan, e.kind, e.first, e.second);
             core = r.next;
             let then = r.heads;
             axles[place] = then;
+            lamps_then(&mut lamp, r.number, e.kind, e.first, e.second);
             sum = mixed(mixed(sum, r.number as u32), r.detail);
         }
         left -= 1;
     }
-    let state = whole(core, axles);
+    let state = whole(core, axles, lamp);
     Played { state, sum }
 }
 
@@ -237,7 +241,7 @@ fn mixed_half(sum: u64, s: State) -> u64 {
     mixed_codes(d, &step)
 }
 
-// The sum with all the codes of a state but for its heads.
+// The sum with all the codes of a state but for its heads and lamps.
 fn mixed_state(sum: u64, s: State) -> u64 {
     let second = s.seconds;
     let direction = s.direction;

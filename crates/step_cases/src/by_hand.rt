@@ -93,6 +93,17 @@ fn changed_blocks(given: State, c: Change) -> State {
     t
 }
 
+// A state with a lamp changed.
+fn changed_lamps(given: State, c: Change) -> State {
+    let mut t = given;
+    if c.field == 10 {
+        let mut xs = given.lamp;
+        put(&mut xs, c.place, c.byte);
+        t.lamp = xs;
+    }
+    t
+}
+
 // A layout with its version, a count or what is lacking changed.
 fn changed_counts(given: Layout, c: Change) -> Layout {
     let mut t = given;
@@ -217,7 +228,8 @@ fn changed_state(s: State, c: Change) -> State {
     let a = changed_readings(s, c);
     let b = changed_routes(a, c);
     let d = changed_blocks(b, c);
-    heads::changed_heads(d, c)
+    let e = changed_lamps(d, c);
+    heads::changed_heads(e, c)
 }
 
 // Both with a change.

@@ -1,6 +1,6 @@
 // Plays each run of the archive `runs`. For each it writes a line with what loading the layout answers and, where sections are told as fitted, the
-// answer to that; then a line for every sixteen events: answer and detail of each, and the state after the last of them but for its heads; the first
-// line has those that are left over; and a line with the heads at the end, where a section has some.
+// answer to that; then a line for every sixteen events: answer and detail of each, and the state after the last of them but for its heads and lamps; the
+// first line has those that are left over; at the end a line with the heads, where a section has some, and one with what the lamps report.
 // In the archive a run is the length of its layout file and the file; the same of the file that tells the fitted sections; the number of its changes by
 // hand, and six bytes for each; the number of its events, and three words of four bytes for each. Lengths and numbers take two bytes. All stand lowest
 // byte first.
@@ -135,7 +135,7 @@ fn play_line(archive: i32, plan: Layout, s: State, n: usize) -> State {
 }
 
 // Writes a line with the heads, where a section has some.
-fn end_run(plan: Layout, s: State) {
+fn end_heads(plan: Layout, s: State) {
     let mut room = io::buffer();
     let line: &mut [u8] = &mut room;
     let a = heads::put_heads(line, plan, s);
@@ -143,6 +143,15 @@ fn end_run(plan: Layout, s: State) {
         let b = put(line, a, b'\n');
         text::write(line, b);
     }
+}
+
+// Writes a line with what the lamps report.
+fn end_lamps(plan: Layout, s: State) {
+    let mut room = io::buffer();
+    let line: &mut [u8] = &mut room;
+    let a = states::put_lamps(line, 0, plan, s);
+    let b = put(line, a, b'\n');
+    text::write(line, b);
 }
 
 // Plays the events of a run.
@@ -156,7 +165,8 @@ fn play(archive: i32, given: Records) {
         state = play_line(archive, plan, state, 16);
         left -= 1;
     }
-    end_run(plan, state);
+    end_heads(plan, state);
+    end_lamps(plan, state);
 }
 
 // The records of a run with its changes by hand.

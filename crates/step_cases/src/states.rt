@@ -5,7 +5,9 @@ use super::text::put_codes;
 use check::same;
 use interlocking::State;
 use layout::Layout;
+use track::signals::signal_count;
 use track::sizes::BLOCKS;
+use track::sizes::LAMPS;
 use track::sizes::PLACES;
 use track::sizes::ROUTES;
 use track::sizes::SECTIONS;
@@ -32,6 +34,11 @@ fn same_readings(s: State, t: State) -> bool {
     same_sections(section, section_then) && same(&point, &point_then) && same(&order, &order_then)
 }
 
+// Whether two tables of train routes are the same.
+fn same_of_routes(a: [u8; TRAIN_ROUTES], b: [u8; TRAIN_ROUTES]) -> bool {
+    same(&a, &b)
+}
+
 // Whether routes are the same in two states.
 fn same_routes(s: State, t: State) -> bool {
     let phase = s.phase;
@@ -40,7 +47,9 @@ fn same_routes(s: State, t: State) -> bool {
     let phase_then = t.phase;
     let step_then = t.steps;
     let second_then = t.seconds;
-    same(&phase, &phase_then) && same(&step, &step_then) && same(&second, &second_then)
+    same(&phase, &phase_then)
+        && same_of_routes(step, step_then)
+        && same_of_routes(second, second_then)
 }
 
 // Whether lines and blocks are the same in two states.
@@ -56,9 +65,25 @@ fn same_lines(s: State, t: State) -> bool {
         && same_blocks(bar, bar_then)
 }
 
+// Whether two tables of lamps are the same.
+fn same_tables_of_lamps(a: [u8; LAMPS], b: [u8; LAMPS]) -> bool {
+    same(&a, &b)
+}
+
+// Whether lamps are the same in two states.
+fn same_lamps(s: State, t: State) -> bool {
+    let lamp = s.lamp;
+    let lamp_then = t.lamp;
+    same_tables_of_lamps(lamp, lamp_then)
+}
+
 // Whether two states are the same.
 pub fn same_states(s: State, t: State) -> bool {
-    same_readings(s, t) && same_routes(s, t) && same_lines(s, t) && heads::same_heads(s, t)
+    same_readings(s, t)
+        && same_routes(s, t)
+        && same_lines(s, t)
+        && same_lamps(s, t)
+        && heads::same_heads(s, t)
 }
 
 // Puts the first n codes of a table of sections.
@@ -119,7 +144,20 @@ fn put_lines(line: &mut [u8], at: usize, plan: Layout, s: State) -> usize {
     put_blocks(line, b, bar, BLOCKS * n)
 }
 
-// Puts a state but for its heads, as far as the layout has objects.
+// Puts the first n codes of a table of lamps.
+fn put_table_of_lamps(line: &mut [u8], at: usize, codes: [u8; LAMPS], n: usize) -> usize {
+    put_codes(line, at, &codes, n, 1)
+}
+
+// Puts what the lamps report, as far as the layout has signals.
+pub fn put_lamps(line: &mut [u8], at: usize, plan: Layout, s: State) -> usize {
+    let lamp = s.lamp;
+    let ls = plan.line;
+    let n = signal_count(plan.signals, plan.lines, ls) as usize;
+    put_table_of_lamps(line, at, lamp, n)
+}
+
+// Puts a state but for its heads and lamps, as far as the layout has objects.
 pub fn put_state(line: &mut [u8], at: usize, plan: Layout, s: State) -> usize {
     let a = put_readings(line, at, plan, s);
     let b = put_routes(line, a, plan, s);

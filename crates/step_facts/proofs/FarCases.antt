@@ -1,10 +1,11 @@
--- Within one accepted event: what its far section does to a block, and that it opens none and shuts none.
-use Prim.Native.Nat.{ℕ, _<_}
-use mathlib.Core.Path.{_≡_, refl, sym, ap}
-use mathlib.Core.Logic.{_≢_}
+-- Within one accepted event: what its far section does to a block, and that it opens none and shuts none; and what becomes of one that waits (L3).
+use Prim.Native.Nat.{ℕ, _<_, _≤_}
+use mathlib.Core.Path.{_≡_, refl, sym, ap, _∙_}
+use mathlib.Core.Logic.{_≢_, _⊎_, _↔_, inl, inr}
 use mathlib.Core.Bool.{true}
 use native.Mathlib.Omega.{arith}
-use borrow.Author.Tests.{eqb-true, eqb-false, eq-eqb}
+use native.Mathlib.Decide.{ℕ-discrete}
+use borrow.Author.Tests.{eqb-true, eqb-false, eq-eqb, ne-eqb}
 use lib.Dec.{eqb}
 use Rattle.laws.proofs.Choice.{if-both}
 use Rattle.laws.proofs.Tests.{and-left, and-right, and-both, not-both}
@@ -13,17 +14,27 @@ use Rattle.tables.specs.Blocks.{place, isOpen}
 use Rattle.signals.specs.Signals.{enterableBy, enterable}
 use Rattle.passage.specs.Passage.{farStage}
 use Rattle.line_block.specs.FarSections.{farMoved, farStageAt, farStages}
+use Rattle.line_block.specs.PassingBack.{noOpening, arrives, waitedStage, waitedStageAt, passedBack}
 use Rattle.layout.specs.declared.Layout.{Layout}
 use Rattle.layout.specs.Layout.{lineIn}
 use Rattle.layout_facts.specs.Plain.{Sound}
 use Rattle.interlocking.specs.declared.State.{State}
 use Rattle.interlocking.specs.State.{withRoutes, withLines}
-use Rattle.interlocking.specs.Settle.{proceedsIn, signals, farSections, routesBy, routes, lineRelease, settle}
+use Rattle.interlocking.specs.Settle.{proceedsIn, signals, farSections, routesBy, routes, arrivals, lineRelease, settle}
 use Rattle.interlocking.specs.Step.{after}
 use Rattle.step_facts.specs.Run.{Event}
 use Rattle.step_facts.specs.FarInState.{farReading, farDropped}
 use Rattle.step_facts.proofs.Entries.{direction, stage, place-line, place-block, read-block}
-use Rattle.step_facts.proofs.Within.{done, lit, end}
+use Rattle.step_facts.proofs.Within.{done, lit, moved, end}
+use Rattle.line_block.proofs.PassingBackLaws.{not-waiting}
+
+-- two numbers that are n together are tested alike
+same-test : (x y n : ℕ) → (x ≡ n ↔ y ≡ n) → eqb x n ≡ eqb y n
+same-test x y n f = go (ℕ-discrete y n)
+  where
+    go : Dec (y ≡ n) → eqb x n ≡ eqb y n
+    go (yes q) = eq-eqb x n (f .1 q) ∙ sym (eq-eqb y n q)
+    go (no q) = ne-eqb x n (λ z. q (f .0 z)) ∙ sym (ne-eqb y n q)
 
 -- ---- its far section
 
@@ -55,30 +66,51 @@ far-case L before s l i was b =
     C : ℕ → Type 0
     C = FarCase L before s l i w was
 
+-- neither is open or stage 3
+moving : (v : ℕ) → (2 ≤ v) × (v ≤ 3) → (v ≡ 0) ⊎ (v ≡ 4) → ⊥
+moving v h (inl q) = omega arith
+moving v h (inr q) = omega arith
+
 -- what it does within the event
 module _ (L : Layout) (S : Sound L) (s : State) (e : Event) (l i : ℕ) (b : l < L .lines) (c : i < lineIn L l .blocks) where
   few-blocks : i < mostBlocks
   few-blocks = omega (arith, S .ranges .lines l b .blockCount)
 
-  pub far-of : FarCase L s (lit L s e) l i (direction (done L s e) l) (stage (done L s e) l i) (stage (end L s e) l i)
-  unfolding after settle lineRelease withLines routes routesBy withRoutes farSections farStages signals
+  pub far-of : FarCase L s (lit L s e) l i (direction (done L s e) l) (stage (done L s e) l i) (stage (moved L s e) l i)
+  unfolding withLines routes routesBy withRoutes farSections farStages signals
   far-of =
       rw (read-block l i few-blocks (L .lines) (farStageAt (L .line) (lit L s e .direction) (lit L s e .section) (proceedsIn L s) (proceedsIn L (lit L s e))) (done L s e .stage) b (S .ranges .lineCount))
       (far-case L s (lit L s e) l i _ few-blocks)
 
-  -- it is open at the end of the event just where the event itself left it open: far sections neither open a block nor shut one
-  pub open-same : isOpen (end L s e .stage) l i ≡ isOpen (done L s e .stage) l i
-  unfolding isOpen
-  open-same = go far-of
+  -- far sections neither open a block nor shut one, and leave one that waits in stage 3
+  pub far-keeps : (v : ℕ) → (v ≡ 0) ⊎ (v ≡ 4) → (stage (moved L s e) l i ≡ v ↔ stage (done L s e) l i ≡ v)
+  far-keeps v idle = go far-of
     where
-      go : FarCase L s (lit L s e) l i (direction (done L s e) l) (stage (done L s e) l i) (stage (end L s e) l i)
-          → eqb (stage (end L s e) l i) 0 ≡ eqb (stage (done L s e) l i) 0
-      go (keeps x f g) = ap (λ n. eqb n 0) x
-      go (proves x was d o p) = rw (x, was)
-      go (loses x was far) = rw (x, was)
+      go : FarCase L s (lit L s e) l i (direction (done L s e) l) (stage (done L s e) l i) (stage (moved L s e) l i)
+          → (stage (moved L s e) l i ≡ v ↔ stage (done L s e) l i ≡ v)
+      go (keeps x f g) = (λ q. sym x ∙ q, λ q. x ∙ q)
+      go (proves x was d o p) = (λ q. absurd (moving v (omega arith) idle), λ q. absurd (moving v (omega arith) idle))
+      go (loses x was far) = (λ q. absurd (moving v (omega arith) idle), λ q. absurd (moving v (omega arith) idle))
+
+  -- ---- blocks that wait (L3)
+
+  -- what becomes of it once routes are released
+  pub end-of : stage (end L s e) l i
+      ≡ waitedStage (lineIn L l) (moved L s e .stage) noOpening (arrives (L .routes) (L .route) (s .phase) (moved L s e .phase)) l i (direction (done L s e) l)
+      (stage (moved L s e) l i)
+  unfolding after settle lineRelease withLines arrivals passedBack waitedStageAt lineIn routes routesBy withRoutes farSections signals
+  end-of =
+      read-block l i few-blocks (L .lines) (waitedStageAt (L .line) (moved L s e .direction) noOpening (arrives (L .routes) (L .route) (s .phase) (moved L s e .phase)) (moved L s e .stage)) (moved L s e .stage) b (S .ranges .lineCount)
+      ∙ rw (place-line l i few-blocks, place-block l i few-blocks)
+
+  -- a block that does not wait is open at the end of the event just where the event itself left it open
+  pub open-same : stage (done L s e) l i ≢ 4 → isOpen (end L s e .stage) l i ≡ isOpen (done L s e .stage) l i
+  unfolding isOpen
+  open-same d = ap (λ n. eqb n 0) (end-of ∙ not-waiting _ _ _ _ l i _ (λ q. d (far-keeps 4 (inr refl) .0 q))) ∙ same-test _ _ 0 (far-keeps 0 (inl refl))
 
   -- so a train may be let into it at the end just where it may after what the event does itself
-  pub enterable-same : enterable (L .line) (end L s e .point) (end L s e .stage) (end L s e .bar) l i
+  pub enterable-same : stage (done L s e) l i ≢ 4
+      → enterable (L .line) (end L s e .point) (end L s e .stage) (end L s e .bar) l i
       ≡ enterable (L .line) (done L s e .point) (done L s e .stage) (done L s e .bar) l i
-  unfolding enterable enterableBy after settle lineRelease withLines routes routesBy withRoutes farSections signals
-  enterable-same = rw open-same
+  unfolding enterable enterableBy after settle lineRelease withLines arrivals routes routesBy withRoutes farSections signals
+  enterable-same d = rw (open-same d)

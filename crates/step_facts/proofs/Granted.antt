@@ -17,7 +17,7 @@ use Rattle.track.specs.Blocks.{lineSections}
 use Rattle.tables.specs.Readings.{reading}
 use Rattle.axles.specs.Heads.{speaking}
 use Rattle.layout.specs.declared.Layout.{Layout}
-use Rattle.layout.specs.Layout.{isFitted, lineIn}
+use Rattle.layout.specs.Layout.{isFitted, lineIn, signalsIn}
 use Rattle.layout.specs.Sound.{sound}
 use Rattle.reasons.specs.declared.Refusal.{Refusal}
 use Rattle.reasons.specs.Refusal.{refused, noRefusal, refusedIf, found, firstOf}
@@ -29,7 +29,7 @@ use Rattle.refusals.specs.Events.{numbersRefusal}
 use Rattle.interlocking.specs.declared.State.{State}
 use Rattle.interlocking.specs.State.{inRange, headsAt}
 use Rattle.interlocking.specs.Own.{headSection, headsOf}
-use Rattle.interlocking.specs.Rows.{sectionRow, pointRow, cancelRow, manualRow, barRow, secondRow, countRow, silentRow, resetRow, stillSilent, headRow, rowWith, rowOf}
+use Rattle.interlocking.specs.Rows.{sectionRow, pointRow, cancelRow, manualRow, barRow, secondRow, countRow, silentRow, resetRow, stillSilent, headRow, lampRow, rowWith, rowOf}
 use Rattle.interlocking.specs.Step.{rowRefusal, step, refusal}
 use Rattle.step_facts.proofs.Step.{step-done}
 use Rattle.step_facts.specs.Run.{Event}
@@ -123,6 +123,11 @@ module _ (L : Layout) (s : State) (ok : sound L ≡ true) (ranged : inRange s �
   pub point-granted : (p code : ℕ) → p < L .points → refusal (sound L and inRange s) L s 2 p code .number ≡ 0
   unfolding rowOf rowWith pointRow if_then_else_ noRefusal refused
   point-granted p code b = granted 2 p code (lt-leb _ p b) refl refl refl
+
+  -- the lamp of a signal reports, whatever the code (L3)
+  pub lamp-granted : (x code : ℕ) → x < signalsIn L → refusal (sound L and inRange s) L s 15 x code .number ≡ 0
+  unfolding rowOf rowWith lampRow if_then_else_ noRefusal refused signalsIn
+  lamp-granted x code b = granted 15 x code (lt-leb _ x b) refl refl refl
 
   -- a block that there is is barred
   pub bar-granted : (l i : ℕ) → l < L .lines → i < lineIn L l .blocks → refusal (sound L and inRange s) L s 8 l i .number ≡ 0

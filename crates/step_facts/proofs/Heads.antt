@@ -12,7 +12,7 @@ use Rattle.layout.specs.declared.Layout.{Layout}
 use Rattle.interlocking.specs.declared.State.{State}
 use Rattle.interlocking.specs.State.{cold, headsAt, withSections, withRoutes, withLines, withAxles}
 use Rattle.interlocking.specs.Own.{ownSection, ownSet, ownCancel, ownSecure, ownManual, headSection, headsBy}
-use Rattle.interlocking.specs.Settle.{signals, farSections, routesBy, routes, lineRelease, settle}
+use Rattle.interlocking.specs.Settle.{signals, farSections, routesBy, routes, arrivals, lineRelease, settle}
 use Rattle.interlocking.specs.declared.Answer.{Answer}
 use Rattle.interlocking.specs.Step.{own, after, step}
 use Rattle.step_facts.specs.Run.{Event, box, stateAfter, fromCold}
@@ -33,7 +33,7 @@ module _ (L : Layout) (s : State) (e : Event) where
 
   -- what follows an event leaves heads as the event itself left them
   end-axles : end L s e .axles ≡ own L s (e .kind) (e .first) (e .second) .axles
-  unfolding after settle lineRelease withLines routes routesBy withRoutes farSections signals
+  unfolding after settle lineRelease withLines arrivals routes routesBy withRoutes farSections signals
   end-axles = refl
 
   -- after an event of heads those of its section are what becomes of them

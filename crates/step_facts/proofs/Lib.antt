@@ -10,4 +10,6 @@ pub mod Tells
 pub mod Within
 pub mod Heads
 pub mod Granted
+pub mod Lamps
+pub mod Openings
 pub mod FarCases

@@ -25,7 +25,8 @@ use Rattle.axles.specs.Heads.{speaking}
 use Rattle.layout.specs.declared.Layout.{Layout}
 use Rattle.layout.specs.Layout.{isFitted, lineIn, routeIn, conflict}
 use Rattle.layout.specs.Sound.{sound}
-use Rattle.layout_facts.specs.Plain.{ownSection, routePoint, linePoint, Sound}
+use Rattle.tables.specs.Blocks.{isOpen}
+use Rattle.layout_facts.specs.Plain.{ownSection, routePoint, linePoint, nearestBlock, Sound}
 use Rattle.reasons.specs.declared.Refusal.{Refusal}
 use Rattle.reasons.specs.Refusal.{refused, found}
 use Rattle.reasons.specs.Searches.{unfree, routeLocks, lineLocks}
@@ -41,7 +42,7 @@ use Rattle.interlocking.specs.Step.{rowRefusal, refusal}
 use Rattle.interlocking.proofs.Rows.{head-named, reset-named}
 use Rattle.step_facts.specs.Run.{Event}
 use Rattle.step_facts.proofs.Range.{inRange-means, read-within}
-use Rattle.step_facts.proofs.Entries.{phase, direction, block}
+use Rattle.step_facts.proofs.Entries.{phase, direction, stage, block}
 
 -- ---- reasons that there were not
 
@@ -99,6 +100,15 @@ module _ (L : Layout) (s : State) (e : Event) (pass : refusal (sound L and inRan
       let lists = granted-at _ (order-granted 4 k) 2 in
       let exit = rw (eq-eqb _ _ x) at (granted-at _ lists 2) in
       eqb-true _ _ (not-false _ (when-granted _ 9 _ (omega arith) (granted-at _ exit 0)))
+
+  -- 10: the block that it enters is open
+  pub set-open : e .kind ≡ 4 → routeIn L (e .first) .kind ≡ 2
+      → stage s (routeIn L (e .first) .line) (nearestBlock L (routeIn L (e .first) .line) (routeIn L (e .first) .end)) ≡ 0
+  unfolding rowOf rowWith setRow if_then_else_ setRefusal routeRefusal exitRefusal routeIn lineIn nearestBlock isOpen
+  set-open k x =
+      let lists = granted-at _ (order-granted 4 k) 2 in
+      let exit = rw (eq-eqb _ _ x) at (granted-at _ lists 2) in
+      eqb-true _ _ (not-false _ (when-granted _ 10 _ (omega arith) (granted-at _ exit 3)))
 
   -- 13: the route that is cancelled is locked
   pub cancel-locked : e .kind ≡ 5 → phase s (e .first) ≢ 0

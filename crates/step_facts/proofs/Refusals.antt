@@ -13,14 +13,14 @@ use Rattle.tables.specs.Tables.{Tables}
 use Rattle.layout.specs.declared.Layout.{Layout}
 use Rattle.reasons.specs.declared.Refusal.{Refusal}
 use Rattle.reasons.specs.Refusal.{refused, noRefusal, refusedIf, found, firstOf}
-use Rattle.reasons.specs.Reasons.{notFree, notPlaced, conflicting, byRoute, byLine, exitLocked, blockBarred, blockHeld, noHeads, hasHeads}
+use Rattle.reasons.specs.Reasons.{notFree, notPlaced, conflicting, byRoute, byLine, exitLocked, blockBarred, blockHeld, arrivalDark, noHeads, hasHeads}
 use Rattle.refusals.specs.Orders.{throwRefusal, exitRefusal, routeRefusal, setRefusal, cancelRefusal, secureRefusal, manualRefusal}
 use Rattle.refusals.specs.Events.{numbersRefusal}
 use Rattle.refusals.proofs.Granted.{granted-at, granted-second}
 use Rattle.interlocking.specs.declared.State.{State}
-use Rattle.interlocking.specs.Rows.{Row, sectionRow, pointRow, throwRow, setRow, cancelRow, secureRow, manualRow, barRow, secondRow, headRow, countRow, silentRow, resetRow, stillSilent, noRow, rowOf}
+use Rattle.interlocking.specs.Rows.{Row, sectionRow, pointRow, throwRow, setRow, cancelRow, secureRow, manualRow, barRow, secondRow, headRow, countRow, silentRow, resetRow, stillSilent, lampRow, noRow, rowOf}
 use Rattle.interlocking.specs.Step.{rowRefusal, refusal}
-use Rattle.interlocking.proofs.Rows.{OfKind, section-row, point-row, throw-row, set-row, cancel-row, secure-row, manual-row, bar-row, unbar-row, second-row, count-row, silent-row, reset-row, no-row, row-of}
+use Rattle.interlocking.proofs.Rows.{OfKind, section-row, point-row, throw-row, set-row, cancel-row, secure-row, manual-row, bar-row, unbar-row, second-row, count-row, silent-row, reset-row, lamp-row, no-row, row-of}
 use Rattle.step_facts.specs.Numbers.{OfEvents}
 
 -- ---- nothing is refused
@@ -47,7 +47,8 @@ unfolding OfEvents
 not-18 (inl h) q = omega arith
 not-18 (inr (inl h)) q = omega arith
 not-18 (inr (inr (inl h))) q = omega arith
-not-18 (inr (inr (inr h))) q = omega arith
+not-18 (inr (inr (inr (inl h)))) q = omega arith
+not-18 (inr (inr (inr (inr h)))) q = omega arith
 
 infixr 20 _then_
 -- each refusal of a list has such a number
@@ -86,7 +87,7 @@ not-free-order sections set =
 -- 30 and 34: of the section that an event names
 fit-order : (L : Layout) (g : ℕ) → Known (noHeads L g) × Known (hasHeads L g)
 unfolding noHeads hasHeads OfEvents
-fit-order L g = (when-order _ 30 g (inr (inl refl)), when-order _ 34 g (inr (inr (inl refl))))
+fit-order L g = (when-order _ 30 g (inr (inl refl)), when-order _ 34 g (inr (inr (inr (inl refl)))))
 
 -- throw: 15, 16, then 7 and 8
 throw-order : (L : Layout) (t : Tables) (p : ℕ) → Known (throwRefusal L t p)
@@ -116,11 +117,12 @@ cancel-order : (t : Tables) (r : ℕ) → Known (cancelRefusal t r)
 unfolding cancelRefusal
 cancel-order t r = first-order (when-order _ 13 _ (low (omega arith)) then when-order _ 14 _ (low (omega arith)) then no-more)
 
--- secure: 12, 11, 6, 10
-secure-order : (L : Layout) (t : Tables) (l : ℕ) → Known (secureRefusal L t l)
-unfolding secureRefusal notPlaced blockBarred blockHeld
-secure-order L t l =
-    first-order (when-order _ 12 _ (low (omega arith)) then found-order 11 _ _ (omega arith) then found-order 6 _ _ (omega arith) then found-order 10 _ _ (omega arith) then no-more)
+-- secure: 12, 11, 6, 10, 31
+secure-order : (L : Layout) (t : Tables) (l w : ℕ) → Known (secureRefusal L t l w)
+unfolding secureRefusal notPlaced blockBarred blockHeld arrivalDark OfEvents
+secure-order L t l w =
+    first-order (when-order _ 12 _ (low (omega arith)) then found-order 11 _ _ (omega arith) then found-order 6 _ _ (omega arith) then found-order 10 _ _ (omega arith)
+    then when-order _ 31 _ (inr (inr (inl refl))) then no-more)
 
 -- manual release: 17, then 7 and 8
 manual-order : (L : Layout) (t : Tables) (l : ℕ) → Known (manualRefusal L t l)
@@ -129,25 +131,26 @@ manual-order L t l = first-order (found-order 17 _ _ (omega arith) then not-free
 
 -- what is refused besides, row by row: of an order one of these, of a reset 35, of a kind that has no row 1
 besides-order : (L : Layout) (s : State) (k a b : ℕ) {row : Row} → OfKind L s a b k row → Known (row .besides)
-unfolding sectionRow pointRow throwRow setRow cancelRow secureRow manualRow barRow secondRow headRow countRow silentRow resetRow stillSilent noRow refused OfEvents
+unfolding sectionRow pointRow throwRow setRow cancelRow secureRow manualRow barRow secondRow headRow countRow silentRow resetRow stillSilent lampRow noRow refused OfEvents
 besides-order L s k a b (section-row q) = none-order
 besides-order L s k a b (point-row q) = none-order
 besides-order L s k a b (throw-row q) = throw-order L _ a
 besides-order L s k a b (set-row q) = set-order L _ a
 besides-order L s k a b (cancel-row q) = cancel-order _ a
-besides-order L s k a b (secure-row q) = secure-order L _ a
+besides-order L s k a b (secure-row q) = secure-order L _ a b
 besides-order L s k a b (manual-row q) = manual-order L _ a
 besides-order L s k a b (bar-row q) = none-order
 besides-order L s k a b (unbar-row q) = none-order
 besides-order L s k a b (second-row q) = none-order
 besides-order L s k a b (count-row q) = none-order
 besides-order L s k a b (silent-row q) = none-order
-besides-order L s k a b (reset-row q) = when-order _ 35 a (inr (inr (inr refl)))
+besides-order L s k a b (reset-row q) = when-order _ 35 a (inr (inr (inr (inr refl))))
+besides-order L s k a b (lamp-row q) = none-order
 besides-order L s k a b (no-row u) = low (omega arith)
 
 -- whether its section has heads, row by row: of an event of heads 30, of a reading of kind 1 34, of any other nothing
 misfit-order : (L : Layout) (s : State) (k a b : ℕ) {row : Row} → OfKind L s a b k row → Known (row .misfit)
-unfolding sectionRow pointRow throwRow setRow cancelRow secureRow manualRow barRow secondRow headRow countRow silentRow resetRow stillSilent noRow
+unfolding sectionRow pointRow throwRow setRow cancelRow secureRow manualRow barRow secondRow headRow countRow silentRow resetRow stillSilent lampRow noRow
 misfit-order L s k a b (section-row q) = fit-order L a .1
 misfit-order L s k a b (point-row q) = none-order
 misfit-order L s k a b (throw-row q) = none-order
@@ -161,6 +164,7 @@ misfit-order L s k a b (second-row q) = none-order
 misfit-order L s k a b (count-row q) = fit-order L (a / 2) .0
 misfit-order L s k a b (silent-row q) = fit-order L (a / 2) .0
 misfit-order L s k a b (reset-row q) = fit-order L a .0
+misfit-order L s k a b (lamp-row q) = none-order
 misfit-order L s k a b (no-row u) = none-order
 
 -- where soundness was found, the test for 18 does not refuse

@@ -1,4 +1,4 @@
--- What follows an event, signals, far sections, routes and line release, keeps the state in range.
+-- What follows an event, signals, far sections, routes, blocks that wait and line release, keeps the state in range.
 use Prim.Native.Nat.{ℕ}
 use mathlib.Core.Bool.{Bool}
 use mathlib.Core.List.{List}
@@ -15,12 +15,14 @@ use Rattle.release.specs.declared.Locking.{Locking}
 use Rattle.release.specs.declared.WatchedPair.{WatchedPair}
 use Rattle.release.specs.Release.{stepsAfter, secondsAfter, lockingAfter}
 use Rattle.line_block.specs.FarSections.{farMoved, farStageAt, farStages}
+use Rattle.line_block.specs.PassingBack.{passedBack}
 use Rattle.line_block.specs.LineRelease.{directionAfter, directionsAfter}
 use Rattle.layout.specs.declared.Layout.{Layout}
 use Rattle.interlocking.specs.declared.State.{State}
-use Rattle.interlocking.specs.Settle.{fallenAt, signals, farSections, lockingOf, routeAfter, unlessIdle, routesBy, routes, lineRelease, settle}
+use Rattle.interlocking.specs.Settle.{fallenAt, signals, farSections, lockingOf, routeAfter, unlessIdle, routesBy, routes, arrivals, lineRelease, settle}
 use Rattle.step_facts.specs.Range.{In, InRange}
 use Rattle.step_facts.proofs.Range.{each-within, read-within, routes-range, lines-range}
+use Rattle.step_facts.proofs.Own.{waited-in}
 
 -- ---- signals
 
@@ -37,17 +39,17 @@ signals-range L {s} R = routes-range R (each-within (R .phase) _ _ (fallen-in (L
 -- ---- far sections
 
 -- a block's far section gives it one of its stages
-far-stage-in : (far : ℕ) (dropped : Bool) (was : ℕ) → In 0 3 was → In 0 3 (farStage far dropped was)
+far-stage-in : (far : ℕ) (dropped : Bool) (was : ℕ) → In 0 4 was → In 0 4 (farStage far dropped was)
 unfolding farStage
 far-stage-in far dropped was h =
-    if-both (In 0 3) _ (λ t. if-both (In 0 3) _ (λ u. omega arith) (λ u. omega arith))
-    (λ t. if-both (In 0 3) _ (λ u. if-both (In 0 3) _ (λ x. omega arith) (λ x. omega arith)) (λ u. h))
+    if-both (In 0 4) _ (λ t. if-both (In 0 4) _ (λ u. omega arith) (λ u. omega arith))
+    (λ t. if-both (In 0 4) _ (λ u. if-both (In 0 4) _ (λ x. omega arith) (λ x. omega arith)) (λ u. h))
 
 -- so too by the direction of its line: in neutral the stage stays
-far-in : (ls : List Line) (directions sections : List ℕ) (before after : Signal → Bool) (k was : ℕ) → In 0 3 was
-    → In 0 3 (farStageAt ls directions sections before after k was)
+far-in : (ls : List Line) (directions sections : List ℕ) (before after : Signal → Bool) (k was : ℕ) → In 0 4 was
+    → In 0 4 (farStageAt ls directions sections before after k was)
 unfolding farStageAt farMoved
-far-in ls directions sections before after k was h = if-both (In 0 3) _ (λ t. h) (λ t. far-stage-in _ _ was h)
+far-in ls directions sections before after k was h = if-both (In 0 4) _ (λ t. h) (λ t. far-stage-in _ _ was h)
 
 -- so the stages stay in range
 far-range : (L : Layout) (before : State) {s : State} → InRange s → InRange (farSections L before s)
@@ -104,6 +106,13 @@ routes-after-range L {s} e R =
     (each-within (R .steps) _ _ (λ r was h. unless-in s r was _ 0 3 h (route-in (L .line) (L .route) e r R .steps)))
     (each-within (R .seconds) _ _ (λ r was h. unless-in s r was _ 0 89 h (route-in (L .line) (L .route) e r R .seconds)))
 
+-- ---- blocks that wait
+
+-- a block that waited is open or stays
+arrivals-range : (L : Layout) (before : State) {s : State} → InRange s → InRange (arrivals L before s)
+unfolding arrivals passedBack
+arrivals-range L before {s} R = lines-range R (R .direction) (each-within (R .stage) _ _ (waited-in (L .line) _ _ _ _))
+
 -- ---- line release
 
 -- a line stays as it is or becomes neutral
@@ -121,4 +130,4 @@ release-range L before {s} R = lines-range R (each-within (R .direction) _ _ (λ
 -- one after the other
 pub settle-range : (L : Layout) (before : State) {s : State} (e : Gives) → InRange s → InRange (settle L before s e)
 unfolding settle
-settle-range L before e R = release-range L before (routes-after-range L e (far-range L before (signals-range L R)))
+settle-range L before e R = release-range L before (arrivals-range L before (routes-after-range L e (far-range L before (signals-range L R))))

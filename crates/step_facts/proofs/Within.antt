@@ -24,13 +24,13 @@ use Rattle.layout.specs.declared.Layout.{Layout}
 use Rattle.layout.specs.Layout.{lineIn, routeIn}
 use Rattle.line_block.specs.LineRelease.{passable, endsBy, directionAfter, directionsAfter}
 use Rattle.interlocking.specs.declared.State.{State}
-use Rattle.interlocking.specs.State.{withSections, withPoints, withRoutes, withLines, withBars, withAxles}
-use Rattle.interlocking.specs.Own.{ownSection, ownPoint, ownThrow, ownSet, ownCancel, ownSecure, ownManual, ownBar, headsOf, ownHeads}
+use Rattle.interlocking.specs.State.{withSections, withPoints, withRoutes, withLines, withBars, withAxles, withLamps}
+use Rattle.interlocking.specs.Own.{ownSection, ownPoint, ownThrow, ownSet, ownCancel, ownSecure, ownManual, ownBar, headsOf, ownHeads, ownLamp}
 use Rattle.tables.specs.Locks.{locked, lockedExitBy, lockedExit}
-use Rattle.interlocking.specs.Settle.{fallenAt, signals, farSections, lockingOf, routeAfter, unlessIdle, routesBy, routes, lineRelease, settle}
-use Rattle.interlocking.specs.Rows.{Row, sectionRow, pointRow, throwRow, setRow, cancelRow, secureRow, manualRow, barRow, secondRow, headRow, countRow, silentRow, resetRow, noRow}
+use Rattle.interlocking.specs.Settle.{fallenAt, signals, farSections, lockingOf, routeAfter, unlessIdle, routesBy, routes, arrivals, lineRelease, settle}
+use Rattle.interlocking.specs.Rows.{Row, sectionRow, pointRow, throwRow, setRow, cancelRow, secureRow, manualRow, barRow, secondRow, headRow, countRow, silentRow, resetRow, lampRow, noRow}
 use Rattle.interlocking.specs.Step.{own, gives, after}
-use Rattle.interlocking.proofs.Rows.{OfKind, section-row, point-row, throw-row, set-row, cancel-row, secure-row, manual-row, bar-row, unbar-row, second-row, count-row, silent-row, reset-row, no-row, row-of, heads-row}
+use Rattle.interlocking.proofs.Rows.{OfKind, section-row, point-row, throw-row, set-row, cancel-row, secure-row, manual-row, bar-row, unbar-row, second-row, count-row, silent-row, reset-row, lamp-row, no-row, row-of, heads-row}
 use Rattle.step_facts.specs.Run.{Event}
 use Rattle.step_facts.proofs.Entries.{phase, direction, stage, ends, read-each, put-elsewhere}
 use Rattle.step_facts.proofs.Tells.{Tells, by-code, by-heads, Untold, tells-nothing, tells-no-order, tells-once}
@@ -49,6 +49,10 @@ lit L s e = signals L (done L s e)
 abbrev pub moved : Layout → State → Event → State
 moved L s e = routes L (farSections L s (lit L s e)) (gives L s (e .kind) (e .first) (e .second))
 
+-- after the blocks that wait (L3)
+abbrev pub waited : Layout → State → Event → State
+waited L s e = arrivals L s (moved L s e)
+
 -- at its end
 abbrev pub end : Layout → State → Event → State
 end L s e = after L s (e .kind) (e .first) (e .second)
@@ -62,7 +66,7 @@ On k e a = (e .kind ≡ k) × (e .first ≡ a)
 -- the state that it leaves, by its kind: one that gives a section a reading differs from s in the heads before it is given; the other kinds leave sections,
 -- heads, directions, stages and what is held of routes as they are
 pub data Done (L : Layout) (s : State) (e : Event) : State → Type 0 where
-  reads : {g v : ℕ} {xs : List Axles} → Tells s e g v xs → Done L s e (ownSection (L .line) (L .lines) (withAxles s xs) g v)
+  reads : {g v : ℕ} {xs : List Axles} → Tells s e g v xs → Done L s e (ownSection (L .signals) (L .line) (L .lines) (withAxles s xs) g v)
   sets : e .kind ≡ 4 → Done L s e (ownSet s (e .first))
   cancels : e .kind ≡ 5 → Done L s e (ownCancel s (e .first))
   secures : e .kind ≡ 6 → Done L s e (ownSecure s (e .first) (e .second))
@@ -74,8 +78,8 @@ pub data Done (L : Layout) (s : State) (e : Event) : State → Type 0 where
 
 -- by its row
 pub is-done : (L : Layout) (s : State) (e : Event) → Done L s e (done L s e)
-unfolding own sectionRow pointRow throwRow setRow cancelRow secureRow manualRow barRow secondRow headRow countRow silentRow resetRow noRow ownPoint ownThrow ownBar ownHeads
-    withPoints withBars withAxles headsOf
+unfolding own sectionRow pointRow throwRow setRow cancelRow secureRow manualRow barRow secondRow headRow countRow silentRow resetRow lampRow noRow ownPoint ownThrow ownBar ownHeads ownLamp
+    withPoints withBars withAxles withLamps headsOf
 is-done L s e = go (row-of L s (e .kind) (e .first) (e .second))
   where
     same : (s .section ≡ s .section) × (s .phase ≡ s .phase) × (s .direction ≡ s .direction) × (s .stage ≡ s .stage) × (s .steps ≡ s .steps) × (s .seconds ≡ s .seconds)
@@ -100,14 +104,15 @@ is-done L s e = go (row-of L s (e .kind) (e .first) (e .second))
     go (count-row (inr q)) = told (count-row (inr q)) (omega arith)
     go (silent-row q) = told (silent-row q) (omega arith)
     go (reset-row q) = told (reset-row q) (omega arith)
-    go (no-row u) = leaves (u .no-set, u .no-cancel, u .no-secure, u .no-release, (u .no-section, u .no-in, u .no-out, u .no-silent, u .no-reset)) same
+    go (lamp-row q) = leaves (omega arith) same
+    go (no-row u) = leaves (u .others .no-set, u .others .no-cancel, u .others .no-secure, u .others .no-release, (u .others .no-section, u .no-in, u .no-out, u .no-silent, u .no-reset)) same
 
 module _ (L : Layout) {s : State} {e : Event} {g v : ℕ} {xs : List Axles} (told : Tells s e g v xs) where
   -- the state that an event leaves which gives section g the reading v: it gives no other
-  pub tells-done : done L s e ≡ ownSection (L .line) (L .lines) (withAxles s xs) g v
+  pub tells-done : done L s e ≡ ownSection (L .signals) (L .line) (L .lines) (withAxles s xs) g v
   tells-done = go (is-done L s e)
     where
-      go : {t : State} → Done L s e t → t ≡ ownSection (L .line) (L .lines) (withAxles s xs) g v
+      go : {t : State} → Done L s e t → t ≡ ownSection (L .signals) (L .line) (L .lines) (withAxles s xs) g v
       go (reads u) = let (a, b, c) = tells-once u told in rw (a, b, c)
       go (sets k) = absurd (tells-no-order told (omega arith))
       go (cancels k) = absurd (tells-no-order told (omega arith))
@@ -117,7 +122,7 @@ module _ (L : Layout) {s : State} {e : Event} {g v : ℕ} {xs : List Axles} (tol
 
   -- so at its end that section reads v, and any other what it read
   pub tells-readings : end L s e .section ≡ put mostSections (s .section) g v
-  unfolding after settle lineRelease withLines routes routesBy withRoutes farSections signals ownSection withSections withAxles
+  unfolding after settle lineRelease withLines arrivals routes routesBy withRoutes farSections signals ownSection withSections withAxles
   tells-readings = ap (λ (t : State). t .section) tells-done
 
 -- the same of points and bars; the other kinds leave both as they are
@@ -130,8 +135,8 @@ pub data Placed (s : State) (e : Event) : State → Type 0 where
 
 -- by its row
 pub is-placed : (L : Layout) (s : State) (e : Event) → Placed s e (done L s e)
-unfolding own sectionRow pointRow throwRow setRow cancelRow secureRow manualRow barRow secondRow headRow countRow silentRow resetRow noRow
-    ownSection ownSet ownCancel ownSecure ownManual ownHeads withSections withRoutes withLines withAxles
+unfolding own sectionRow pointRow throwRow setRow cancelRow secureRow manualRow barRow secondRow headRow countRow silentRow resetRow lampRow noRow
+    ownSection ownSet ownCancel ownSecure ownManual ownHeads ownLamp withSections withRoutes withLines withAxles withLamps
 is-placed L s e = go (row-of L s (e .kind) (e .first) (e .second))
   where
     go : {row : Row} → OfKind L s (e .first) (e .second) (e .kind) row → Placed s e (row .does)
@@ -149,7 +154,8 @@ is-placed L s e = go (row-of L s (e .kind) (e .first) (e .second))
     go (count-row (inr q)) = untouched (omega arith) (refl, refl)
     go (silent-row q) = untouched (omega arith) (refl, refl)
     go (reset-row q) = untouched (omega arith) (refl, refl)
-    go (no-row u) = untouched (u .no-point, u .no-throw, u .no-bar, u .no-unbar) (refl, refl)
+    go (lamp-row q) = untouched (omega arith) (refl, refl)
+    go (no-row u) = untouched (u .others .no-point, u .others .no-throw, u .others .no-bar, u .others .no-unbar) (refl, refl)
 
 -- ---- routes
 
@@ -183,7 +189,7 @@ module _ (L : Layout) (few : L .routes ≤ mostTrainRoutes) (s : State) (e : Eve
 
   -- by the end of the event a route is idle, or in the phase that its signal left it in
   pub phase-kept : phase (end L s e) r ≢ 0 → phase (end L s e) r ≡ phase (lit L s e) r
-  unfolding after settle lineRelease withLines routes routesBy withRoutes farSections
+  unfolding after settle lineRelease withLines arrivals routes routesBy withRoutes farSections
   phase-kept = rw (read-each mostRoutes 0 (L .routes) _ (lit L s e .phase) r (omega arith) b) (let-go L (farSections L s (lit L s e)) _ r)
 
   -- a route whose signal is not at proceed after the event's own effect goes, or keeps its phase
@@ -249,14 +255,14 @@ module _ (L : Layout) (few : L .lines ≤ mostLines) (s : State) (e : Event) (l 
 
   -- by the end of the event the line is as its own effect left it, or the line release made it neutral
   pub released : (direction (end L s e) l ≡ direction (done L s e) l)
-      ⊎ ((direction (end L s e) l ≡ 0) × (ends L s (moved L s e) l (direction (done L s e) l) ≡ true))
-  unfolding after settle lineRelease directionsAfter withLines routes routesBy withRoutes farSections signals directionAfter lineIn
+      ⊎ ((direction (end L s e) l ≡ 0) × (ends L s (waited L s e) l (direction (done L s e) l) ≡ true))
+  unfolding after settle lineRelease directionsAfter withLines arrivals routes routesBy withRoutes farSections signals directionAfter lineIn
   released =
       rw (read-each mostLines 0 (L .lines) _ (done L s e .direction) l (omega arith) b)
       (if-both R _ (λ t. inl refl) (λ f. if-both R _ (λ t. inr (refl, t)) (λ t. inl refl)))
     where
       R : ℕ → Type 0
-      R n = (n ≡ direction (done L s e) l) ⊎ ((n ≡ 0) × (ends L s (moved L s e) l (direction (done L s e) l) ≡ true))
+      R n = (n ≡ direction (done L s e) l) ⊎ ((n ≡ 0) × (ends L s (waited L s e) l (direction (done L s e) l) ≡ true))
 
   -- a line with a held block does not become neutral by itself
   pub direction-held : (i : ℕ) → i < lineIn L l .blocks → stage (end L s e) l i ≢ 0

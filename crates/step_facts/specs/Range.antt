@@ -2,8 +2,8 @@
 use Prim.Native.Nat.{ℕ, _<_, _≤_}
 use mathlib.Core.List.{List}
 use lib.ListN.{getD}
-use Rattle.track.specs.Codes.{free, left, right, readsNone, neutral, bToA, openBlock, stage2, idle, cancelling}
-use Rattle.track.specs.Sizes.{mostSections, mostPoints, mostLines, mostPlaces, mostTrainRoutes, mostRoutes}
+use Rattle.track.specs.Codes.{free, left, right, readsNone, neutral, bToA, openBlock, stage3, idle, cancelling, lampStop, lampNone}
+use Rattle.track.specs.Sizes.{mostSections, mostPoints, mostLines, mostPlaces, mostTrainRoutes, mostRoutes, mostLamps}
 use Rattle.interlocking.specs.declared.State.{State}
 
 -- x lies in low .. high
@@ -42,13 +42,17 @@ Seconds xs = Within mostTrainRoutes 0 89 xs
 abbrev pub Directions : List ℕ → Type 0
 Directions xs = Within mostLines neutral bToA xs
 
--- stages of blocks (section 5)
+-- stages of blocks (section 5, L3)
 abbrev pub Stages : List ℕ → Type 0
-Stages xs = Within mostPlaces openBlock stage2 xs
+Stages xs = Within mostPlaces openBlock stage3 xs
 
 -- bars, 0 or 1 (section 3)
 abbrev pub Bars : List ℕ → Type 0
 Bars xs = Within mostPlaces 0 1 xs
+
+-- what lamps report (L3)
+abbrev pub Lamps : List ℕ → Type 0
+Lamps xs = Within mostLamps lampStop lampNone xs
 
 -- each table has codes that there are
 pub record InRange (s : State) : Type 0 where
@@ -61,3 +65,4 @@ pub record InRange (s : State) : Type 0 where
   pub direction : Directions (s .direction)
   pub stage : Stages (s .stage)
   pub bar : Bars (s .bar)
+  pub lamp : Lamps (s .lamp)

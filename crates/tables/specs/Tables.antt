@@ -2,7 +2,7 @@
 use Prim.Native.Nat.{ℕ}
 use mathlib.Core.List.{List, []}
 
--- what sections and points read; the phases of routes; the directions of lines; the stages and the bars of blocks
+-- what sections and points read; the phases of routes; the directions of lines; the stages and the bars of blocks; what lamps report (L3)
 pub record Tables : Type 0 where
   pub section : List ℕ
   pub point : List ℕ
@@ -10,6 +10,7 @@ pub record Tables : Type 0 where
   pub direction : List ℕ
   pub stage : List ℕ
   pub bar : List ℕ
+  pub lamp : List ℕ
 
 -- stands for a table that a refusal does not look at
 abbrev pub unasked : List ℕ

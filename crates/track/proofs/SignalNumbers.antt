@@ -252,3 +252,16 @@ count-on m l count more ls b e f g = ap₂ _+_ e (g ∙ ap betweenBlocks f) ∙ 
 -- no line is left: all are counted
 pub count-end : (m l n count : ℕ) (ls : List Line) → count ≡ signalCount m l ls → l ≤ n → n ≤ l → count ≡ signalCount m n ls
 count-end m l n count ls e b f = let d : l ≡ n = omega arith in e ∙ ap (λ k. signalCount m k ls) d
+
+-- ---- the number of a block signal, as the code puts it together
+
+module _ (m l i w before : ℕ) (ls : List Line) (e : before ≡ signalCount m l ls) where
+  -- from A to B: after the signals of the lines before, those into the blocks before its own
+  pub number-up : (k : ℕ) → w ≡ aToB → k ≡ i - 1 → before + k ≡ numberOf m ls (into l i w)
+  unfolding numberOf
+  number-up k h q = ap₂ _+_ (e ∙ count-all ls m l) (if-eq w aToB _ _ k h q)
+
+  -- from B to A: after those for the other direction too
+  pub number-down : (k j : ℕ) (b : Line) → (w ≡ aToB → ⊥) → b ≡ line ls l → k ≡ b .blocks - 1 → j ≡ i → before + (k + j) ≡ numberOf m ls (into l i w)
+  unfolding numberOf
+  number-down k j b h f q p = ap₂ _+_ (e ∙ count-all ls m l) (if-ne w aToB _ _ (k + j) h (ap₂ _+_ (q ∙ ap (λ (z : Line). z .blocks - 1) f) p))

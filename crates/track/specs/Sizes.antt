@@ -21,6 +21,10 @@ mostBlocks = 8
 abbrev pub mostPlaces : ℕ
 mostPlaces = 64
 
+-- lamps (L3), one for each main and block signal: a line of eight blocks has seven block signals each way
+abbrev pub mostLamps : ℕ
+mostLamps = 144
+
 -- distants (L2); the last version of the layout file
 abbrev pub mostDistants : ℕ
 mostDistants = 32

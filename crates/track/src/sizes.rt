@@ -27,6 +27,11 @@ pub const PLACES: usize = LINES * BLOCKS;
 
 pub const MOST_PLACES: u8 = 64;
 
+// Lamps (request L3), one for each main and block signal: a line of eight blocks has seven block signals each way.
+pub const LAMPS: usize = SIGNALS + LINES * 2 * (BLOCKS - 1);
+
+pub const MOST_LAMPS: u64 = 144;
+
 // Distants (request L2); the last version of the layout file.
 pub const DISTANTS: usize = 32;
 

@@ -25,7 +25,7 @@ use Rattle.layout_facts.specs.Plain.{Sound}
 use Rattle.interlocking.specs.declared.State.{State}
 use Rattle.interlocking.specs.State.{withSections, withRoutes, withLines, withAxles}
 use Rattle.interlocking.specs.Own.{ownSection, ownSet, ownCancel, ownSecure, openAt, ownManual}
-use Rattle.interlocking.specs.Settle.{signals, farSections, lockingOf, routeAfter, unlessIdle, routesBy, routes, lineRelease, settle}
+use Rattle.interlocking.specs.Settle.{signals, farSections, lockingOf, routeAfter, unlessIdle, routesBy, routes, arrivals, lineRelease, settle}
 use Rattle.interlocking.specs.Rows.{aSecond, cancelRow, manualRow, secondRow, rowWith, rowOf}
 use Rattle.interlocking.specs.Step.{own, gives, after}
 use Rattle.step_facts.specs.Run.{Event, event}
@@ -111,7 +111,7 @@ module _ (L : Layout) (S : Sound L) (s : State) (r : ℕ) (b : r < L .routes) (t
 
   -- so by the end of a second it goes, or has counted one more
   pub second-on : (phase (end L s (event 10 0 0)) r ≡ 0) ⊎ ((phase (end L s (event 10 0 0)) r ≡ 3) × (second (end L s (event 10 0 0)) r ≡ second s r + 1))
-  unfolding far own gives rowOf rowWith secondRow aSecond if_then_else_ after settle lineRelease withLines routes routesBy withRoutes farSections signals routeAfter lockingOf
+  unfolding far own gives rowOf rowWith secondRow aSecond if_then_else_ after settle lineRelease withLines arrivals routes routesBy withRoutes farSections signals routeAfter lockingOf
   second-on =
       rw (
         read-each mostRoutes 0 (L .routes) _ (lit L s (event 10 0 0) .phase) r (omega (arith, S .ranges .routeCount)) b,
@@ -125,7 +125,7 @@ module _ (L : Layout) (S : Sound L) (s : State) (r : ℕ) (b : r < L .routes) (t
 
 -- a manual release leaves the sections
 pub release-sections : (L : Layout) (s : State) (l : ℕ) → end L s (event 7 l 1) .section ≡ s .section
-unfolding own rowOf rowWith manualRow ownManual if_then_else_ after settle lineRelease withLines routes routesBy withRoutes farSections signals
+unfolding own rowOf rowWith manualRow ownManual if_then_else_ after settle lineRelease withLines arrivals routes routesBy withRoutes farSections signals
 release-sections L s l = refl
 
 module _ (L : Layout) (S : Sound L) (s : State) (l : ℕ) (k : ℕ) (b : k < L .lines) where
@@ -146,9 +146,10 @@ module _ (L : Layout) (S : Sound L) (s : State) (l : ℕ) (k : ℕ) (b : k < L .
       chosen _ _ _ (and-both _ _ (eq-eqb _ _ (place-line k i few ∙ q)) (lt-ltb (place k i % mostBlocks) (line (L .line) l .blocks) (rw (place-block k i few, ← q) h)))
   opened i h few (inr z) = if-both (λ n. n ≡ 0) _ (λ t. refl) (λ f. z)
 
-  -- and at its end: far sections neither open a block nor shut one
+  -- and at its end: an open block does not wait, and far sections do not shut one
   pub open-on : (i : ℕ) → i < lineIn L k .blocks → (k ≡ l) ⊎ (stage s k i ≡ 0) → stage (end L s (event 7 l 1)) k i ≡ 0
   unfolding own rowOf rowWith manualRow ownManual withLines if_then_else_ isOpen
   open-on i h c =
       let few : i < mostBlocks = omega (arith, S .ranges .lines k b .blockCount) in
-      eqb-true _ 0 (open-same L S s (event 7 l 1) k i b h ∙ eq-eqb _ 0 (read-block k i few (L .lines) _ (s .stage) b (S .ranges .lineCount) ∙ opened i h few c))
+      let own = read-block k i few (L .lines) _ (s .stage) b (S .ranges .lineCount) ∙ opened i h few c in
+      eqb-true _ 0 (open-same L S s (event 7 l 1) k i b h (omega (arith, own)) ∙ eq-eqb _ 0 own)

@@ -22,7 +22,7 @@ use Rattle.layout_facts.specs.Plain.{Sound}
 use Rattle.interlocking.specs.declared.State.{State}
 use Rattle.interlocking.specs.State.{inRange, headsAt, withSections, withRoutes, withLines, withAxles}
 use Rattle.interlocking.specs.Own.{ownSection, headSection, headsBy}
-use Rattle.interlocking.specs.Settle.{signals, farSections, routesBy, routes, lineRelease, settle}
+use Rattle.interlocking.specs.Settle.{signals, farSections, routesBy, routes, arrivals, lineRelease, settle}
 use Rattle.interlocking.specs.Step.{refusal, after}
 use Rattle.interlocking.proofs.Rows.{head-named, reset-named}
 use Rattle.step_facts.specs.Run.{Event, event}
@@ -39,7 +39,7 @@ use Rattle.way_out.proofs.Goes.{Whole, Goes, stop, goes}
 
 -- points and bars stay
 pub told-else : (L : Layout) {s : State} {e : Event} {g v : ℕ} {xs : List Axles} → Tells s e g v xs → (end L s e .point ≡ s .point) × (end L s e .bar ≡ s .bar)
-unfolding after settle lineRelease withLines routes routesBy withRoutes farSections signals ownSection withSections withAxles
+unfolding after settle lineRelease withLines arrivals routes routesBy withRoutes farSections signals ownSection withSections withAxles
 told-else L told = (ap (λ (t : State). t .point) (tells-done L told), ap (λ (t : State). t .bar) (tells-done L told))
 
 module _ (L : Layout) {s : State} {e : Event} {g v : ℕ} {xs : List Axles} (told : Tells s e g v xs) (h : ℕ) (b : h < mostSections) where

@@ -1,4 +1,4 @@
--- What is granted of the orders that lead a route to proceed: throw, secure and set, from what the reasons to refuse them ask.
+-- What is granted of the events that lead a route to proceed: throw, a lamp's report, secure and set, from what the reasons to refuse them ask.
 use Prim.Native.Nat.{ℕ, _+_, _<_}
 use mathlib.Core.Path.{_≡_, refl, sym, ap, _∙_}
 use mathlib.Core.Logic.{_⊎_, ⊎-elim}
@@ -17,17 +17,20 @@ use Rattle.sets.proofs.Sets.{holds-none, holds-union, holds-joined, holds-setOf
 use Rattle.track.specs.declared.Line.{Line}
 use Rattle.track.specs.Lists.{between}
 use Rattle.track.specs.Sizes.{mostSections, mostPoints}
+use Rattle.track.specs.Objects.{entrance}
 use Rattle.tables.specs.Readings.{reading, pointReading}
 use Rattle.tables.specs.Blocks.{isOpen, unbarred}
 use Rattle.tables.specs.Locks.{locked}
+use Rattle.passage.specs.Passage.{arrival}
+use Rattle.lamps.specs.Lamps.{lampOf, reportsNone}
 use Rattle.layout.specs.declared.Layout.{Layout}
 use Rattle.layout.specs.Layout.{lineIn, routeIn}
 use Rattle.layout.specs.Sound.{sound}
-use Rattle.layout_facts.specs.Plain.{ownSection, nearestBlock, linePoint, linePosition, path, overlap, routePoint, routePosition, Sound}
+use Rattle.layout_facts.specs.Plain.{ownSection, entranceSignal, nearestBlock, linePoint, linePosition, path, overlap, routePoint, routePosition, Sound}
 use Rattle.reasons.specs.declared.Refusal.{Refusal}
 use Rattle.reasons.specs.Refusal.{refused, noRefusal, found}
 use Rattle.reasons.specs.Searches.{misplaced, routeLocks, lineLocks, failing}
-use Rattle.reasons.specs.Reasons.{notPlaced, conflicting, byRoute, byLine, blockBarred, blockHeld}
+use Rattle.reasons.specs.Reasons.{notPlaced, conflicting, byRoute, byLine, blockBarred, blockHeld, arrivalDark}
 use Rattle.refusals.specs.Orders.{throwRefusal, exitRefusal, routeRefusal, setRefusal, secureRefusal}
 use Rattle.interlocking.specs.declared.State.{State}
 use Rattle.interlocking.specs.State.{inRange, tablesOf}
@@ -71,7 +74,12 @@ passing-none : (number : ℕ) (test : ℕ → Bool) (b : Line) → ((i : ℕ) �
 unfolding failing
 passing-none number test b h = found-none number _ _ (λ g c. any-fails _ _ (λ i k t. not-both (h i k) (not-true _ (and-right _ _ t))))
 
--- ---- throw and secure
+-- 31 is not given where the lamp of the entrance signal at the arrival end reports stop (L3)
+stop-none : (b : Line) (lamps : List ℕ) (w : ℕ) → lampOf lamps (entrance b (arrival w)) ≡ 1 → arrivalDark b lamps w .number ≡ 0
+unfolding arrivalDark reportsNone between _and_
+stop-none b lamps w q = when-none _ 31 _ (rw q)
+
+-- ---- throw, a lamp's report and secure
 
 module _ (L : Layout) (s : State) (ok : sound L ≡ true) (ranged : inRange s ≡ true) where
   -- one of two positions, or of two directions, is no wrong second number
@@ -91,15 +99,16 @@ module _ (L : Layout) (s : State) (ok : sound L ≡ true) (ranged : inRange s �
       ⊎-elim (λ z. not-both z (holds-none g)) (λ q. ap (reading (s .section)) (sym (eqb-true _ g q) ∙ read-at mostPoints 0 _ p (omega (arith, S .ranges .pointCount))) ∙ free)
       (or-cases _ _ (sym (holds-joined 0 _ g c) ∙ t)))))))
 
-  -- secure a neutral line whose blocks are open and not barred and whose points read their positions
+  -- secure a neutral line whose blocks are open and not barred, whose points read their positions and (L3) at whose arrival end the lamp reports stop
   pub secure-granted : (l w : ℕ) → l < L .lines → (w ≡ 1) ⊎ (w ≡ 2) → AtRest L s → AllUnbarred l (lineIn L l .blocks) s → LinePlaced L l s
-      → refusal (sound L and inRange s) L s 6 l w .number ≡ 0
-  unfolding rowOf rowWith secureRow if_then_else_ secureRefusal blockBarred blockHeld linePoint linePosition lineIn noRefusal refused
-  secure-granted l w b way rest bars placed =
+      → lampOf (s .lamp) (entranceSignal L l (arrival w)) ≡ 1 → refusal (sound L and inRange s) L s 6 l w .number ≡ 0
+  unfolding rowOf rowWith secureRow if_then_else_ secureRefusal blockBarred blockHeld linePoint linePosition entranceSignal lineIn noRefusal refused
+  secure-granted l w b way rest bars placed lit =
       granted L s ok ranged 6 l w (lt-leb _ l b) refl (one-of-two w way)
       (first-none _ _ _ (when-none _ 12 _ (ap not (eq-eqb _ 0 (rest .lines l b))))
       (first-none _ _ _ (passing-none 11 _ _ bars)
-      (first-none _ _ _ (placed-none _ _ _ _ placed) (last-none _ (passing-none 10 _ _ (λ i h. rest .blocks l i b h))))))
+      (first-none _ _ _ (placed-none _ _ _ _ placed)
+      (first-none _ _ _ (passing-none 10 _ _ (λ i h. rest .blocks l i b h)) (last-none _ (stop-none _ _ w lit))))))
 
 -- ---- set a route
 

@@ -3,7 +3,7 @@
 use Prim.Native.Nat.{ℕ, _<_, _≤_}
 use mathlib.Core.Path.{_≡_, refl, sym, ap, _∙_}
 use mathlib.Core.Logic.{_≢_, _⊎_, inl, inr, ⊎-elim}
-use mathlib.Core.Bool.{true, false}
+use mathlib.Core.Bool.{Bool, true, false}
 use mathlib.Core.List.{List}
 use native.Mathlib.Decide.{ℕ-discrete}
 use native.Mathlib.Omega.{arith}
@@ -11,9 +11,9 @@ use borrow.Author.Tests.{eqb-true, eq-eqb}
 use lib.Dec.{eqb}
 use Rattle.laws.specs.Choice.{if_then_else_}
 use Rattle.laws.proofs.Choice.{if-both, chosen, passed-over}
-use Rattle.laws.proofs.Tests.{not-both, fails-from, every-at, any-at, any-some}
+use Rattle.laws.proofs.Tests.{not-both, fails-from, every-at, or-cases, any-at, any-some}
 use Rattle.track.specs.declared.Line.{Line}
-use Rattle.track.specs.Sizes.{mostPoints, mostLines, mostBlocks, mostPlaces}
+use Rattle.track.specs.Sizes.{mostPoints, mostLines, mostBlocks, mostPlaces, mostLamps}
 use Rattle.track.specs.Blocks.{onlySection}
 use Rattle.track.proofs.OnlySection.{only-in, in-only}
 use Rattle.rules.specs.Rules.{hasBlock, isBlock}
@@ -21,23 +21,27 @@ use Rattle.track.specs.Objects.{nearest}
 use Rattle.tables.specs.declared.Gives.{Gives}
 use Rattle.tables.specs.Readings.{recorded, reading, blockReading, blockGiven, pointReading}
 use Rattle.axles.specs.declared.Axles.{Axles}
-use Rattle.tables.specs.Blocks.{place, isOpen, unbarred}
+use Rattle.tables.specs.Blocks.{place, stageOf, isOpen, unbarred}
 use Rattle.passage.specs.Passage.{ownStage}
-use Rattle.line_block.specs.LineRelease.{lastBlock, wasInStage2, endsBy}
+use Rattle.lamps.specs.Lamps.{lampOf}
+use Rattle.line_block.specs.PassingBack.{waitedStageAt, passedBack}
+use Rattle.line_block.specs.OwnReadings.{ownGiven, ownStageAt, givenStages, ownStages}
+use Rattle.line_block.specs.LineRelease.{lastBlock, wasPassed, endsBy}
 use Rattle.layout.specs.declared.Layout.{Layout}
 use Rattle.layout.specs.Layout.{lineIn, routeIn}
 use Rattle.layout_facts.specs.Plain.{routePoint, routePosition, Sound}
 use Rattle.interlocking.specs.declared.State.{State}
-use Rattle.interlocking.specs.State.{withSections, withPoints, withRoutes, withLines, withBars, withAxles}
-use Rattle.interlocking.specs.Own.{ownGiven, ownStageAt, ownSection, ownPoint, throwReading, ownThrow, ownSet, ownCancel, ownSecure, ownBar}
-use Rattle.interlocking.specs.Settle.{signals, farSections, routesBy, routes, lineRelease, settle}
-use Rattle.interlocking.specs.Rows.{pointRow, throwRow, secureRow, barRow, rowWith, rowOf}
+use Rattle.interlocking.specs.State.{withSections, withPoints, withRoutes, withLines, withBars, withAxles, withLamps}
+use Rattle.interlocking.specs.Own.{ownSection, ownPoint, throwReading, ownThrow, ownSet, ownCancel, ownSecure, ownBar, ownLamp}
+use Rattle.interlocking.specs.Settle.{signals, farSections, routesBy, routes, arrivals, lineRelease, settle}
+use Rattle.interlocking.specs.Rows.{pointRow, throwRow, secureRow, barRow, lampRow, rowWith, rowOf}
 use Rattle.interlocking.specs.Step.{own, after}
 use Rattle.step_facts.specs.Run.{Event, event}
 use Rattle.way_out.specs.WayOut.{AtRest}
 use Rattle.step_facts.proofs.Entries.{block, block-below, direction, stage, place-line, place-block, read-block, put-here, put-elsewhere}
-use Rattle.step_facts.proofs.Tells.{Tells, tells-no-order, tells-once}
+use Rattle.step_facts.proofs.Tells.{Tells, tells-nothing, tells-no-order, tells-once}
 use Rattle.step_facts.proofs.Within.{done, end, Done, reads, sets, cancels, secures, opens, leaves, is-done, direction-same, released}
+use Rattle.line_block.proofs.PassingBackLaws.{not-waiting}
 use Rattle.step_facts.proofs.FarCases.{open-same}
 use Rattle.way_out.proofs.Freeing.{told-elsewhere}
 use Rattle.way_out.proofs.Calm.{idle-on}
@@ -63,22 +67,22 @@ module _ (L : Layout) (g : ℕ) where
       let (i, c, v) = any-some _ _ u in
       ap (reading (s .section)) (sym (in-only (lineIn L l) i g v)) ∙ rest .free l i b c
 
--- an open block to which nothing is given stays open
-given-nothing : ownStage 0 0 ≡ 0
+-- an open block to which nothing is given stays open, whatever the lamp of its far signal reports
+given-nothing : (lit : Bool) → ownStage 0 lit 0 ≡ 0
 unfolding ownStage if_then_else_
-given-nothing = refl
+given-nothing lit = refl
 
 -- a reading of a section that is not the block's gives it nothing
-keeps-open : (e : Gives) (b : Line) (i : ℕ) → onlySection b i ≢ e .section → ownStage (ownGiven e b i) 0 ≡ 0
+keeps-open : (e : Gives) (b : Line) (i : ℕ) (lit : Bool) → onlySection b i ≢ e .section → ownStage (ownGiven e b i) lit 0 ≡ 0
 unfolding ownGiven blockGiven
-keeps-open e b i d =
-    ap (λ v. ownStage v 0) (if-both (λ v. v ≡ 0) _ (λ t. passed-over _ _ _ (fails-from _ (λ u. d (in-only b i _ u)))) (λ f. refl)) ∙ given-nothing
+keeps-open e b i lit d =
+    ap (λ v. ownStage v lit 0) (if-both (λ v. v ≡ 0) _ (λ t. passed-over _ _ _ (fails-from _ (λ u. d (in-only b i _ u)))) (λ f. refl)) ∙ given-nothing lit
 
 module _ (L : Layout) (S : Sound L) (s : State) (e : Event) (told : (g v : ℕ) (xs : List Axles) → Tells s e g v xs → OffBlocks L g) (by-hand : e .kind ≢ 7) where
   -- an open block stays open in an event that is no manual release and gives no block anything
   pub open-stays : (l i : ℕ) → l < L .lines → i < lineIn L l .blocks → isOpen (s .stage) l i ≡ true → isOpen (end L s e .stage) l i ≡ true
-  unfolding isOpen ownSection ownSet ownCancel ownSecure withSections withRoutes withLines withAxles ownStageAt lineIn
-  open-stays l i b h o = open-same L S s e l i b h ∙ eq-eqb _ 0 (go (is-done L s e))
+  unfolding isOpen stageOf ownSection ownStages givenStages passedBack waitedStageAt ownSet ownCancel ownSecure withSections withRoutes withLines withAxles ownStageAt lineIn
+  open-stays l i b h o = let own = go (is-done L s e) in open-same L S s e l i b h (omega (arith, own)) ∙ eq-eqb _ 0 own
     where
       few : i < mostBlocks
       few = omega (arith, S .ranges .lines l b .blockCount)
@@ -86,10 +90,14 @@ module _ (L : Layout) (S : Sound L) (s : State) (e : Event) (told : (g v : ℕ) 
       was : stage s l i ≡ 0
       was = eqb-true _ 0 o
 
-      go : {t : State} → Done L s e t → stage t l i ≡ 0
-      go (reads u) =
+      given : {g v : ℕ} {xs : List Axles} → Tells s e g v xs
+          → stageOf (givenStages (L .lines) (L .signals) (L .line) (s .direction) (s .lamp) (record { section = g; reading = v; tick = 0 }) (s .stage)) l i ≡ 0
+      given u =
           read-block l i few (L .lines) _ (s .stage) b (S .ranges .lineCount)
-          ∙ rw (was, place-line l i few, place-block l i few) (keeps-open _ (lineIn L l) i (told _ _ _ u l i b h))
+          ∙ rw (was, place-line l i few, place-block l i few) (keeps-open _ (lineIn L l) i _ (told _ _ _ u l i b h))
+
+      go : {t : State} → Done L s e t → stage t l i ≡ 0
+      go (reads u) = read-block l i few (L .lines) _ _ b (S .ranges .lineCount) ∙ not-waiting _ _ _ _ _ _ _ (omega (arith, given u)) ∙ given u
       go (sets k) = was
       go (cancels k) = was
       go (secures k) = was
@@ -101,13 +109,18 @@ module _ (L : Layout) (S : Sound L) (s : State) (e : Event) (told : (g v : ℕ) 
 module _ (L : Layout) (s : State) where
   -- securing a line leaves sections, points and bars
   pub secure-else : (l w : ℕ) → (end L s (event 6 l w) .section ≡ s .section) × (end L s (event 6 l w) .point ≡ s .point) × (end L s (event 6 l w) .bar ≡ s .bar)
-  unfolding own rowOf rowWith secureRow ownSecure if_then_else_ after settle lineRelease withLines routes routesBy withRoutes farSections signals
+  unfolding own rowOf rowWith secureRow ownSecure if_then_else_ after settle lineRelease withLines arrivals routes routesBy withRoutes farSections signals
   secure-else l w = (refl, refl, refl)
+
+  -- a lamp's report of stop leaves points, and it is what the lamp then reports (L3)
+  pub stop-reported : (x : ℕ) → (end L s (event 15 x 1) .point ≡ s .point) × (x < mostLamps → lampOf (end L s (event 15 x 1) .lamp) x ≡ 1)
+  unfolding own rowOf rowWith lampRow ownLamp withLamps recorded if_then_else_ after settle lineRelease withLines arrivals routes routesBy withRoutes farSections signals lampOf
+  stop-reported x = (refl, λ b. put-here mostLamps 3 (s .lamp) x 1 x b refl)
 
   -- after a reading of point p, point q reads v: as it did, or as it is read now
   pub point-reads : (p w q v : ℕ) → q < mostPoints → (v ≡ 1) ⊎ (v ≡ 2) → (q ≡ p → v ≡ w) → (q ≡ p) ⊎ (pointReading (s .point) q ≡ v)
       → pointReading (end L s (event 2 p w) .point) q ≡ v
-  unfolding own rowOf rowWith pointRow ownPoint withPoints if_then_else_ after settle lineRelease withLines routes routesBy withRoutes farSections signals pointReading recorded
+  unfolding own rowOf rowWith pointRow ownPoint withPoints if_then_else_ after settle lineRelease withLines arrivals routes routesBy withRoutes farSections signals pointReading recorded
   point-reads p w q v b position same was = go (ℕ-discrete q p)
     where
       as-told : (v ≡ 1) ⊎ (v ≡ 2) → recorded v ≡ v
@@ -120,7 +133,7 @@ module _ (L : Layout) (s : State) where
 
   -- after a throw of point p, point q reads v as it did, where it is not thrown elsewhere
   throw-reads : (p w q v : ℕ) → q < mostPoints → (q ≡ p → v ≡ w) → pointReading (s .point) q ≡ v → pointReading (end L s (event 3 p w) .point) q ≡ v
-  unfolding own rowOf rowWith throwRow ownThrow throwReading withPoints if_then_else_ after settle lineRelease withLines routes routesBy withRoutes farSections signals pointReading
+  unfolding own rowOf rowWith throwRow ownThrow throwReading withPoints if_then_else_ after settle lineRelease withLines arrivals routes routesBy withRoutes farSections signals pointReading
   throw-reads p w q v b same was = go (ℕ-discrete q p)
     where
       go : Dec (q ≡ p) → pointReading (end L s (event 3 p w) .point) q ≡ v
@@ -131,7 +144,7 @@ module _ (L : Layout) (s : State) where
 
   -- an unbarred block is not barred, nor is one that was not
   pub unbar-clears : (k i l j : ℕ) → place l j < mostPlaces → (place l j ≡ place k i) ⊎ (unbarred (s .bar) l j ≡ true) → unbarred (end L s (event 9 k i) .bar) l j ≡ true
-  unfolding own rowOf rowWith barRow ownBar withBars if_then_else_ after settle lineRelease withLines routes routesBy withRoutes farSections signals unbarred
+  unfolding own rowOf rowWith barRow ownBar withBars if_then_else_ after settle lineRelease withLines arrivals routes routesBy withRoutes farSections signals unbarred
   unbar-clears k i l j b was = go (ℕ-discrete (place l j) (place k i))
     where
       go : Dec (place l j ≡ place k i) → unbarred (end L s (event 9 k i) .bar) l j ≡ true
@@ -160,7 +173,7 @@ quiet (by-point p w a) = omega arith
 
 -- they leave what sections read
 by-sections : (L : Layout) (r : ℕ) (s : State) (e : Event) → Prepares L r e → end L s e .section ≡ s .section
-unfolding own rowOf rowWith pointRow throwRow barRow ownPoint ownThrow ownBar withPoints withBars if_then_else_ after settle lineRelease withLines routes routesBy withRoutes farSections signals
+unfolding own rowOf rowWith pointRow throwRow barRow ownPoint ownThrow ownBar withPoints withBars if_then_else_ after settle lineRelease withLines arrivals routes routesBy withRoutes farSections signals
 by-sections L r s e (by-unbar l i) = refl
 by-sections L r s e (by-throw p w a) = refl
 by-sections L r s e (by-point p w a) = refl
@@ -168,14 +181,14 @@ by-sections L r s e (by-point p w a) = refl
 -- they bar no block
 by-bars : (L : Layout) → Sound L → (r : ℕ) (s : State) (e : Event) → Prepares L r e → (l i : ℕ) → l < L .lines → i < lineIn L l .blocks → unbarred (s .bar) l i ≡ true
     → unbarred (end L s e .bar) l i ≡ true
-unfolding own rowOf rowWith pointRow throwRow ownPoint ownThrow withPoints if_then_else_ after settle lineRelease withLines routes routesBy withRoutes farSections signals place
+unfolding own rowOf rowWith pointRow throwRow ownPoint ownThrow withPoints if_then_else_ after settle lineRelease withLines arrivals routes routesBy withRoutes farSections signals place
 by-bars L S r s e (by-unbar k j) l i b c was = unbar-clears L s k j l i (omega (arith, S .ranges .lines l b .blockCount, S .ranges .lineCount)) (inr was)
 by-bars L S r s e (by-throw p w a) l i b c was = was
 by-bars L S r s e (by-point p w a) l i b c was = was
 
 -- they take no point of the route out of position
 by-points : (L : Layout) → Sound L → (r : ℕ) → r < L .routes → (s : State) (e : Event) → Prepares L r e → RoutePlaced L r s → RoutePlaced L r (end L s e)
-unfolding own rowOf rowWith barRow ownBar withBars if_then_else_ after settle lineRelease withLines routes routesBy withRoutes farSections signals
+unfolding own rowOf rowWith barRow ownBar withBars if_then_else_ after settle lineRelease withLines arrivals routes routesBy withRoutes farSections signals
 by-points L S r b s e (by-unbar l i) was = was
 by-points L S r b s e (by-throw p w a) was =
     λ j c. throw-reads L s p w _ _ (omega (arith, S .ranges .routes r b .points j c, S .ranges .pointCount)) (a j c) (was j c)
@@ -228,6 +241,16 @@ module _ (L : Layout) (S : Sound L) (s : State) (rest : AtRest L s) where
     placed = by-points L S r b s e by;
   }
 
+  -- so does a lamp's report of stop (L3): it leaves sections, points and bars
+  pub stop-onward : (r x : ℕ) → Onward L r s (end L s (event 15 x 1))
+  unfolding own rowOf rowWith lampRow ownLamp withLamps if_then_else_ after settle lineRelease withLines arrivals routes routesBy withRoutes farSections signals
+  stop-onward r x = record {
+    rest = rest-on (event 15 x 1) (omega arith) (λ g v xs told. absurd (tells-nothing told (omega arith))) (rest .free);
+    free = λ g c was. was;
+    bars = λ l i b c was. was;
+    placed = λ was. was;
+  }
+
 -- ---- what lasts
 
 module _ (L : Layout) (r : ℕ) where
@@ -255,10 +278,13 @@ module _ (L : Layout) (S : Sound L) (s : State) (l : ℕ) (b : l < L .lines) (re
   unfolding lastBlock nearest
   last-there w = let few = S .ranges .lines l b .blockCount in if-both (λ i. i < lineIn L l .blocks) _ (λ t. omega arith) (λ f. omega arith)
 
-  -- from rest it is secured: no block was in stage 2, so the line is not released in the same event
+  -- from rest it is secured: no block was in stage 2 or 3, so the line is not released in the same event
   pub secured-on : (w : ℕ) → direction (end L s (event 6 l w)) l ≡ w
-  unfolding own rowOf rowWith secureRow ownSecure withLines if_then_else_ endsBy wasInStage2 isOpen
-  secured-on w = ⊎-elim (λ q. q ∙ here) (λ t. absurd (omega (arith, eqb-true last 3 (every-at _ (t .1) 0), was))) (released L (S .ranges .lineCount) s (event 6 l w) l b)
+  unfolding own rowOf rowWith secureRow ownSecure withLines if_then_else_ endsBy wasPassed stageOf isOpen
+  secured-on w =
+      ⊎-elim (λ q. q ∙ here)
+      (λ t. absurd (⊎-elim (λ u. omega (arith, eqb-true last 3 u, was)) (λ u. omega (arith, eqb-true last 4 u, was)) (or-cases _ _ (every-at _ (t .1) 0))))
+      (released L (S .ranges .lineCount) s (event 6 l w) l b)
     where
       last : ℕ
       last = stage s l (lastBlock (lineIn L l) (direction (done L s (event 6 l w)) l))

@@ -7,11 +7,13 @@ use mathlib.Core.List.{[], _∷_, _++_}
 use native.Mathlib.Omega.{arith}
 use borrow.Author.Tests.{eqb-true, eqb-false}
 use Rattle.laws.proofs.Choice.{if-both}
+use Rattle.passage.specs.Passage.{arrival}
+use Rattle.lamps.specs.Lamps.{lampOf}
 use Rattle.signals.specs.MainSignals.{proceedShown, mainShows}
 use Rattle.layout.specs.declared.Layout.{Layout}
-use Rattle.layout.specs.Layout.{lineIn, routeIn}
+use Rattle.layout.specs.Layout.{lineIn, routeIn, signalsIn}
 use Rattle.layout.specs.Sound.{sound}
-use Rattle.layout_facts.specs.Plain.{path, overlap, routePosition, LineRanges, RouteRanges, Sound}
+use Rattle.layout_facts.specs.Plain.{entranceSignal, path, overlap, routePosition, LineRanges, RouteRanges, Sound}
 use Rattle.layout_facts.proofs.Order.{one-of}
 use Rattle.layout_facts.proofs.Uses.{entered-block}
 use Rattle.interlocking.specs.declared.State.{State}
@@ -24,8 +26,10 @@ use Rattle.step_facts.proofs.Tells.{tells-no-order}
 use Rattle.step_facts.proofs.Within.{end}
 use Rattle.way_out.proofs.Calm.{idle-on}
 use Rattle.way_out.proofs.Goes.{Whole, Goes, stop, goes, after-that}
+use Rattle.track.proofs.SignalNumbers.{number-main}
+use Rattle.step_facts.proofs.Granted.{lamp-granted}
 use Rattle.way_out.proofs.OrdersGranted.{AllFree, LinePlaced, RoutePlaced, AllUnbarred, secure-granted, Prepared, set-granted}
-use Rattle.way_out.proofs.Resting.{open-stays, secure-else, Lasting, both-last, rest-lasts, free-lasts, bars-last, points-last, secured-on}
+use Rattle.way_out.proofs.Resting.{open-stays, secure-else, stop-reported, Lasting, both-last, stop-onward, rest-lasts, free-lasts, bars-last, points-last, secured-on}
 use Rattle.way_out.proofs.SetProceeds.{set-on, set-shows}
 use Rattle.way_out.proofs.Turns.{unbar-turn, free-turn, place-turn}
 
@@ -52,6 +56,10 @@ module _ (L : Layout) (ok : sound L ≡ true) (S : Sound L) (cs : CountsOf) (r :
   vacant-lasts : Lasting L r (Vacant L r)
   vacant-lasts = both-last (both-last (rest-lasts L r) (free-lasts L r _ _ (own .paths))) (free-lasts L r _ _ (own .overlaps))
 
+  -- so do its points in position
+  ready-lasts : Lasting L r (Ready L r)
+  ready-lasts = both-last vacant-lasts (points-last L r)
+
   -- from rest the sections read free and the points come in position: no two of them are one
   clear-all : (s : State) → Whole s → AtRest L s → Goes L s (clearing L cs r) (Ready L r)
   unfolding clearing
@@ -71,6 +79,10 @@ module _ (L : Layout) (ok : sound L ≡ true) (S : Sound L) (cs : CountsOf) (r :
     -- is there, and its end is one of two
     line-there : (l < L .lines) × (routeIn L r .end ≤ 1)
     line-there = own .line (inr exit)
+
+    -- its points and entrance signals are there too
+    lines : LineRanges L l
+    lines = S .ranges .lines l (line-there .0)
 
     -- the line secured, the route has all that it is set by
     secured-prepared : (s : State) → Ready L r s → AllUnbarred l (lineIn L l .blocks) s → LinePlaced L l s → Prepared L r (end L s (event 6 l (routeIn L r .end + 1)))
@@ -92,6 +104,30 @@ module _ (L : Layout) (ok : sound L ≡ true) (S : Sound L) (cs : CountsOf) (r :
           };
         }
 
+    -- the lamp of the entrance signal at the arrival end reports stop (L3), which takes nothing from the rest, and the line is secured
+    secure-lit : (s : State) → Whole s → Ready L r s → AllUnbarred l (lineIn L l .blocks) s → LinePlaced L l s
+        → Goes L s (event 15 (entranceSignal L l (arrival (routeIn L r .end + 1))) 1 ∷ event 6 l (routeIn L r .end + 1) ∷ []) (Prepared L r)
+    unfolding arrival signalsIn
+    secure-lit s whole q bars placed =
+        let told = stop-reported L s lamp in
+        let on = stop-onward L S s (q .0 .0 .0) r lamp in
+        goes L _ s (event 15 lamp 1) _ (lamp-granted L s ok (whole .ranged) lamp 1 (number-main _ _ _ lamp there .0)) whole
+        (λ t at still. secure t still (rw at (both-last ready-lasts (bars-last L r l (line-there .0)) s _ on (q, bars))) (rw (at, told .0) placed)
+        (rw at (told .1 (omega (arith, there, S .ranges .signalCount)))))
+      where
+        lamp : ℕ
+        lamp = entranceSignal L l (arrival (routeIn L r .end + 1))
+
+        there : lamp < L .signals
+        there = lines .entrances _ (if-both (λ n. n ≤ 1) _ (λ t. omega arith) (λ f. omega arith))
+
+        secure : (t : State) → Whole t → Ready L r t × AllUnbarred l (lineIn L l .blocks) t → LinePlaced L l t → lampOf (t .lamp) lamp ≡ 1
+            → Goes L t (event 6 l (routeIn L r .end + 1) ∷ []) (Prepared L r)
+        secure t w ready placed lit =
+            goes L _ t (event 6 l (routeIn L r .end + 1)) []
+            (secure-granted L t ok (w .ranged) l _ (line-there .0) (one-of _ 1 2 (omega (arith, line-there .1))) (ready .0 .0 .0 .0) (ready .1) placed lit) w
+            (λ u at still. stop L _ u still (rw at (secured-prepared t (ready .0) (ready .1) placed)))
+
     -- line and route do not ask one point in two positions: the bars are cleared, the line's points come in position, those of the route stay, and the
     -- line is secured
     secure-all : PointsAgree L r → (s : State) → Whole s → Ready L r s → Goes L s (securing L (countsAfterPoints L cs r) l (routeIn L r .end + 1)) (Prepared L r)
@@ -100,15 +136,7 @@ module _ (L : Layout) (ok : sound L ≡ true) (S : Sound L) (cs : CountsOf) (r :
         after-that (unbar-turn L ok S r b (Ready L r) ready-lasts (λ t q. q .0 .0 .0) l (line-there .0) s whole q)
         (λ t w q. after-that (place-turn L ok S r b _ (both-last ready-lasts (bars-last L r l (line-there .0))) (λ t q. q .0 .0 .0 .0) (countsAfterPoints L cs r) _ _ _ (lines .points) (lines .positions)
         (λ i j. S .rule3 .linePoints l i j (line-there .0)) (λ k d j c z. agree j k c d z) t w q)
-        (λ t w q. goes L _ t (event 6 l (routeIn L r .end + 1)) []
-        (secure-granted L t ok (w .ranged) l _ (line-there .0) (one-of _ 1 2 (omega (arith, line-there .1))) (q .0 .0 .0 .0 .0) (q .0 .1) (q .1)) w
-        (λ u at still. stop L _ u still (rw at (secured-prepared t (q .0 .0) (q .0 .1) (q .1))))))
-      where
-        lines : LineRanges L l
-        lines = S .ranges .lines l (line-there .0)
-
-        ready-lasts : Lasting L r (Ready L r)
-        ready-lasts = both-last vacant-lasts (points-last L r)
+        (λ t w q. secure-lit t w (q .0 .0) (q .0 .1) (q .1)))
 
   -- ---- all of it
 

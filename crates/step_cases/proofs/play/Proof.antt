@@ -1,4 +1,4 @@
--- The events that are left over are played first, then a turn for every sixteen; the heads are written last.
+-- The events that are left over are played first, then a turn for every sixteen; heads and lamps are written last.
 use borrow.Author.Needs.{needs}
 use Rattle.step_cases.proofs.play.Statement.{statement}
 use Rattle.step_cases.proofs.play.Tie as tie
@@ -15,4 +15,4 @@ pub play-spec : {M : Type 1} → statement M
 play-spec =
     tie.close
     (tie.spec Inv-loop μ-loop (λ c κs. search needs) (λ c κs. search needs) (λ c. search needs) (λ c κs. search needs) (λ c. search needs)
-    (λ c. search needs) (λ c. search needs) (λ c κs. search needs) (λ c. search needs))
+    (λ c. search needs) (λ c. search needs) (λ c κs. search needs) (λ c κs. search needs) (λ c. search needs))

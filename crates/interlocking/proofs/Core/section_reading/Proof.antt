@@ -13,7 +13,7 @@ acted c =
     let recorded = c .before .before .reading-for .ensures in
     let numbers = c .before .before .before .before .before .before in
     moves-plain _ _ _ _ _ _ _ _ _ (numbers .numbers-refusal .ensures) refl (misfit-found _ _ _ _ (numbers .before .refused-if .ensures) (numbers .before .before .is-fitted .ensures)) refl _ _
-    (c .before .before .before .before .if1 .left) refl (section-recorded _ _ _ _ _ _ _ (c .before .read-section .ensures) recorded) (reading-given _ recorded) (c .done .ensures)
+    (c .before .before .before .before .if1 .left) refl (section-recorded _ _ _ _ _ _ _ _ (c .before .read-section .ensures) recorded) (reading-given _ recorded) (c .done .ensures)
 
 pub section-reading-spec : {M : Type 1} → statement M
 unfolding sectionRow

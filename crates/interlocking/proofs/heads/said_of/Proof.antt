@@ -30,7 +30,7 @@ small c =
     omega (
       arith,
       section-fits _ _ _ _ _ _ _ (start .args .layout .fitted) _ (numbers .numbers-refusal .ensures) (c .before .before .before .if1 .left) (numbers .before .refused-if .ensures)
-          (numbers .before .before .is-fitted .ensures) (search (needs, length-mapped, start .good .1 .1 .0 .1 .1 .1 .1 .1 .1 .1 .1 .1 .1 .1 .1 .1 .1 .1 .0)),
+          (numbers .before .before .is-fitted .ensures) (search (needs, length-mapped, start .good .1 .1 .1 .0 .1 .1 .1 .1 .1 .1 .1 .1 .1 .1 .1 .1 .1 .1 .1 .0)),
     )
 
 -- done
@@ -40,7 +40,7 @@ acted c =
     let numbers = c .before .before .before .before .before .before .before .before in
     let says = c .before .before .reading .ensures in
     moves-on _ _ _ _ _ _ _ _ _ (numbers .numbers-refusal .ensures) refl (misfit-none _ _ _ _ (numbers .before .refused-if .ensures) (numbers .before .before .is-fitted .ensures)) refl _ _ _ (c .before .before .before .before .before .before .if1 .left) refl (c .before .before .before .before .if2 .left)
-    (heads-moved _ _ _ _ _ _ _ (c .before .read-section .ensures) says) (reading-given _ says) (c .done .ensures)
+    (heads-moved _ _ _ _ _ _ _ _ _ (c .before .read-section .ensures) says) (reading-given _ says) (c .done .ensures)
 
 pub said-of-spec : {M : Type 1} → statement M
 unfolding headRow

@@ -8,4 +8,4 @@ use Rattle.interlocking.proofs.orders.read_section.Tie as tie
 
 pub read-section-spec : {M : Type 1} → statement M
 unfolding withSections coreOf
-read-section-spec = tie.close (tie.spec (λ c. search needs) (λ c κs. search needs) (λ c. search needs) (λ c κs. search needs) (λ c. search (needs, section-made)))
+read-section-spec = tie.close (tie.spec (λ c. search needs) (λ c κs. search needs) (λ c κs. search needs) (λ c. section-made _ _ _ _ _ _ _ _ _ (c .before .before .before .before .before .before .before .before .before .pre) (c .before .before .before .before .before .before .store .ensures) (c .own-stages .ensures)))
