@@ -5,18 +5,18 @@ use mathlib.Core.Bool.{Bool, true, false, not, _||_}
 use mathlib.Core.List.{List}
 use mathlib.Core.Logic.{⊎-elim}
 use native.Mathlib.Nat.{le-refl}
+use native.Mathlib.Decide.{ℕ-discrete}
+use native.Mathlib.Numerals.{add-one}
 use native.Mathlib.Omega.{arith}
-use mir.Val.{boolByte}
 use borrow.Author.Tests.{eqb-true, eqb-false, leb-true, leb-false, eq-eqb, ne-eqb, lt-ltb, le-ltb, not-false}
 use lib.Dec.{eqb, leb}
-use lib.ListN.{length, getD, replicate}
-use Rattle.laws.specs.Choice.{if_then_else_}
-use Rattle.laws.specs.Tests.{_and_, _or_}
+use lib.ListN.{length, getD, set, replicate, length-set}
+use lib.Seq.{getD-set-same, getD-set-other}
+use Rattle.laws.specs.Tests.{_and_, _or_, anyBelow}
 use Rattle.laws.specs.Tables.{each, read}
-use Rattle.laws.proofs.Arrays.{read-in, read-at}
+use Rattle.laws.proofs.Arrays.{read-in, read-at, nothing-at}
 use Rattle.laws.proofs.Choice.{if-false, if-ge, which, chosen, passed-over}
 use Rattle.laws.proofs.Each.{each-at, each-past, length-each, Redone, redo-end}
-use Rattle.laws.proofs.Loops.{Failed, failed-on}
 use Rattle.laws.proofs.Tests.{and-left, and-right, and-both, first-fails, second-fails, or-cases, or-neither, not-both, fails-from, all-at}
 use Rattle.track.specs.declared.Line.{Line}
 use Rattle.track.specs.declared.Route.{Route}
@@ -27,7 +27,7 @@ use Rattle.tables.specs.Blocks.{place, stageOf}
 use Rattle.tables.specs.Locks.{direction, locked}
 use Rattle.passage.specs.Passage.{fromArrival}
 use Rattle.line_block.specs.Entries.{noneWaits, fewLines}
-use Rattle.line_block.specs.PassingBack.{goesOpen, noOpening, releasedEntranceBy, arrives, opensBeyond, waitedStage, waitedStageAt, passedBack}
+use Rattle.line_block.specs.PassingBack.{goesOpen, noOpening, releasedEntranceBy, arrives, opensBeyond, waitedStage, waitedStageAt, passedBack, Arrived}
 use Rattle.line_block.proofs.Lines.{few-fit, few-long}
 
 -- ---- what lies beyond a block, counted c from the arrival end
@@ -142,32 +142,86 @@ pub line-there : (ls : List Line) (l m : ℕ) (d : Line) → length ls ≡ mostL
 unfolding line
 line-there ls l m d q b few = read-in ls l mostLines d noLine q (omega arith)
 
--- a number at which the test is known to fail is passed over
-pub failed-over : (n : ℕ) (p : ℕ → Bool) (i : ℕ) → Failed n p i → i < n → false ≡ p i → Failed n p (i + 1)
-failed-over n p i s l e = failed-on n p i s l e refl
+-- past the table no route was locked
+entrance-past : (rs : List Route) (before phases : List ℕ) (l w r : ℕ) → mostTrainRoutes ≤ r → false ≡ releasedEntranceBy before phases (route rs r) l w r
+unfolding releasedEntranceBy locked read
+entrance-past rs before phases l w r h = sym (first-fails _ _ (first-fails _ _ (sym (ap (λ x. not (eqb x idle)) (if-ge r mostRoutes (getD before r 0) idle idle h refl)))))
 
-module _ (rs : List Route) (before phases : List ℕ) (l w r : ℕ) where
-  -- past the table no route was locked
-  pub entrance-past : mostTrainRoutes ≤ r → false ≡ releasedEntranceBy before phases (route rs r) l w r
-  unfolding releasedEntranceBy locked read
-  entrance-past h = sym (first-fails _ _ (first-fails _ _ (sym (ap (λ x. not (eqb x idle)) (if-ge r mostRoutes (getD before r 0) idle idle h refl)))))
+-- a released route is of its own line alone
+elsewhere : (before phases : List ℕ) (a : Route) (l w r : ℕ) → (a .line ≡ l → ⊥) → false ≡ releasedEntranceBy before phases a l w r
+unfolding releasedEntranceBy
+elsewhere before phases a l w r n = sym (second-fails _ _ (second-fails _ _ (first-fails _ _ (ne-eqb (a .line) l n))))
 
-  -- inside it, by the record that the table has there
-  pub entrance-there : (d : Route) (v : Bool) → v ≡ releasedEntranceBy before phases (getD rs r d) l w r → length rs ≡ mostTrainRoutes → r < mostTrainRoutes
-      → v ≡ releasedEntranceBy before phases (route rs r) l w r
-  unfolding route
-  entrance-there d v e q b = e ∙ ap (λ (a : Route). releasedEntranceBy before phases a l w r) (read-in rs r mostTrainRoutes d noRoute q b)
+-- the table of arrivals, while the routes are walked
+module _ (rs : List Route) (before phases directions : List ℕ) where
+  -- of no route it has 0 for every line
+  pub arrived-none : Arrived 0 rs before phases directions (replicate mostLines 0)
+  unfolding Arrived arrives anyBelow
+  arrived-none = (refl, λ l q. rw (nothing-at {A = ℕ} mostLines 0 l))
 
--- the byte of a line: 1 where an entrance route of its arrival end was released
-pub arrival-byte : (n : ℕ) (rs : List Route) (before phases directions : List ℕ) (l w : ℕ) (v : Bool) → w ≡ direction directions l
-    → v ≡ arrives n rs before phases l w → boolByte v ≡ if arrives n rs before phases l (direction directions l) then 1 else 0
-unfolding if_then_else_
-arrival-byte n rs before phases directions l w v e q = go v ∙ ap (λ (t : Bool). if t then 1 else 0) (q ∙ ap (arrives n rs before phases l) e)
-  where
-    -- by its two values
-    go : (t : Bool) → boolByte t ≡ if t then 1 else 0
-    go true = refl
-    go false = refl
+  -- a test more, which fails
+  or-fails : (x y : Bool) → false ≡ y → x ≡ x || y
+  or-fails true y e = refl
+  or-fails false y e = e
+
+  -- which holds
+  or-holds : (x y : Bool) → true ≡ y → true ≡ x || y
+  or-holds true y e = refl
+  or-holds false y e = e
+
+  module _ (r : ℕ) (table : List ℕ) (h : Arrived r rs before phases directions table) where
+    -- a route by which none arrives leaves it
+    arrived-on : ((l : ℕ) → l < mostLines → false ≡ releasedEntranceBy before phases (route rs r) l (direction directions l) r)
+        → Arrived (r + 1) rs before phases directions table
+    unfolding Arrived arrives anyBelow
+    arrived-on none = (h .0, λ l q. h .1 l q ∙ rw add-one (or-fails _ _ (none l q)))
+
+    -- so it tells of all n, once they have been walked
+    pub arrived-all : (n : ℕ) → r ≤ n → n ≤ r → Arrived n rs before phases directions table
+    arrived-all n a b = let q : r ≡ n = omega arith in rw (← q) h
+
+    -- past the table of routes
+    pub arrived-past : mostTrainRoutes ≤ r → Arrived (r + 1) rs before phases directions table
+    arrived-past b = arrived-on (λ l q. entrance-past rs before phases l (direction directions l) r b)
+
+    module _ (d : Route) (w : ℕ) (v : Bool) (len : length rs ≡ mostTrainRoutes) (b : r < mostTrainRoutes) (g : w ≡ direction directions (getD rs r d .line))
+        (e : v ≡ releasedEntranceBy before phases (getD rs r d) (getD rs r d .line) w r) where
+      -- the route's own record is that of the table
+      same : getD rs r d ≡ route rs r
+      unfolding route
+      same = read-in rs r mostTrainRoutes d noRoute len b
+
+      -- so what the code found of it is so by that
+      own : v ≡ releasedEntranceBy before phases (route rs r) (route rs r .line) (direction directions (route rs r .line)) r
+      own = rw (← same, ← g) e
+
+      -- it was not released, or is no entrance route of an arrival end
+      pub arrived-unreleased : v ≡ false → Arrived (r + 1) rs before phases directions table
+      arrived-unreleased n = arrived-on (λ l q. go l (ℕ-discrete (route rs r .line) l))
+        where
+          go : (l : ℕ) → Dec (route rs r .line ≡ l) → false ≡ releasedEntranceBy before phases (route rs r) l (direction directions l) r
+          go l (yes z) = rw (← z) (sym n ∙ own)
+          go l (no z) = elsewhere before phases (route rs r) l _ r z
+
+      -- its line is none of the tables
+      pub arrived-nowhere : mostLines ≤ getD rs r d .line → Arrived (r + 1) rs before phases directions table
+      arrived-nowhere n = arrived-on (λ l q. elsewhere before phases (route rs r) l _ r (λ z. let far : mostLines ≤ route rs r .line = rw (← same) n in omega arith))
+
+      -- it was: 1 for its line
+      pub arrived-here : v ≡ true → getD rs r d .line < mostLines → Arrived (r + 1) rs before phases directions (set table (getD rs r d .line) 1)
+      unfolding Arrived arrives anyBelow
+      arrived-here t q = (length-set table _ 1 ∙ h .0, λ l p. go l p (ℕ-discrete (getD rs r d .line) l))
+        where
+          go : (l : ℕ) → l < mostLines → Dec (getD rs r d .line ≡ l)
+              → eqb (getD (set table (getD rs r d .line) 1) l 0) 1 ≡ anyBelow (r + 1) (λ k. releasedEntranceBy before phases (route rs k) l (direction directions l) k)
+          go l p (yes z) =
+              let here : route rs r .line ≡ l = sym (ap (λ (x : Route). x .line) same) ∙ z in
+              let hit : true ≡ releasedEntranceBy before phases (route rs r) l (direction directions l) r = rw (← here) (sym t ∙ own) in
+              rw (← z, getD-set-same table (getD rs r d .line) 1 0 (let n : length table ≡ mostLines = h .0 in omega arith), add-one)
+              (or-holds (anyBelow r (λ k. releasedEntranceBy before phases (route rs k) (getD rs r d .line) (direction directions (getD rs r d .line)) k)) _ (rw z hit))
+          go l p (no z) =
+              rw (getD-set-other table (getD rs r d .line) l 1 0 (λ y. z (sym y)), add-one)
+              (h .1 l p ∙ or-fails _ _ (elsewhere before phases (route rs r) l _ r (λ y. z (ap (λ (x : Route). x .line) same ∙ y))))
 
 -- ---- all blocks
 
@@ -209,18 +263,13 @@ unfolding goesOpen
 goes-still stages l i =
     fails-from _ (λ t. let two : stageOf stages l i ≡ stage2 = eqb-true _ stage2 (and-left _ _ t) in let none : stageOf stages l i ≡ openBlock = eqb-true _ openBlock (and-right _ _ t) in omega arith)
 
--- where the code tells arrivals by a table, which has 1 for each line that has one
+-- where the code tells arrivals by a table
 module _ (n : ℕ) (ls : List Line) (directions stages : List ℕ) (b : mostBlocks * n ≤ length stages) (few : n ≤ mostLines) (m : ℕ) (rs : List Route)
-    (before phases arrived : List ℕ) (e : arrived ≡ each n (λ l was. if arrives m rs before phases l (direction directions l) then 1 else 0) (replicate mostLines 0)) where
+    (before phases arrived : List ℕ) (e : Arrived m rs before phases directions arrived) where
   -- the table says of each line what the routes say
   told : (l : ℕ) → l < n → eqb (read mostLines 0 arrived l) 1 ≡ arrives m rs before phases l (direction directions l)
-  unfolding if_then_else_
-  told l q = ap (λ x. eqb x 1) (read-at mostLines 0 arrived l (omega arith) ∙ ap (λ (xs : List ℕ). getD xs l 0) e ∙ each-at n _ _ l q) ∙ go (arrives m rs before phases l (direction directions l))
-    where
-      -- by its two values
-      go : (t : Bool) → eqb (if t then 1 else 0) 1 ≡ t
-      go true = refl
-      go false = refl
+  unfolding Arrived
+  told l q = ap (λ x. eqb x 1) (read-at mostLines 0 arrived l (omega arith)) ∙ e .1 l (omega arith)
 
   -- what passes back by it
   pub arrivals-pass : (v : List ℕ) → v ≡ passedBack n ls directions (goesOpen stages stages) (λ l w. eqb (read mostLines 0 arrived l) 1) stages

@@ -1,16 +1,18 @@
 -- Stage 3 (L3): a block that waits there opens when the next block opens, or, for the last block in travel, when an entrance route of the arrival end is
 -- released. So an opening passes back through all stage 3 blocks before it in the same event.
-use Prim.Native.Nat.{ℕ, zero, suc, _*_, _/_, _%_}
+use Prim.Native.Nat.{ℕ, zero, suc, _*_, _/_, _%_, _<_}
+use mathlib.Core.Path.{_≡_}
 use mathlib.Core.Bool.{Bool, false, not}
 use mathlib.Core.List.{List}
 use lib.Dec.{eqb, ltb}
+use lib.ListN.{length, getD}
 use Rattle.laws.specs.Choice.{if_then_else_}
 use Rattle.laws.specs.Tests.{_and_, _or_, anyBelow}
 use Rattle.laws.specs.Tables.{each}
 use Rattle.track.specs.declared.Line.{Line}
 use Rattle.track.specs.declared.Route.{Route}
 use Rattle.track.specs.Codes.{neutral, openBlock, stage2, stage3, entranceRoute}
-use Rattle.track.specs.Sizes.{mostBlocks}
+use Rattle.track.specs.Sizes.{mostBlocks, mostLines}
 use Rattle.track.specs.Objects.{line, route}
 use Rattle.tables.specs.Blocks.{stageOf}
 use Rattle.tables.specs.Locks.{direction, locked}
@@ -61,3 +63,10 @@ waitedStageAt ls directions opened arrived stages k was =
 -- the stages of the blocks of n lines
 unfoldable pub passedBack : ℕ → List Line → List ℕ → (ℕ → ℕ → Bool) → (ℕ → ℕ → Bool) → List ℕ → List ℕ
 passedBack n ls directions opened arrived stages = each (mostBlocks * n) (waitedStageAt ls directions opened arrived stages) stages
+
+-- ---- as the code tells which entrance routes were released
+
+-- by a table, which has 1 for each line at whose arrival end one was
+unfoldable pub Arrived : ℕ → List Route → List ℕ → List ℕ → List ℕ → List ℕ → Type 0
+Arrived n rs before phases directions table =
+    (length table ≡ mostLines) × ((l : ℕ) → l < mostLines → eqb (getD table l 0) 1 ≡ arrives n rs before phases l (direction directions l))

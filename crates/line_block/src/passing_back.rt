@@ -12,6 +12,7 @@ use track::codes::STAGE_2;
 use track::codes::STAGE_3;
 use track::sizes::LINES;
 use track::sizes::MOST_BLOCKS;
+use track::sizes::MOST_LINES;
 use track::sizes::MOST_TRAIN_ROUTES;
 use track::sizes::PLACES;
 use track::sizes::ROUTES;
@@ -20,14 +21,11 @@ ghost use mathlib.Core.Path.{_≡_};
 ghost use mathlib.Core.Bool.{Bool};
 ghost use Prim.Native.Nat.{ℕ, _≤_};
 ghost use lib.Dec.{eqb};
-ghost use lib.ListN.{length, replicate};
-ghost use Rattle.laws.specs.Choice.{if_then_else_};
-ghost use Rattle.laws.specs.Tests.{anyBelow};
+ghost use lib.ListN.{length};
 ghost use Rattle.laws.specs.Tables.{each, read};
 ghost use Rattle.track.specs.Sizes.{mostLines, mostPlaces};
-ghost use Rattle.tables.specs.Locks.{direction};
 ghost use Rattle.line_block.specs.Entries.{fewLines, noneWaits};
-ghost use Rattle.line_block.specs.PassingBack.{goesOpen, noOpening, releasedEntranceBy, arrives, opensBeyond, waitedStage, waitedStageAt, passedBack};
+ghost use Rattle.line_block.specs.PassingBack.{goesOpen, noOpening, releasedEntranceBy, arrives, opensBeyond, waitedStage, waitedStageAt, passedBack, Arrived};
 
 // By its own reading block i of line l went from stage 2 to open.
 fn goes_open<'a>(old: &'a [u8; PLACES], stages: &'a [u8; PLACES], l: u8, i: u8) -> bool
@@ -133,17 +131,17 @@ fn is_released_entrance<'a>(
     (before & !after) & ((a.kind == ENTRANCE_ROUTE) & ((a.line == l) & (a.end == e)))
 }
 
-// One of n routes is.
-fn is_arrival<'a>(
+// 1 for each line at whose arrival end one of n entrance routes was released. The routes are walked once, and each record is taken out of the table.
+fn arrivals<'a>(
     n: u8,
     rs: [Route; TRAIN_ROUTES],
     old: &'a [u8; ROUTES],
     phases: &'a [u8; ROUTES],
-    l: u8,
-    w: u8,
-) -> bool
-    ensures { λ x. ⌜ x ≡ arrives n rs (now (old .entry)) (now (phases .entry)) l w ⌝ }
+    directions: &'a [u8; LINES],
+) -> [u8; LINES]
+    ensures { λ x. ⌜ Arrived n rs (now (old .entry)) (now (phases .entry)) (now (directions .entry)) x ⌝ }
 {
+    let mut arrived = [0u8; LINES];
     let mut r: u8 = 0;
     while r < n {
         if MOST_TRAIN_ROUTES <= r {
@@ -151,33 +149,17 @@ fn is_arrival<'a>(
             continue;
         }
         let a = rs[r as usize];
-        if is_released_entrance(old, phases, a, l, w, r) {
-            return true;
+        let w = direction_of(directions, a.line);
+        if !is_released_entrance(old, phases, a, a.line, w, r) {
+            r += 1;
+            continue;
         }
+        if MOST_LINES <= a.line {
+            r += 1;
+            continue;
+        }
+        arrived[a.line as usize] = 1;
         r += 1;
-    }
-    false
-}
-
-// 1 for each of m lines at whose arrival end an entrance route was released.
-fn arrivals<'a>(
-    m: u8,
-    n: u8,
-    rs: [Route; TRAIN_ROUTES],
-    old: &'a [u8; ROUTES],
-    phases: &'a [u8; ROUTES],
-    directions: &'a [u8; LINES],
-) -> [u8; LINES]
-    requires { ⌜ m ≤ mostLines ⌝ }
-    ensures { λ x. ⌜ x ≡ each m (λ l was. if arrives n rs (now (old .entry)) (now (phases .entry)) l (direction (now (directions .entry)) l) then 1 else 0) (replicate mostLines 0) ⌝ }
-{
-    let mut arrived = [0u8; LINES];
-    let mut l: u8 = 0;
-    while l < m {
-        let w = direction_of(directions, l);
-        let here = is_arrival(n, rs, old, phases, l, w);
-        arrived[l as usize] = here as u8;
-        l += 1;
     }
     arrived
 }
@@ -209,7 +191,7 @@ pub fn stages_after_arrivals<'a>(
     ensures { λ x. ⌜ x ≡ passedBack (fewLines m) ls (now (directions .entry)) noOpening (arrives n rs (now (old .entry)) (now (phases .entry))) stages ⌝ }
 {
     let lines = few_lines(m);
-    let arrived = arrivals(lines, n, rs, old, phases, directions);
+    let arrived = arrivals(n, rs, old, phases, directions);
     passed_back(
         MOST_BLOCKS * lines,
         ls,
