@@ -13,6 +13,7 @@ mod layout;
 mod lbox;
 mod lengths;
 mod level;
+mod lowest_cases;
 mod num;
 mod number_cases;
 mod records;

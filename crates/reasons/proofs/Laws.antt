@@ -1,5 +1,5 @@
 -- The cases of a chain of reasons, of the reasons that go by a test, and of those that go by an event's kind.
-use Prim.Native.Nat.{ℕ, _<_, _≤_}
+use Prim.Native.Nat.{ℕ, _≤_}
 use mathlib.Core.Path.{_≡_, refl, sym, ap, fun-ext, _∙_}
 use mathlib.Core.Bool.{true, false}
 use mathlib.Core.List.{List, [], _∷_}
@@ -10,21 +10,19 @@ use lib.Dec.{eqb, ltb, leb}
 use lib.ListN.{length, getD, List·getD-eq-default}
 use Rattle.laws.specs.Tests.{_and_, lowest}
 use Rattle.laws.proofs.Arrays.{read-past, lent-at}
-use Rattle.laws.proofs.Choice.{if-eq, if-ne, if-lt, if-ge}
+use Rattle.laws.proofs.Choice.{if-eq, if-ne}
 use Rattle.track.specs.declared.Line.{Line}
-use Rattle.track.specs.Codes.{occupied}
 use Rattle.track.specs.Sizes.{mostSections, mostLines, mostPairs}
 use Rattle.track.specs.Objects.{noLine, line}
 use Rattle.pairs.specs.Pairs.{placeOf}
-use Rattle.tables.specs.Readings.{reading}
 use Rattle.tables.specs.Blocks.{untaken, isOpen, unbarred}
 use Rattle.layout.specs.declared.Layout.{Layout}
 use Rattle.layout.specs.Layout.{lineIn, entryOf, conflict}
 use Rattle.reasons.specs.declared.Refusal.{Refusal}
-use Rattle.reasons.specs.Refusal.{refused, noRefusal, refusedIf, found, firstOf}
-use Rattle.reasons.specs.Searches.{unfree, conflictsWith, failing}
+use Rattle.reasons.specs.Refusal.{refusedIf, found, firstOf}
+use Rattle.reasons.specs.Searches.{conflictsWith, failing}
 use Rattle.tables.specs.Locks.{locked}
-use Rattle.reasons.specs.Reasons.{notFree, conflicting, blockBarred, blockHeld}
+use Rattle.reasons.specs.Reasons.{conflicting, blockBarred, blockHeld}
 
 -- ---- the first refusal of a list: v is what the code found of the first
 
@@ -46,28 +44,6 @@ first-last x r q = q
 
 -- for a chain of reasons, left at the first that is given
 pub ruleset firsts = (needs, first-here, first-next, first-last)
-
--- ---- 7 and 8, by the lowest section that does not read free
-
-module _ (sections : List ℕ) (set g : ℕ) (r : Refusal) (e : g ≡ lowest mostSections (unfree sections set)) where
-  -- there is no such section: nothing is refused
-  pub free-all : mostSections ≤ g → r ≡ noRefusal → r ≡ notFree sections set
-  unfolding notFree
-  free-all h q = if-ge (lowest mostSections (unfree sections set)) mostSections _ _ r (rw (← e) h) q
-
-  -- it is occupied
-  pub free-occupied : (v : ℕ) → g < mostSections → v ≡ reading sections g → v ≡ occupied → r ≡ refused 7 g → r ≡ notFree sections set
-  unfolding notFree
-  free-occupied v l d h q =
-      if-lt (lowest mostSections (unfree sections set)) mostSections _ _ r (rw (← e) l)
-      (rw (← e) (q ∙ ap (λ n. refused n g) (if-eq (reading sections g) occupied 7 8 7 (sym d ∙ h) refl)))
-
-  -- it is not occupied
-  pub free-none : (v : ℕ) → g < mostSections → v ≡ reading sections g → (v ≡ occupied → ⊥) → r ≡ refused 8 g → r ≡ notFree sections set
-  unfolding notFree
-  free-none v l d h q =
-      if-lt (lowest mostSections (unfree sections set)) mostSections _ _ r (rw (← e) l)
-      (rw (← e) (q ∙ ap (λ n. refused n g) (if-ne (reading sections g) occupied 7 8 8 (λ z. h (d ∙ z)) refl)))
 
 -- ---- 5, by the table of conflicts
 

@@ -26,7 +26,6 @@ use Rattle.reasons.proofs.events.is_outside.Reads as is-outside
 use Rattle.reasons.proofs.events.no_such_block.Reads as no-such-block
 use Rattle.reasons.proofs.events.is_fitted.Reads as is-fitted
 use Rattle.reasons.proofs.searches.section_of.Reads as section-of
-use Rattle.reasons.proofs.searches.lowest_unfree.Reads as lowest-unfree
 use Rattle.reasons.proofs.searches.lowest_misplaced.Reads as lowest-misplaced
 use Rattle.reasons.proofs.searches.lowest_conflicting.Reads as lowest-conflicting
 use Rattle.reasons.proofs.searches.lowest_route_locking.Reads as lowest-route-locking
@@ -133,10 +132,6 @@ is-fitted-determined κs a r q s = only
 -- The section that a point stands in
 pub section-of-determined : Determines section-of.Post
 section-of-determined κs a r q s = only
-
--- The lowest section of a set that does not read free
-pub lowest-unfree-determined : Determines lowest-unfree.Post
-lowest-unfree-determined κs a r q s = only
 
 -- The lowest point that is not read in its position
 pub lowest-misplaced-determined : Determines lowest-misplaced.Post

@@ -8,6 +8,8 @@ use layout::Layout;
 use passage::arrival_end;
 use searches::section_of;
 use tables::direction_of;
+use tables::in_the_way::unfree_of;
+use tables::in_the_way::with_unfree;
 use tables::is_locked;
 use tables::is_open;
 use tables::is_unbarred;
@@ -16,7 +18,6 @@ use tables::section_reads;
 use track::Line;
 use track::Route;
 use track::blocks::detail_section;
-use track::blocks::sections_of;
 use track::codes::CANCELLING;
 use track::codes::NEUTRAL;
 use track::codes::OCCUPIED;
@@ -35,12 +36,15 @@ use track::sizes::SECTIONS;
 ghost use mathlib.Core.Path.{_≡_};
 ghost use mathlib.Core.Bool.{not};
 ghost use lib.Dec.{eqb, ltb};
+ghost use Rattle.laws.specs.Choice.{if_then_else_};
 ghost use Rattle.laws.specs.Tables.{read};
-ghost use Rattle.track.specs.Sizes.{mostPoints};
-ghost use Rattle.track.specs.Codes.{cancelling, leaving, neutral};
+ghost use Rattle.track.specs.Sizes.{mostPoints, mostSections};
+ghost use Rattle.track.specs.Codes.{cancelling, leaving, neutral, occupied};
 ghost use Rattle.track.specs.Objects.{line, nearest};
 ghost use Rattle.track.specs.Blocks.{blockDetail, lineSections};
 ghost use Rattle.sets.specs.Sets.{joined, mergedSet, setOf};
+ghost use Rattle.sets.specs.Lowest.{lowestIn};
+ghost use Rattle.tables.specs.Readings.{reading};
 ghost use Rattle.tables.specs.Blocks.{isOpen, unbarred};
 ghost use Rattle.tables.specs.Locks.{direction, phase, locked};
 ghost use Rattle.reasons.specs.Refusal.{refused, noRefusal, refusedIf};
@@ -86,18 +90,23 @@ fn found_at(number: u8, n: u8, at: u8) -> Refusal
     refused_if(at < n, number, at as u32)
 }
 
-// 7, 8: a section of the set is occupied, reads none.
-fn not_free(sections: &[u8; SECTIONS], set: u64) -> Refusal
-    ensures { λ r. ⌜ r ≡ notFree (now (sections .entry)) set ⌝ }
+// The number of a refusal for a section that does not read free: 7 where it is occupied, else 8.
+fn unfree_number(reading: u8) -> u8
+    ensures { λ r. ⌜ r ≡ if eqb reading occupied then 7 else 8 ⌝ }
 {
-    let g = searches::lowest_unfree(sections, set);
-    if MOST_SECTIONS <= g {
-        return no_refusal();
+    if reading == OCCUPIED {
+        return 7;
     }
-    if section_reads(sections, g) == OCCUPIED {
-        return refuse(7, g as u32);
-    }
-    refuse(8, g as u32)
+    8
+}
+
+// 7, 8: by the set of the sections asked for that do not read free (request L4). The lowest of them is occupied, reads none.
+fn not_free(sections: &[u8; SECTIONS], set: u64) -> Refusal
+    ensures { λ r. ⌜ r ≡ refusedIf (ltb (lowestIn set) mostSections) (if eqb (reading (now (sections .entry)) (lowestIn set)) occupied then 7 else 8) (lowestIn set) ⌝ }
+{
+    let g = sets::lowest_in(set);
+    let number = unfree_number(section_reads(sections, g));
+    found_at(number, MOST_SECTIONS, g)
 }
 
 // 6: one of the first n points is not read in position.
@@ -188,12 +197,10 @@ pub fn route_not_placed(points: &[u8; POINTS], a: Route) -> Refusal
 pub fn route_not_free(sections: &[u8; SECTIONS], a: Route) -> Refusal
     ensures { λ r. ⌜ r ≡ notFree (now (sections .entry)) (mergedSet (setOf (a .paths) (a .path)) (setOf (a .overlaps) (a .overlap))) ⌝ }
 {
-    let path = a.path;
-    let overlap = a.overlap;
-    let way = sets::of_list(path, a.paths);
-    let beyond = sets::of_list(overlap, a.overlaps);
-    let asked = sets::merged(way, beyond);
-    not_free(sections, asked)
+    let way = unfree_of(sections, a.paths, &a.path);
+    let beyond = unfree_of(sections, a.overlaps, &a.overlap);
+    let set = sets::merged(way, beyond);
+    not_free(sections, set)
 }
 
 // 7, 8: the section of point p does not read free.
@@ -201,8 +208,8 @@ pub fn point_not_free(own: [u8; POINTS], sections: &[u8; SECTIONS], p: u8) -> Re
     ensures { λ r. ⌜ r ≡ notFree (now (sections .entry)) (joined 0 (read mostPoints 0 own p)) ⌝ }
 {
     let section = section_of(own, p);
-    let asked = sets::with(0, section);
-    not_free(sections, asked)
+    let set = with_unfree(sections, 0, section);
+    not_free(sections, set)
 }
 
 // 7, 8: a section of a block of line l does not read free.
@@ -210,8 +217,8 @@ pub fn line_not_free(ls: [Line; LINES], sections: &[u8; SECTIONS], l: u8) -> Ref
     ensures { λ r. ⌜ r ≡ notFree (now (sections .entry)) (lineSections (line ls l)) ⌝ }
 {
     let b = line_at(ls, l);
-    let asked = sections_of(b);
-    not_free(sections, asked)
+    let set = unfree_of(sections, b.blocks, &b.block);
+    not_free(sections, set)
 }
 
 // 4: the route is already locked.

@@ -1,45 +1,36 @@
 // The searches: the lowest number to which a reason applies, and the number after the last where it applies to none.
-use laws::at8;
 use pairs::place_of;
 use tables::direction_of;
+use tables::in_the_way::misplaced_of;
+use tables::in_the_way::taken_of;
 use tables::is_locked;
 use tables::is_locked_exit;
-use tables::is_open;
-use tables::point_reads;
-use tables::section_reads;
 use track::Line;
 use track::Route;
-use track::blocks::detail_section;
-use track::codes::FREE;
 use track::codes::NEUTRAL;
 use track::is_among;
 use track::sizes::LINES;
 use track::sizes::LISTED;
 use track::sizes::MOST_LINES;
 use track::sizes::MOST_POINTS;
-use track::sizes::MOST_SECTIONS;
 use track::sizes::MOST_TRAIN_ROUTES;
 use track::sizes::PAIRS;
 use track::sizes::PLACES;
 use track::sizes::POINTS;
 use track::sizes::ROUTES;
-use track::sizes::SECTIONS;
 use track::sizes::TRAIN_ROUTES;
 ghost use mathlib.Core.Path.{_≡_};
 ghost use mathlib.Core.Bool.{not};
 ghost use lib.Dec.{eqb};
-ghost use lib.ListN.{getD};
 ghost use Rattle.laws.specs.Tests.{_and_, lowest};
 ghost use Rattle.laws.specs.Tables.{read};
 ghost use Rattle.track.specs.Sizes.{mostSections, mostPoints, mostPairs};
 ghost use Rattle.pairs.specs.Pairs.{placeOf};
-ghost use Rattle.tables.specs.Readings.{pointReading};
 ghost use Rattle.tables.specs.Blocks.{untaken};
 ghost use Rattle.track.specs.Codes.{neutral};
 ghost use Rattle.track.specs.Lists.{among};
-ghost use Rattle.track.specs.Blocks.{blockDetail};
 ghost use Rattle.tables.specs.Locks.{direction, locked, lockedExit};
-ghost use Rattle.reasons.specs.Searches.{unfree, misplaced, conflictsWith, routeLocks, lineLocks, failing};
+ghost use Rattle.reasons.specs.Searches.{misplaced, conflictsWith, routeLocks, lineLocks, failing};
 
 // The section that point p stands in.
 pub fn section_of(own: [u8; POINTS], p: u8) -> u8
@@ -51,68 +42,16 @@ pub fn section_of(own: [u8; POINTS], p: u8) -> u8
     0
 }
 
-// Section g is in the set and does not read free.
-fn is_unfree(sections: &[u8; SECTIONS], set: u64, g: u8) -> bool
-    ensures { λ r. ⌜ r ≡ unfree (now (sections .entry)) set g ⌝ }
-{
-    if !sets::has(set, g) {
-        return false;
-    }
-    section_reads(sections, g) != FREE
-}
-
-// The lowest section of a set that does not read free.
-pub fn lowest_unfree(sections: &[u8; SECTIONS], set: u64) -> u8
-    ensures { λ r. ⌜ r ≡ lowest mostSections (unfree (now (sections .entry)) set) ⌝ }
-{
-    let mut g: u8 = 0;
-    while g < MOST_SECTIONS {
-        if is_unfree(sections, set, g) {
-            return g;
-        }
-        g += 1;
-    }
-    MOST_SECTIONS
-}
-
-// The j-th of these points is p, and p is not read in its position.
-fn misplaced_at(points: &[u8; POINTS], ps: [u8; LISTED], ws: [u8; LISTED], p: u8, j: u8) -> bool
-    ensures { λ r. ⌜ r ≡ eqb (getD ps j 0) p and not (eqb (pointReading (now (points .entry)) p) (getD ws j 0)) ⌝ }
-{
-    let x = at8(ps, j);
-    if x != p {
-        return false;
-    }
-    let w = at8(ws, j);
-    point_reads(points, p) != w
-}
-
-// Point p is one of the first n and is not read in its position.
-fn is_misplaced(points: &[u8; POINTS], n: u8, ps: [u8; LISTED], ws: [u8; LISTED], p: u8) -> bool
-    ensures { λ r. ⌜ r ≡ misplaced (now (points .entry)) n ps ws p ⌝ }
-{
-    let mut j: u8 = 0;
-    while j < n {
-        if misplaced_at(points, ps, ws, p, j) {
-            return true;
-        }
-        j += 1;
-    }
-    false
-}
-
-// The lowest of the first n points that is not read in its position.
+// The lowest of the first n points that is not read in its position, by the set of all of these (request L4).
 pub fn lowest_misplaced(points: &[u8; POINTS], n: u8, ps: [u8; LISTED], ws: [u8; LISTED]) -> u8
     ensures { λ r. ⌜ r ≡ lowest mostPoints (misplaced (now (points .entry)) n ps ws) ⌝ }
 {
-    let mut p: u8 = 0;
-    while p < MOST_POINTS {
-        if is_misplaced(points, n, ps, ws, p) {
-            return p;
-        }
-        p += 1;
+    let set = misplaced_of(points, n, &ps, &ws);
+    let p = sets::lowest_in(set);
+    if MOST_POINTS <= p {
+        return MOST_POINTS;
     }
-    MOST_POINTS
+    p
 }
 
 // The entry of the table of conflicts for the routes r and q, 0 past its end.
@@ -234,41 +173,10 @@ pub fn lowest_locked_exit(rs: [Route; TRAIN_ROUTES], phases: &[u8; ROUTES], n: u
     n
 }
 
-// Section g stands for block i of line l, of which the record is b, and the table of blocks has it held or barred.
-fn taken_at(table: &[u8; PLACES], b: Line, l: u8, g: u8, i: u8) -> bool
-    ensures { λ r. ⌜ r ≡ eqb (blockDetail b i) g and not (untaken (now (table .entry)) l i) ⌝ }
-{
-    let x = detail_section(b, i);
-    if x != g {
-        return false;
-    }
-    !is_open(table, l, i)
-}
-
-// Section g stands for one of the blocks of line l that the table has held or barred.
-fn is_taken(table: &[u8; PLACES], b: Line, l: u8, g: u8) -> bool
-    ensures { λ r. ⌜ r ≡ failing (untaken (now (table .entry)) l) b g ⌝ }
-{
-    let mut i: u8 = 0;
-    while i < b.blocks {
-        if taken_at(table, b, l, g, i) {
-            return true;
-        }
-        i += 1;
-    }
-    false
-}
-
-// The lowest of the sections that stand for the blocks of line l that the table has held or barred.
+// The lowest of the sections that stand for the blocks of line l that the table has held or barred, by the set of all of these (request L4).
 pub fn lowest_taken(table: &[u8; PLACES], b: Line, l: u8) -> u8
     ensures { λ r. ⌜ r ≡ lowest mostSections (failing (untaken (now (table .entry)) l) b) ⌝ }
 {
-    let mut g: u8 = 0;
-    while g < MOST_SECTIONS {
-        if is_taken(table, b, l, g) {
-            return g;
-        }
-        g += 1;
-    }
-    MOST_SECTIONS
+    let set = taken_of(table, b, l);
+    sets::lowest_in(set)
 }
