@@ -1,10 +1,10 @@
 -- The lowest number in a set is its count of trailing zeros; and what is in a set of the numbers of which a test holds.
-use Prim.Native.Nat.{ℕ, zero, suc, _+_, _/_, _%_, _^_, _<_}
+use Prim.Native.Nat.{ℕ, zero, suc, _+_, _/_, _%_, _^_, _≤_, _<_}
 use mathlib.Core.Bool.{Bool, true, false, not, and-true, and-false}
 use mathlib.Core.Path.{_≡_, sym, ap, _∙_}
 use native.Mathlib.Nat.{add-zero, div-one, zero-add}
 use native.Mathlib.Omega.{arith}
-use lib.Count.{trailingZeros, under}
+use lib.Count.{trailingZeros, trailing-le, under}
 use lib.Dec.{eqb}
 use lib.Pow.{shr-shr}
 use Rattle.laws.specs.Tests.{_and_, _or_, anyBelow, lowestFrom, lowest}
@@ -38,6 +38,10 @@ trailing-from (suc w) x i p h =
 pub trailing-lowest : (set : ℕ) → trailingZeros 64 set ≡ lowestIn set
 unfolding lowestIn lowest
 trailing-lowest set = sym (zero-add (trailingZeros 64 set)) ∙ trailing-from 64 set 0 (holds set) (λ j l. ap (holds set) (zero-add j) ∙ holds-bit set j l)
+
+-- it is at most 64
+pub lowest-most : (set : ℕ) → lowestIn set ≤ 64
+lowest-most set = rw (← trailing-lowest set) (trailing-le 64 set)
 
 -- ---- the set of the numbers of which a test holds
 

@@ -1,5 +1,5 @@
 -- What stands in the way of an order, as a set in one word: sections of a list that do not read free, points of it that are not in position, the sections
--- of blocks that are held or barred (L4).
+-- of blocks that are held or barred (L4). So the code searches; what is refused is said in `reasons`.
 use Prim.Native.Nat.{ℕ}
 use mathlib.Core.Bool.{Bool, not}
 use mathlib.Core.List.{List}
