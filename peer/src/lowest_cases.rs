@@ -1,5 +1,5 @@
-// Runs for the stored archive in which the lowest of several sections or points decides (7, 8 and 6; L4): each section and point there can be, lists that
-// are not in the order of their numbers, and more and fewer of them in the way.
+// Runs for the stored archive in which the lowest of several sections, points or blocks decides (6, 7, 8, 10 and 11; L4): each section and point that there
+// can be, lists that are not in the order of their numbers, and more and fewer of them in the way.
 use crate::examples::{one_section_each, version_1};
 use crate::layout::{encode, Layout, Line, Route};
 use crate::runs::{Event, Runs};
@@ -39,84 +39,141 @@ fn ready(l: &Layout) -> Vec<Event> {
     sections.chain((0..l.own.len() as u32).map(|p| [2, p, 1 + p % 2])).collect()
 }
 
-/// A run, with the answers that its orders must get.
+/// A run, with the answers that it must get.
 #[derive(Default)]
 struct Told {
     events: Vec<Event>,
     answers: Vec<(u32, u32)>,
 }
 
+/// An order and what can be in its way: the numbers that it asks for, two ways to put each there with the refusals that they get, and how it goes again.
+struct Order<'a> {
+    order: Event,
+    asked: Vec<usize>,
+    put: &'a dyn Fn(usize, usize) -> Event,
+    refused: [u32; 2],
+    away: &'a dyn Fn(usize) -> Vec<Event>,
+}
+
 impl Told {
-    // A reading, which is accepted.
-    fn reads(&mut self, kind: u32, number: usize, code: u32) {
-        self.events.push([kind, number as u32, code]);
-        self.answers.push((0, 0));
+    // Events that are accepted.
+    fn done(&mut self, events: impl IntoIterator<Item = Event>) {
+        for e in events {
+            self.events.push(e);
+            self.answers.push((0, 0));
+        }
     }
 
-    // An order that is refused by the lowest of what is in the way: its kind, first and second number.
-    fn refused(&mut self, order: Event, by: (u32, usize)) {
-        self.events.push(order);
-        self.answers.push((by.0, by.1 as u32));
+    // The order, refused by x, which was put in its way in this way.
+    fn refused(&mut self, o: &Order, x: usize, way: usize) {
+        self.events.push(o.order);
+        self.answers.push((o.refused[way], x as u32));
     }
 
-    // Each of these in the way alone by each of two codes, then all of them from the last to the first, and away again from the first on. `number` gives
-    // the refusal by the code, `kind` reads it, `right` is the code that is not in the way.
-    fn in_the_way(&mut self, order: Event, kind: u32, asked: &[usize], right: impl Fn(usize) -> u32, wrong: [u32; 2], number: impl Fn(u32) -> u32) {
-        for &x in asked {
-            for code in wrong {
-                self.reads(kind, x, code);
-                self.refused(order, (number(code), x));
-            }
-            self.reads(kind, x, right(x));
+    // x is put in the way, and is the lowest there.
+    fn put(&mut self, o: &Order, x: usize, way: usize) {
+        self.done([(o.put)(x, way)]);
+        self.refused(o, x, way);
+    }
+
+    // Each alone in both ways; then all of them from the highest down, the two ways by turns.
+    fn more(&mut self, o: &Order) {
+        for &x in &o.asked {
+            self.put(o, x, 0);
+            self.put(o, x, 1);
+            self.done((o.away)(x));
         }
-        let mut sorted = asked.to_vec();
-        sorted.sort();
-        let code = |k: usize| wrong[k % 2];
-        for (k, &x) in sorted.iter().enumerate().rev() {
-            self.reads(kind, x, code(k));
-            self.refused(order, (number(code(k)), x));
-        }
-        for (k, &x) in sorted.iter().enumerate() {
-            self.refused(order, (number(code(k)), x));
-            self.reads(kind, x, right(x));
+        for (k, x) in sorted(o).into_iter().enumerate().rev() {
+            self.put(o, x, k % 2);
         }
     }
+
+    // From the lowest up they go again.
+    fn fewer(&mut self, o: &Order) {
+        for (k, x) in sorted(o).into_iter().enumerate() {
+            self.refused(o, x, k % 2);
+            self.done((o.away)(x));
+        }
+    }
+}
+
+// What an order asks for, in the order of the numbers.
+fn sorted(o: &Order) -> Vec<usize> {
+    let mut asked = o.asked.clone();
+    asked.sort();
+    asked
 }
 
 // The run from a cold start with everything ready, and its last order, which is granted.
-fn made(c: &mut Runs, label: &str, l: &Layout, told: Told, granted: Event) {
+fn made(c: &mut Runs, label: &str, l: &Layout, mut told: Told, granted: Event) {
+    told.done([granted]);
     let mut events = ready(l);
     let mut answers = vec![(0, 0); events.len()];
-    events.extend(told.events.into_iter().chain([granted]));
-    answers.extend(told.answers.into_iter().chain([(0, 0)]));
+    events.extend(told.events);
+    answers.extend(told.answers);
     c.made(label, &encode(l), &events, &answers);
 }
 
-const BY_READING: fn(u32) -> u32 = |code| if code == 2 { 7 } else { 8 };
+// A section that is occupied, 7, or none, 8, and free again.
+const READ: &dyn Fn(usize, usize) -> Event = &|g, way| [1, g as u32, [2, 0][way]];
+const FREE: &dyn Fn(usize) -> Vec<Event> = &|g| vec![[1, g as u32, 1]];
+
+// Set route: points that read none or the other position, sections of path and overlap.
+fn set(c: &mut Runs, l: &Layout) {
+    for (r, a) in l.routes.iter().enumerate() {
+        let order = [4, r as u32, 0];
+        let points = a.points.iter().map(|&(p, _)| p).collect();
+        let misread = |p: usize, way: usize| [2, p as u32, [0, 2 - p as u32 % 2][way]];
+        let right = |p: usize| vec![[2, p as u32, 1 + p as u32 % 2]];
+        let mut told = Told::default();
+        for o in [
+            Order { order, asked: points, put: &misread, refused: [6, 6], away: &right },
+            Order { order, asked: [&a.path[..], &a.overlap].concat(), put: READ, refused: [7, 8], away: FREE },
+        ] {
+            told.more(&o);
+            told.fewer(&o);
+        }
+        made(c, "set a route", l, told, order);
+    }
+}
+
+// Throw: each point's own section.
+fn throw(c: &mut Runs, l: &Layout) {
+    let order = |p: usize| [3, p as u32, 1];
+    let mut told = Told::default();
+    for (p, &own) in l.own.iter().enumerate() {
+        let o = Order { order: order(p), asked: vec![own], put: READ, refused: [7, 8], away: FREE };
+        told.more(&o);
+        told.fewer(&o);
+    }
+    made(c, "throw a point", l, told, order(31));
+}
+
+// Manual release: the sections of a line's blocks. Then secure: blocks that are barred, and blocks that are held, which a manual release opens together.
+fn release_and_secure(c: &mut Runs, l: &Layout) {
+    for (k, line) in l.lines.iter().enumerate() {
+        let (release, secure, sections) = ([7, k as u32, 1], [6, k as u32, 1], line.blocks.concat());
+        let bar = |g: usize, kind: u32| [kind, k as u32, sections.iter().position(|&s| s == g).expect("a block") as u32];
+        let opens = |g: usize| vec![[1, g as u32, 1], release];
+        let mut told = Told::default();
+        let o = Order { order: release, asked: sections.clone(), put: READ, refused: [7, 8], away: FREE };
+        told.more(&o);
+        told.fewer(&o);
+        told.done([release, [15, line.ent[1] as u32, 1]]);
+        let o = Order { order: secure, asked: sections.clone(), put: &|g, _| bar(g, 8), refused: [11, 11], away: &|g| vec![bar(g, 9)] };
+        told.more(&o);
+        told.fewer(&o);
+        let o = Order { order: secure, asked: sections.clone(), put: READ, refused: [10, 10], away: &opens };
+        told.more(&o);
+        told.done(sections.iter().map(|&g| [1, g as u32, 1]).chain([release]));
+        made(c, "release a line by hand and secure it", l, told, secure);
+    }
+}
 
 /// All of them.
 pub fn all(c: &mut Runs) {
     let l = station();
-    for (r, a) in l.routes.iter().enumerate() {
-        let set = [4, r as u32, 0];
-        let mut told = Told::default();
-        let points: Vec<usize> = a.points.iter().map(|&(p, _)| p).collect();
-        told.in_the_way(set, 2, &points, |p| 1 + p as u32 % 2, [0, 3], |_| 6);
-        let asked: Vec<usize> = a.path.iter().chain(&a.overlap).copied().collect();
-        told.in_the_way(set, 1, &asked, |_| 1, [2, 0], BY_READING);
-        made(c, "set a route", &l, told, set);
-    }
-    let throw = |p: usize| [3, p as u32, 1];
-    let mut told = Told::default();
-    for (p, &own) in l.own.iter().enumerate() {
-        told.in_the_way(throw(p), 1, &[own], |_| 1, [2, 3], BY_READING);
-    }
-    made(c, "throw a point", &l, told, throw(31));
-    let l = lines();
-    for (k, line) in l.lines.iter().enumerate() {
-        let release = [7, k as u32, 1];
-        let mut told = Told::default();
-        told.in_the_way(release, 1, &line.blocks.concat(), |_| 1, [2, 0], BY_READING);
-        made(c, "release a line by hand", &l, told, release);
-    }
+    set(c, &l);
+    throw(c, &l);
+    release_and_secure(c, &lines());
 }

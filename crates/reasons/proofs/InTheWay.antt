@@ -1,5 +1,5 @@
--- What stands in the way as a set, and its lowest number: that is the lowest section asked for that does not read free, the lowest point out of position, the
--- lowest section of a block that is held or barred.
+-- What stands in the way as a set, and its lowest number: that is the lowest section asked for that does not read free, the lowest point that is not read in
+-- position, the lowest section of a block that is held or barred.
 use Prim.Native.Nat.{ℕ, _<_, _≤_}
 use mathlib.Core.Path.{_≡_, refl, sym, ap, _∙_}
 use mathlib.Core.Bool.{Bool, not}
@@ -25,7 +25,7 @@ use Rattle.track.specs.Codes.{free, occupied}
 use Rattle.track.specs.Sizes.{mostListed, mostPoints, mostSections}
 use Rattle.tables.specs.Readings.{pointReading, reading}
 use Rattle.tables.specs.Blocks.{untaken}
-use Rattle.tables.specs.InTheWay.{isMisplaced, misplacedOf, takenOf, unfreeOf, withUnfree}
+use Rattle.tables.specs.InTheWay.{isMisplaced, misplacedOf, takenOf, unfreeBlocks, unfreeOf, withUnfree}
 use Rattle.reasons.specs.declared.Refusal.{Refusal}
 use Rattle.reasons.specs.Reasons.{notFree}
 use Rattle.reasons.specs.Refusal.{refusedIf}
@@ -60,34 +60,36 @@ module _ (sections : List ℕ) (g : ℕ) (l : g < mostSections) where
       ∙ asked-there x g (λ k. not (eqb (reading sections k) free))
       ∙ ap (λ t. t and not (eqb (reading sections g) free)) (sym (holds-joined 0 x g l ∙ ap (λ t. t or eqb x g) (holds-none g)))
 
-  -- of two sets together
-  unfree-merged : (a b u v : ℕ) → holds u g ≡ unfree sections a g → holds v g ≡ unfree sections b g
-      → holds (mergedSet u v) g ≡ unfree sections (mergedSet a b) g
-  unfolding unfree
-  unfree-merged a b u v d e =
-      holds-union u v g ∙ ap (λ t. t or holds v g) d ∙ ap (λ t. (holds a g and not (eqb (reading sections g) free)) or t) e
-      ∙ or-and (holds a g) (holds b g) (not (eqb (reading sections g) free)) ∙ ap (λ t. t and not (eqb (reading sections g) free)) (sym (holds-union a b g))
+-- of two sets together
+unfree-merged : (sections : List ℕ) (g a b u v : ℕ) → holds u g ≡ unfree sections a g → holds v g ≡ unfree sections b g
+    → holds (mergedSet u v) g ≡ unfree sections (mergedSet a b) g
+unfolding unfree
+unfree-merged sections g a b u v d e =
+    holds-union u v g ∙ ap (λ t. t or holds v g) d ∙ ap (λ t. (holds a g and not (eqb (reading sections g) free)) or t) e
+    ∙ or-and (holds a g) (holds b g) (not (eqb (reading sections g) free)) ∙ ap (λ t. t and not (eqb (reading sections g) free)) (sym (holds-union a b g))
+
+-- what is refused for section g, the lowest in the way; nothing where that is past the last section
+abbrev pub decided : List ℕ → ℕ → Refusal
+decided sections g = refusedIf (ltb g mostSections) (if eqb (reading sections g) occupied then 7 else 8) g
 
 -- 7 and 8, by the set of the sections asked for that do not read free
-module _ (sections : List ℕ) (set : ℕ) (r : Refusal)
-    (q : r ≡ refusedIf (ltb (lowestIn set) mostSections) (if eqb (reading sections (lowestIn set)) occupied then 7 else 8) (lowestIn set)) where
+module _ (sections : List ℕ) (set : ℕ) (r : Refusal) (q : r ≡ decided sections (lowestIn set)) where
   -- its lowest number is the section that decides
   by-set : (asked : ℕ) → ((g : ℕ) → g < mostSections → holds set g ≡ unfree sections asked g) → r ≡ notFree sections asked
   unfolding notFree refusedIf lowestIn
-  by-set asked h =
-      q ∙ ap (λ g. refusedIf (ltb g mostSections) (if eqb (reading sections g) occupied then 7 else 8) g) (lowest-same mostSections (holds set) (unfree sections asked) h)
+  by-set asked h = q ∙ ap (decided sections) (lowest-same mostSections (holds set) (unfree sections asked) h)
 
   -- of a route: its path and its overlap
-  pub way-by-set : (n m u v : ℕ) (xs ys : List ℕ) → u ≡ unfreeOf sections n xs → v ≡ unfreeOf sections m ys → set ≡ mergedSet u v
+  pub route-by-set : (n m u v : ℕ) (xs ys : List ℕ) → u ≡ unfreeOf sections n xs → v ≡ unfreeOf sections m ys → set ≡ mergedSet u v
       → length xs ≡ mostListed → length ys ≡ mostListed → r ≡ notFree sections (mergedSet (setOf n xs) (setOf m ys))
-  way-by-set n m u v xs ys a b e c d =
+  route-by-set n m u v xs ys a b e c d =
       by-set (mergedSet (setOf n xs) (setOf m ys))
       (λ g l. ap (λ s. holds s g) e
-      ∙ unfree-merged sections g l (setOf n xs) (setOf m ys) u v (ap (λ s. holds s g) a ∙ unfree-listed sections g l n xs c) (ap (λ s. holds s g) b ∙ unfree-listed sections g l m ys d))
+      ∙ unfree-merged sections g (setOf n xs) (setOf m ys) u v (ap (λ s. holds s g) a ∙ unfree-listed sections g l n xs c) (ap (λ s. holds s g) b ∙ unfree-listed sections g l m ys d))
 
   -- of a line: its blocks
-  pub line-by-set : (b c : Line) → b ≡ c → set ≡ unfreeOf sections (b .blocks) (b .block) → length (b .block) ≡ mostListed → r ≡ notFree sections (lineSections c)
-  unfolding lineSections
+  pub line-by-set : (b c : Line) → b ≡ c → set ≡ unfreeBlocks sections b → length (b .block) ≡ mostListed → r ≡ notFree sections (lineSections c)
+  unfolding lineSections unfreeBlocks
   line-by-set b c d e h =
       by-set (lineSections b) (λ g l. ap (λ s. holds s g) e ∙ unfree-listed sections g l (b .blocks) (b .block) h) ∙ ap (λ (a : Line). notFree sections (lineSections a)) d
 
@@ -112,7 +114,7 @@ misplaced-listed points n ps ws p l d e =
 
 module _ (points : List ℕ) (n : ℕ) (ps ws : List ℕ) (d : length ps ≡ mostListed) (e : length ws ≡ mostListed) (set p : ℕ) (q : set ≡ misplacedOf points n ps ws)
     (h : p ≡ lowestIn set) where
-  -- the lowest point out of position, by the lowest number in the set
+  -- the lowest point that is not read in position, by the lowest number in the set
   lowest-point : lowest mostPoints (misplaced points n ps ws) ≡ (if ltb p mostPoints then p else mostPoints)
   unfolding lowestIn
   lowest-point =
@@ -123,7 +125,7 @@ module _ (points : List ℕ) (n : ℕ) (ps ws : List ℕ) (d : length ps ≡ mos
   pub point-found : p < mostPoints → p ≡ lowest mostPoints (misplaced points n ps ws)
   point-found l = if-lt p mostPoints p mostPoints p l refl ∙ sym lowest-point
 
-  -- it is none: no point is out of position
+  -- it is none: every point is read in position
   pub point-none : mostPoints ≤ p → mostPoints ≡ lowest mostPoints (misplaced points n ps ws)
   point-none l = if-ge p mostPoints p mostPoints mostPoints l refl ∙ sym lowest-point
 

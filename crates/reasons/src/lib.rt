@@ -8,6 +8,7 @@ use layout::Layout;
 use passage::arrival_end;
 use searches::section_of;
 use tables::direction_of;
+use tables::in_the_way::unfree_blocks;
 use tables::in_the_way::unfree_of;
 use tables::in_the_way::with_unfree;
 use tables::is_locked;
@@ -100,11 +101,11 @@ fn unfree_number(reading: u8) -> u8
     8
 }
 
-// 7, 8: by the set of the sections asked for that do not read free (request L4). The lowest of them is occupied, reads none.
-fn not_free(sections: &[u8; SECTIONS], set: u64) -> Refusal
-    ensures { λ r. ⌜ r ≡ refusedIf (ltb (lowestIn set) mostSections) (if eqb (reading (now (sections .entry)) (lowestIn set)) occupied then 7 else 8) (lowestIn set) ⌝ }
+// 7, 8, by the set of the sections asked for that do not read free (request L4): 7 where the lowest of them is occupied, 8 where it reads none.
+fn not_free(sections: &[u8; SECTIONS], unfree: u64) -> Refusal
+    ensures { λ r. ⌜ r ≡ refusedIf (ltb (lowestIn unfree) mostSections) (if eqb (reading (now (sections .entry)) (lowestIn unfree)) occupied then 7 else 8) (lowestIn unfree) ⌝ }
 {
-    let g = sets::lowest_in(set);
+    let g = sets::lowest_in(unfree);
     let number = unfree_number(section_reads(sections, g));
     found_at(number, MOST_SECTIONS, g)
 }
@@ -199,8 +200,8 @@ pub fn route_not_free(sections: &[u8; SECTIONS], a: Route) -> Refusal
 {
     let way = unfree_of(sections, a.paths, &a.path);
     let beyond = unfree_of(sections, a.overlaps, &a.overlap);
-    let set = sets::merged(way, beyond);
-    not_free(sections, set)
+    let unfree = sets::merged(way, beyond);
+    not_free(sections, unfree)
 }
 
 // 7, 8: the section of point p does not read free.
@@ -208,8 +209,8 @@ pub fn point_not_free(own: [u8; POINTS], sections: &[u8; SECTIONS], p: u8) -> Re
     ensures { λ r. ⌜ r ≡ notFree (now (sections .entry)) (joined 0 (read mostPoints 0 own p)) ⌝ }
 {
     let section = section_of(own, p);
-    let set = with_unfree(sections, 0, section);
-    not_free(sections, set)
+    let unfree = with_unfree(sections, 0, section);
+    not_free(sections, unfree)
 }
 
 // 7, 8: a section of a block of line l does not read free.
@@ -217,8 +218,8 @@ pub fn line_not_free(ls: [Line; LINES], sections: &[u8; SECTIONS], l: u8) -> Ref
     ensures { λ r. ⌜ r ≡ notFree (now (sections .entry)) (lineSections (line ls l)) ⌝ }
 {
     let b = line_at(ls, l);
-    let set = unfree_of(sections, b.blocks, &b.block);
-    not_free(sections, set)
+    let unfree = unfree_blocks(sections, b);
+    not_free(sections, unfree)
 }
 
 // 4: the route is already locked.

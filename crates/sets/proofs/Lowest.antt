@@ -24,7 +24,8 @@ use Rattle.sets.proofs.Sets.{holds-none, holds-bit, holds-joined}
 half-bit : (x j : ℕ) → eqb (x / 2 ^ suc j % 2) 1 ≡ eqb (x / 2 / 2 ^ j % 2) 1
 half-bit x j = ap (λ n. eqb (n % 2) 1) (ap (λ k. x / 2 ^ k) (omega arith) ∙ sym (shr-shr x 1 j))
 
--- the count of trailing zeros of w bits, from i on, is the lowest number from i on at which a test holds that says of each number what its bit says
+-- where a test says of i + j what bit j of x says, for w bits, i and the count of trailing zeros together are the lowest of the w numbers from i on at which
+-- it holds
 trailing-from : (w x i : ℕ) (p : ℕ → Bool) → ((j : ℕ) → j < w → p (i + j) ≡ eqb (x / 2 ^ j % 2) 1) → i + trailingZeros w x ≡ lowestFrom w i p
 unfolding trailingZeros
 trailing-from zero x i p h = add-zero i ∙ sym (from-none i p)

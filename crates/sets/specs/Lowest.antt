@@ -14,6 +14,6 @@ lowestIn set = lowest 64 (holds set)
 unfoldable pub joinedIf : Bool → ℕ → ℕ → ℕ
 joinedIf test set g = if test then joined set g else set
 
--- of the numbers that f gives for 0 .. n - 1, the set of those for which the test holds; those of 64 or more are left out
+-- the set of the numbers f i, for i of 0 .. n - 1, where the test holds of i; those of 64 or more are left out
 unfoldable pub setWhere : ℕ → (ℕ → Bool) → (ℕ → ℕ) → ℕ
 setWhere n test f = iter (λ i set. joinedIf (test i) set (f i)) n 0

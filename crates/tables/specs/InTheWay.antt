@@ -1,5 +1,5 @@
--- What stands in the way of an order, as a set in one word: sections of a list that do not read free, points of it that are not in position, the sections
--- of blocks that are held or barred (L4). So the code searches; what is refused is said in `reasons`.
+-- What stands in the way of an order, as a set in one word: sections that do not read free, points that are not read in position, the sections of blocks that
+-- are held or barred (L4). So the code searches; what is refused is said in `reasons`.
 use Prim.Native.Nat.{ℕ}
 use mathlib.Core.Bool.{Bool, not}
 use mathlib.Core.List.{List}
@@ -21,6 +21,10 @@ withUnfree sections set g = joinedIf (not (eqb (reading sections g) free)) set g
 -- of the first n of a list of eight sections, those that do not read free
 unfoldable pub unfreeOf : List ℕ → ℕ → List ℕ → ℕ
 unfreeOf sections n xs = setWhere n (λ i. not (eqb (reading sections (read mostListed 0 xs i)) free)) (read mostListed 0 xs)
+
+-- of the sections of a line's blocks, those that do not read free
+unfoldable pub unfreeBlocks : List ℕ → Line → ℕ
+unfreeBlocks sections b = unfreeOf sections (b .blocks) (b .block)
 
 -- p is a point's number, and the point is not read in position w
 unfoldable pub isMisplaced : List ℕ → ℕ → ℕ → Bool

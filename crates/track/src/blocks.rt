@@ -1,5 +1,5 @@
-// The blocks of a line, counted from end A (section 2). Which sections a block has is asked by these words; today each block has one section. What a block
-// reads (`block_reads` of `tables`), and which of a line's blocks do not read free (`line_not_free` of `reasons`), is looked up in the line's list itself.
+// The blocks of a line, counted from end A (section 2). Which sections a block has is asked by these words, and by those of `tables` that say what its
+// sections read; today each block has one section.
 use super::Line;
 use super::lists::all_differ;
 use laws::at8;

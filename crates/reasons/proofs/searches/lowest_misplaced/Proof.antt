@@ -1,4 +1,4 @@
--- The lowest number in the set of the points out of position; one past the last point stands for none.
+-- The lowest number in the set of the points that are not read in position; one past the last point stands for none.
 use borrow.Author.Needs.{needs}
 use Rattle.reasons.proofs.InTheWay.{point-found, point-none}
 use Rattle.reasons.proofs.searches.lowest_misplaced.Statement.{statement}
