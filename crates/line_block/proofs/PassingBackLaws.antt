@@ -4,7 +4,6 @@ use mathlib.Core.Path.{_≡_, refl, sym, ap, _∙_}
 use mathlib.Core.Bool.{Bool, true, false, not, _||_}
 use mathlib.Core.List.{List}
 use mathlib.Core.Logic.{⊎-elim}
-use native.Mathlib.Nat.{le-refl}
 use native.Mathlib.Decide.{ℕ-discrete}
 use native.Mathlib.Numerals.{add-one}
 use native.Mathlib.Omega.{arith}
@@ -13,17 +12,17 @@ use lib.Dec.{eqb, leb}
 use lib.ListN.{length, getD, set, replicate, length-set}
 use lib.Seq.{getD-set-same, getD-set-other}
 use Rattle.laws.specs.Tests.{_and_, _or_, anyBelow}
-use Rattle.laws.specs.Tables.{each, read}
+use Rattle.laws.specs.Tables.{read}
 use Rattle.laws.proofs.Arrays.{read-in, read-at, nothing-at}
-use Rattle.laws.proofs.Choice.{if-false, if-ge, which, chosen, passed-over}
-use Rattle.laws.proofs.Each.{each-at, each-past, length-each, Redone, redo-end}
+use Rattle.laws.proofs.Choice.{if-false, if-ge, chosen, passed-over}
+use Rattle.laws.proofs.Each.{each-same, each-kept}
 use Rattle.laws.proofs.Tests.{and-left, and-right, and-both, first-fails, second-fails, or-cases, or-neither, not-both, fails-from, all-at}
 use Rattle.track.specs.declared.Line.{Line}
 use Rattle.track.specs.declared.Route.{Route}
 use Rattle.track.specs.Codes.{neutral, openBlock, stage2, stage3, idle}
 use Rattle.track.specs.Sizes.{mostBlocks, mostLines, mostPlaces, mostTrainRoutes, mostRoutes}
 use Rattle.track.specs.Objects.{line, noLine, route, noRoute}
-use Rattle.tables.specs.Blocks.{place, stageOf}
+use Rattle.tables.specs.Blocks.{stageOf}
 use Rattle.tables.specs.Locks.{direction, locked}
 use Rattle.passage.specs.Passage.{fromArrival}
 use Rattle.line_block.specs.Entries.{noneWaits, fewLines}
@@ -224,18 +223,6 @@ module _ (rs : List Route) (before phases directions : List ℕ) where
               (h .1 l p ∙ or-fails _ _ (elsewhere before phases (route rs r) l _ r (λ y. z (ap (λ (x : Route). x .line) same ∙ y))))
 
 -- ---- all blocks
-
--- two rules that make the same of each of the first n entries make the same table
-each-same : (n : ℕ) (f g : ℕ → ℕ → ℕ) (xs : List ℕ) → n ≤ length xs → ((k : ℕ) → k < n → f k (getD xs k 0) ≡ g k (getD xs k 0)) → each n f xs ≡ each n g xs
-unfolding Redone
-each-same n f g xs b h =
-    redo-end (length xs) n g xs (each n f xs) n
-    (le-refl n, b, refl, length-each n f xs b, λ k q. each-at n f xs k q ∙ h k q, λ k q. each-past n f xs k q) (le-refl n)
-
--- a rule that leaves each of them leaves the table
-each-kept : (n : ℕ) (f : ℕ → ℕ → ℕ) (xs : List ℕ) → n ≤ length xs → ((k : ℕ) → k < n → getD xs k 0 ≡ f k (getD xs k 0)) → xs ≡ each n f xs
-unfolding Redone
-each-kept n f xs b h = redo-end (length xs) n f xs xs n (le-refl n, b, refl, refl, h, λ k q. refl) (le-refl n)
 
 module _ (n : ℕ) (ls : List Line) (directions stages : List ℕ) (b : mostBlocks * n ≤ length stages) where
   -- what passes back is asked of openings and of the arrivals of each line in its direction alone
