@@ -23,7 +23,7 @@ use Rattle.line_block.proofs.Lines.{few-all}
 use Rattle.interlocking.specs.declared.Core.{Core}
 use Rattle.interlocking.specs.State.{codes, inRange, routesAndLinesInRange, withSections, withPoints, withRoutes, withLines, withBars}
 use Rattle.interlocking.specs.Parts.{coreOf, headless, bare}
-use Rattle.interlocking.specs.Own.{ownSection, ownPoint, throwReading, ownThrow, ownSet, ownCancel, ownSecure, openAt, ownManual, ownBar}
+use Rattle.interlocking.specs.Own.{ownSection, ownPoint, throwReading, ownThrow, ownLock, ownCancel, ownSecure, openAt, ownManual, ownBar}
 
 -- ---- one store
 
@@ -79,10 +79,10 @@ module _ (s : Core) where
   throw-made a w x point order e p q = rw (p, q, e)
 
   -- 4: phase, step and seconds stored
-  pub set-made : (r : ℕ) (phase step second : List ℕ) → phase ≡ put mostRoutes (s .phase) r atProceed → step ≡ put mostTrainRoutes (s .steps) r 0 → second ≡ put mostTrainRoutes (s .seconds) r 0
-      → coreOf (withRoutes (bare s) phase step second) ≡ coreOf (ownSet (bare s) r)
-  unfolding ownSet
-  set-made r phase step second p q t = rw (p, q, t)
+  pub lock-made : (r : ℕ) (phase step second : List ℕ) → phase ≡ put mostRoutes (s .phase) r atProceed → step ≡ put mostTrainRoutes (s .steps) r 0 → second ≡ put mostTrainRoutes (s .seconds) r 0
+      → coreOf (withRoutes (bare s) phase step second) ≡ coreOf (ownLock (bare s) r)
+  unfolding ownLock
+  lock-made r phase step second p q t = rw (p, q, t)
 
   -- 5: phase and seconds stored
   pub cancel-made : (r : ℕ) (phase second : List ℕ) → phase ≡ put mostRoutes (s .phase) r cancelling → second ≡ put mostTrainRoutes (s .seconds) r 0

@@ -24,15 +24,16 @@ use Rattle.layout.specs.declared.Layout.{Layout}
 use Rattle.reasons.specs.declared.Refusal.{Refusal}
 use Rattle.reasons.specs.Refusal.{refused, noRefusal, refusedIf, firstOf}
 use Rattle.refusals.specs.Events.{numbersRefusal}
-use Rattle.refusals.specs.Orders.{throwRefusal, exitRefusal, routeRefusal, setRefusal, cancelRefusal, manualRefusal}
+use Rattle.refusals.specs.Orders.{throwRefusal, secureRefusal, wayRefusal, exitRefusal, routeRefusal, setRefusal, cancelRefusal, manualRefusal}
 use Rattle.interlocking.specs.declared.State.{State}
 use Rattle.interlocking.specs.declared.Core.{Core}
 use Rattle.interlocking.specs.declared.CoreAnswer.{CoreAnswer}
 use Rattle.interlocking.specs.State.{headsAt, withSections, withPoints, withRoutes, withLines, withBars, withAxles, withLamps}
-use Rattle.interlocking.specs.Own.{ownSection, ownPoint, ownThrow, ownSet, ownCancel, ownSecure, ownManual, ownBar, headSection, headsOf, headsBy, ownHeads, ownLamp}
+use Rattle.interlocking.specs.Own.{ownSection, ownPoint, ownThrow, ownLock, ownCancel, ownSecure, ownManual, ownBar, headSection, headsOf, headsBy, ownHeads, ownLamp}
 use Rattle.interlocking.specs.Rows.{Row, sectionRow, pointRow, throwRow, setRow, cancelRow, secureRow, manualRow, barRow, secondRow, headRow, countRow, silentRow, stillSilent, resetRow, lampRow, noRow, rowWith, rowOf}
 use Rattle.interlocking.specs.Step.{rowRefusal, answeredBy, stepWhere}
 use Rattle.interlocking.specs.Parts.{coreOf, headless, moves, stays, tried, isOfHeads, headsThen, headPlace, followed, coreStep, lampsThen, together}
+use Rattle.interlocking.proofs.Departure.{set-lines}
 use Rattle.interlocking.proofs.Rows.{OfKind, section-row, point-row, throw-row, set-row, cancel-row, secure-row, manual-row, bar-row, unbar-row, second-row, count-row, silent-row, reset-row, lamp-row, no-row, row-unknown, row-of, head-named, reset-named, of-heads, kinds-of-heads, kind-of-no-heads}
 use Rattle.interlocking.proofs.Lifted.{settle-parts}
 
@@ -78,12 +79,13 @@ module _ (t : Bool) (L : Layout) (s : State) (k a b : ℕ) (x : Axles) (back : s
   -- it leaves them, and its row is made of the nine tables
   plain : isOfHeads k ≡ false → {v : Row} → OfKind L s a b k v → Alike t k a b s (headPlace k a) (headsThen x k a b) (rowWith L (headless (coreOf s) (s .lamp)) x (headsThen x k a b) k a b) v
   unfolding coreOf rowWith headsThen if_then_else_ rowRefusal sectionRow pointRow throwRow setRow cancelRow secureRow manualRow barRow secondRow lampRow noRow
-      ownSection ownPoint ownThrow ownSet ownCancel ownSecure ownManual ownBar ownLamp withSections withPoints withRoutes withLines withBars withLamps lampsThen _and_
-      throwRefusal setRefusal cancelRefusal manualRefusal routeRefusal exitRefusal
+      ownSection ownPoint ownThrow ownLock ownCancel ownSecure ownManual ownBar ownLamp withSections withPoints withRoutes withLines withBars withLamps lampsThen _and_
+      throwRefusal setRefusal cancelRefusal manualRefusal routeRefusal exitRefusal wayRefusal secureRefusal
   plain n (section-row q) = rw (n, q) (same refl refl refl (rw q at back) refl)
   plain n (point-row q) = rw (n, q) (same refl refl refl (rw q at back) refl)
   plain n (throw-row q) = rw (n, q) (same refl refl refl (rw q at back) refl)
-  plain n (set-row q) = rw (n, q) (same refl refl refl (rw q at back) refl)
+  plain n (set-row q) =
+      rw (n, q, set-lines (L .route) s a, set-lines (L .route) (headless (coreOf s) (s .lamp)) a) (same refl refl refl (rw q at back) refl)
   plain n (cancel-row q) = rw (n, q) (same refl refl refl (rw q at back) refl)
   plain n (secure-row q) = rw (n, q) (same refl refl refl (rw q at back) refl)
   plain n (manual-row q) = rw (n, q) (same refl refl refl (rw q at back) refl)

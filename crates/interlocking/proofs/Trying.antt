@@ -23,7 +23,7 @@ use Rattle.reasons.specs.Refusal.{refused, noRefusal, refusedIf}
 use Rattle.reasons.specs.Reasons.{noHeads, hasHeads}
 use Rattle.reasons.proofs.Laws.{first-here, first-next, first-last}
 use Rattle.refusals.specs.Events.{numbersRefusal}
-use Rattle.refusals.specs.Orders.{throwRefusal, exitRefusal, routeRefusal, setRefusal, cancelRefusal, manualRefusal}
+use Rattle.refusals.specs.Orders.{throwRefusal, cancelRefusal, manualRefusal}
 use Rattle.refusals.proofs.Granted.{granted-at, when-granted, granted-sound, granted-there, granted-fit, granted-second}
 use Rattle.axles.specs.declared.Axles.{Axles}
 use Rattle.interlocking.specs.declared.Core.{Core}
@@ -34,8 +34,8 @@ use Rattle.interlocking.specs.declared.CoreAnswer.{CoreAnswer}
 use Rattle.interlocking.specs.Settle.{settle}
 use Rattle.axles.specs.Heads.{speaking, axlesReading}
 use Rattle.interlocking.specs.State.{withSections, withPoints, withRoutes, withLines, withBars, withAxles}
-use Rattle.interlocking.specs.Own.{ownSection, ownPoint, ownThrow, ownSet, ownCancel, ownSecure, ownManual, ownBar, ownHeads, headSection}
-use Rattle.interlocking.specs.Rows.{Row, givesReading, pointRow, throwRow, setRow, cancelRow, manualRow, barRow, secondRow, headRow, stillSilent, noRow, rowWith}
+use Rattle.interlocking.specs.Own.{ownSection, ownPoint, ownThrow, ownCancel, ownSecure, ownManual, ownBar, ownHeads, headSection}
+use Rattle.interlocking.specs.Rows.{Row, givesReading, pointRow, throwRow, cancelRow, manualRow, barRow, secondRow, headRow, stillSilent, noRow, rowWith}
 use Rattle.interlocking.specs.Step.{rowRefusal}
 use Rattle.interlocking.specs.Parts.{coreOf, headless, bare, moves, stays, tried, followed, numbersNamed, wrongCount, silence, headsRow}
 
@@ -188,11 +188,6 @@ module _ (t : Bool) (L : Layout) (c : Core) (lamps : List ℕ) (a b : ℕ) where
   pub throw-dark : tried t c a (throwRow L (bare c) a b) ≡ tried t c a (throwRow L (headless c lamps) a b)
   unfolding tried rowRefusal coreOf throwRow ownThrow withPoints throwRefusal
   throw-dark = refl
-
-  -- 4
-  pub set-dark : tried t c a (setRow L (bare c) a b) ≡ tried t c a (setRow L (headless c lamps) a b)
-  unfolding tried rowRefusal coreOf setRow ownSet withRoutes setRefusal routeRefusal exitRefusal
-  set-dark = refl
 
   -- 5
   pub cancel-dark : tried t c a (cancelRow L (bare c) a b) ≡ tried t c a (cancelRow L (headless c lamps) a b)

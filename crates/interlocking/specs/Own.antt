@@ -7,11 +7,13 @@ use Rattle.laws.specs.Choice.{if_then_else_}
 use Rattle.laws.specs.Tests.{_and_}
 use Rattle.laws.specs.Tables.{each, put}
 use Rattle.track.specs.declared.Line.{Line}
-use Rattle.track.specs.Codes.{readsNone, neutral, openBlock, atProceed, cancelling, resetAxles}
+use Rattle.track.specs.declared.Route.{Route}
+use Rattle.track.specs.Codes.{readsNone, neutral, leaving, openBlock, atProceed, cancelling, resetAxles}
 use Rattle.track.specs.Sizes.{mostSections, mostPoints, mostLines, mostBlocks, mostPlaces, mostTrainRoutes, mostRoutes, mostLamps}
-use Rattle.track.specs.Objects.{line}
+use Rattle.track.specs.Objects.{line, route}
 use Rattle.tables.specs.Readings.{pointReading}
 use Rattle.tables.specs.Blocks.{place}
+use Rattle.tables.specs.Locks.{departs}
 use Rattle.line_block.specs.OwnReadings.{ownStages}
 use Rattle.axles.specs.declared.Axles.{Axles}
 use Rattle.axles.specs.Heads.{axlesAfter, axlesReading}
@@ -35,17 +37,25 @@ throwReading points p w = if eqb (pointReading points p) w then w else readsNone
 unfoldable pub ownThrow : State → ℕ → ℕ → State
 ownThrow s p w = withPoints s (put mostPoints (s .point) p (throwReading (s .point) p w)) (put mostPoints (s .order) p w)
 
+-- 6: the line is secured
+unfoldable pub ownSecure : State → ℕ → ℕ → State
+ownSecure s l w = withLines s (put mostLines (s .direction) l w) (s .stage)
+
 -- 4: a set route locks at once and its signal shows proceed
-unfoldable pub ownSet : State → ℕ → State
-ownSet s r = withRoutes s (put mostRoutes (s .phase) r atProceed) (put mostTrainRoutes (s .steps) r 0) (put mostTrainRoutes (s .seconds) r 0)
+unfoldable pub ownLock : State → ℕ → State
+ownLock s r = withRoutes s (put mostRoutes (s .phase) r atProceed) (put mostTrainRoutes (s .steps) r 0) (put mostTrainRoutes (s .seconds) r 0)
+
+-- L5: an exit route on a neutral line first secures it the route's way
+unfoldable pub secureFirst : State → Route → State
+secureFirst s a = if departs (s .direction) a then ownSecure s (a .line) (leaving (a .end)) else s
+
+-- 4: to set route r of rs: this first, then it locks
+unfoldable pub ownSet : List Route → State → ℕ → State
+ownSet rs s r = ownLock (secureFirst s (route rs r)) r
 
 -- 5: cancel drops the signal at once, and the seconds begin
 unfoldable pub ownCancel : State → ℕ → State
 ownCancel s r = withRoutes s (put mostRoutes (s .phase) r cancelling) (s .steps) (put mostTrainRoutes (s .seconds) r 0)
-
--- 6: the line is secured
-unfoldable pub ownSecure : State → ℕ → ℕ → State
-ownSecure s l w = withLines s (put mostLines (s .direction) l w) (s .stage)
 
 -- 7: manual release makes every block of line l open and the line neutral; bars stay
 unfoldable pub openAt : List Line → ℕ → ℕ → ℕ → ℕ

@@ -85,14 +85,14 @@ throwRow L s a b = record {
   gives = nothing;
 }
 
--- 4: set route (route)
+-- 4: set route (route); an exit route on a neutral line secures it first (L5)
 unfoldable pub setRow : Layout → State → ℕ → ℕ → Row
 setRow L s a b = record {
   missing = leb (L .routes) a;
   misfit = noRefusal;
   wrong = not (eqb b 0);
   besides = setRefusal L (tablesOf s) a;
-  does = ownSet s a;
+  does = ownSet (L .route) s a;
   gives = nothing;
 }
 

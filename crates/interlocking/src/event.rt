@@ -34,6 +34,7 @@ use track::codes::SECURE_LINE;
 use track::codes::SET_ROUTE;
 use track::codes::THROW;
 use track::codes::UNBAR;
+use track::route_at;
 use track::signals::signal_count;
 use track::sizes::LAMPS;
 use track::sizes::MOST_SECTIONS;
@@ -120,8 +121,8 @@ impl Core {
     }
 
     // 4: set a route; the second number is unused.
-    fn set(self, layout: Layout, sound: bool, route: u32, unused: u32) -> Tried
-        ensures { λ r. ⌜ r ≡ tried sound self route (setRow layout (bare self) route unused) ⌝ }
+    fn set(self, layout: Layout, lamps: &[u8; LAMPS], sound: bool, route: u32, unused: u32) -> Tried
+        ensures { λ r. ⌜ r ≡ tried sound self route (setRow layout (headless self (now (lamps .entry))) route unused) ⌝ }
     {
         let missing = layout.routes as u32 <= route;
         let numbers = numbers_refusal(sound, missing, route, no_refusal(), unused != 0);
@@ -137,12 +138,16 @@ impl Core {
             &self.direction,
             &self.stage,
             &self.bar,
+            lamps,
             r,
         );
         if f.number != 0 {
             return refused(self, f);
         }
-        let t = orders::lock(self, r);
+        let rs = layout.route;
+        let a = route_at(rs, r);
+        let first = orders::secure_first(self, a);
+        let t = orders::lock(first, r);
         let gives = gives_nothing();
         done(t, gives)
     }
@@ -326,7 +331,7 @@ pub fn event_tried(
         READ_SECTION => s.section_reading(layout, lamps, sound, first, second),
         READ_POINT => s.point_reading(layout, sound, first, second),
         THROW => s.throw(layout, sound, first, second),
-        SET_ROUTE => s.set(layout, sound, first, second),
+        SET_ROUTE => s.set(layout, lamps, sound, first, second),
         CANCEL_ROUTE => s.cancel(layout, sound, first, second),
         SECURE_LINE => s.secure(layout, lamps, sound, first, second),
         RELEASE_LINE => s.release_by_hand(layout, sound, first, second),

@@ -208,7 +208,7 @@ impl State {
         self.answer(layout, asked, THROW, point, position)
     }
 
-    // 4: set a route.
+    // 4: set a route; an exit route on a neutral line secures it first (request L5).
     pub fn set_route(self, layout: Layout, route: u32) -> Answer
         ensures { λ r. ⌜ r ≡ answeredBy (sound layout and inRange self) layout self route (setRow layout self route 0) ⌝ }
     {

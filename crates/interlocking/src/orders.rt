@@ -3,12 +3,15 @@ use super::Core;
 use super::stores::store;
 use line_block::own_readings::own_stages;
 use tables::Gives;
+use tables::departs;
 use track::Line;
+use track::Route;
 use track::codes::AT_PROCEED;
 use track::codes::CANCELLING;
 use track::codes::NEUTRAL;
 use track::codes::NONE;
 use track::codes::OPEN;
+use track::direction_from;
 use track::sizes::BLOCKS;
 use track::sizes::LAMPS;
 use track::sizes::LINES;
@@ -23,7 +26,7 @@ ghost use Prim.Native.Nat.{_≤_};
 ghost use Rattle.laws.specs.Tables.{each};
 ghost use Rattle.track.specs.Sizes.{mostLines, mostPlaces};
 ghost use Rattle.interlocking.specs.Parts.{coreOf, headless, bare};
-ghost use Rattle.interlocking.specs.Own.{ownSection, ownPoint, throwReading, ownThrow, ownSet, ownCancel, ownSecure, openAt, ownManual, ownBar};
+ghost use Rattle.interlocking.specs.Own.{ownSection, ownPoint, throwReading, ownThrow, ownLock, secureFirst, ownCancel, ownSecure, openAt, ownManual, ownBar};
 
 // What a section reading needs of the layout: how many main signals and lines there are, and the lines. It is a record of its own because the table of
 // lines handed on alone is handed as a place within the layout, and that is then copied whole at each event.
@@ -68,7 +71,7 @@ pub fn read_point(s: Core, p: u8, v: u8) -> Core
 
 // 4: route r locks, and its signal shows proceed.
 pub fn lock(s: Core, r: u8) -> Core
-    ensures { λ t. ⌜ t ≡ coreOf (ownSet (bare s) r) ⌝ }
+    ensures { λ t. ⌜ t ≡ coreOf (ownLock (bare s) r) ⌝ }
 {
     let mut phase = s.phase;
     let mut step = s.steps;
@@ -106,6 +109,16 @@ pub fn secure(s: Core, l: u8, w: u8) -> Core
     let mut t = s;
     t.direction = direction;
     t
+}
+
+// 4, before it locks: where a route is an exit route on a neutral line, the line is secured the route's way (request L5).
+pub fn secure_first(s: Core, a: Route) -> Core
+    ensures { λ t. ⌜ t ≡ coreOf (secureFirst (bare s) a) ⌝ }
+{
+    if departs(&s.direction, a) {
+        return secure(s, a.line, direction_from(a.end));
+    }
+    s
 }
 
 // The stage at place k after line l was released by hand.

@@ -22,6 +22,7 @@ use track::blocks::detail_section;
 use track::codes::CANCELLING;
 use track::codes::NEUTRAL;
 use track::codes::OCCUPIED;
+use track::direction_from;
 use track::entrance_at;
 use track::line_at;
 use track::nearest_block;
@@ -250,8 +251,8 @@ pub fn already_cancelling(phases: &[u8; ROUTES], r: u8) -> Refusal
 pub fn not_secured(directions: &[u8; LINES], l: u8, end: u8) -> Refusal
     ensures { λ r. ⌜ r ≡ refusedIf (not (eqb (direction (now (directions .entry)) l) (leaving end))) 9 l ⌝ }
 {
-    let direction = direction_of(directions, l) as u32;
-    let asked = (end as u32) + 1;
+    let direction = direction_of(directions, l);
+    let asked = direction_from(end);
     refused_if(direction != asked, 9, l as u32)
 }
 

@@ -1,15 +1,17 @@
 -- What the invariant says of signals at proceed: their line is secured, their block open, and no two lead into one block.
 use Prim.Native.Nat.{ℕ, _+_, _-_, _<_, _≤_}
 use mathlib.Core.Path.{_≡_, sym, ap, ap₂, _∙_}
-use mathlib.Core.Logic.{_≢_, ⊎-elim}
+use mathlib.Core.Logic.{_≢_, inr, ⊎-elim}
 use mathlib.Core.Bool.{true}
 use native.Mathlib.Decide.{ℕ-discrete}
 use native.Mathlib.Omega.{arith}
 use borrow.Author.Tests.{eqb-true, eq-eqb, ne-eqb, ltb-true}
 use lib.Dec.{ltb}
 use Rattle.laws.proofs.Tests.{implied, every-at}
+use Rattle.track.specs.Codes.{leaving}
 use Rattle.track.specs.Objects.{nearest}
 use Rattle.track.specs.Signal.{Signal, main, into, hasSignal}
+use Rattle.track.proofs.Ways.{leaving-some, leaving-once}
 use Rattle.tables.specs.Blocks.{isOpen}
 use Rattle.signals.specs.Signals.{enterableBy, enterable, letsOut, clear}
 use Rattle.layout.specs.declared.Layout.{Layout}
@@ -28,19 +30,19 @@ use Rattle.safety.proofs.SignalBytes.{main-for}
 use Rattle.safety.proofs.Invariant.{Inv}
 
 -- no exit signal and block signal lead into one block the same way: a block signal stands behind another block
-not-both-kinds : (L : Layout) (l w i e : ℕ) → 1 ≤ lineIn L l .blocks → nearestBlock L l e ≡ i → e + 1 ≡ w → hasSignal (lineIn L l .blocks) i w ≡ true → ⊥
-unfolding hasSignal nearestBlock nearest
+not-both-kinds : (L : Layout) (l w i e : ℕ) → 1 ≤ lineIn L l .blocks → nearestBlock L l e ≡ i → leaving e ≡ w → hasSignal (lineIn L l .blocks) i w ≡ true → ⊥
+unfolding hasSignal nearestBlock nearest leaving
 not-both-kinds L l w i e some at way t = go (ℕ-discrete e 0)
   where
     go : Dec (e ≡ 0) → ⊥
     go (yes q) =
         let first : 0 ≡ i = sym (chosen _ _ _ (eq-eqb e 0 q)) ∙ at in
-        let behind : ltb 0 i ≡ true = sym (chosen _ _ _ (eq-eqb w 1 (omega arith))) ∙ t in
+        let behind : ltb 0 i ≡ true = sym (chosen _ _ _ (eq-eqb w 1 (sym way ∙ chosen _ _ _ (eq-eqb e 0 q)))) ∙ t in
         let z = ltb-true 0 i behind in
         omega arith
     go (no q) =
         let last : lineIn L l .blocks - 1 ≡ i = sym (passed-over _ _ _ (ne-eqb e 0 q)) ∙ at in
-        let behind : ltb (i + 1) (lineIn L l .blocks) ≡ true = sym (passed-over _ _ _ (ne-eqb w 1 (omega arith))) ∙ t in
+        let behind : ltb (i + 1) (lineIn L l .blocks) ≡ true = sym (passed-over _ _ _ (ne-eqb w 1 (let z : w ≡ 2 = sym way ∙ passed-over _ _ _ (ne-eqb e 0 q) in omega arith))) ∙ t in
         let z = ltb-true (i + 1) (lineIn L l .blocks) behind in
         omega arith
 
@@ -74,7 +76,7 @@ module _ (L : Layout) (S : Sound L) (s : State) (h : History) (I : Inv L s h) wh
 
   -- its direction is not neutral: an end is left in one of two ways, and a block signal stands for one of two
   pub enters-some-way : (x : Signal) (l i w : ℕ) → Enters L h x l i w → w ≢ 0
-  enters-some-way (main x) l i w E z = let (r, out) = E .leads in let way = out .way in omega arith
+  enters-some-way (main x) l i w E z = let (r, out) = E .leads in leaving-some _ (out .way ∙ z)
   enters-some-way (into k j v) l i w E z =
       ⊎-elim (λ q. let u = E .leads .2 in omega arith) (λ q. let u = E .leads .2 in omega arith)
       (present-into L (image L s) k j v (rw (I .seen) at (E .proceeds)) .2)
@@ -93,9 +95,10 @@ module _ (L : Layout) (S : Sound L) (s : State) (h : History) (I : Inv L s h) wh
   one-signal (main x) (main y) l i w E F =
       let (r, out) = E .leads in
       let (q, off) = F .leads in
-      let ways : routeIn L q .end + 1 ≡ routeIn L r .end + 1 = off .way ∙ sym (out .way) in
+      let ends = leaving-once (routeIn L q .end) (routeIn L r .end) (S .ranges .routes q (off .there) .line (inr (off .isExit)) .1)
+      (S .ranges .routes r (out .there) .line (inr (out .isExit)) .1) (off .way ∙ sym (out .way)) in
       let same = one-route q r (off .there) (out .there)
-      (λ z. same-exit L S q r (off .there) (out .there) z (off .isExit) (out .isExit) (off .ofLine ∙ sym (out .ofLine)) (omega arith))
+      (λ z. same-exit L S q r (off .there) (out .there) z (off .isExit) (out .isExit) (off .ofLine ∙ sym (out .ofLine)) ends)
       (I .routes q (off .there) .locks .1 (off .locked)) (I .routes r (out .there) .locks .1 (out .locked)) in
       ap main (sym (off .starts) ∙ ap (λ k. routeIn L k .entry) same ∙ out .starts)
   one-signal (main x) (into k j v) l i w E F = absurd (either x k j v l i w E F)

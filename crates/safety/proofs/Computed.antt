@@ -6,6 +6,7 @@ use Rattle.laws.specs.Tables.{iter, tableFrom, table, read, eachFrom, each, put
 use Rattle.laws.specs.Totals.{bit}
 use Rattle.sets.specs.Sets.{holds, joined, mergedSet, addEntry, setOf}
 use Rattle.tables.specs.Readings.{recorded, given, reading, blockGiven, blockReading, pointReading, allFree, inPosition, linePlaced, routePlaced}
+use Rattle.track.specs.Codes.{leaving}
 use Rattle.track.specs.Objects.{nearest}
 use Rattle.track.specs.Signal.{hasSignal}
 use Rattle.track.specs.SignalNumbers.{lineSignals, blockSignals, allSignals, signalCount, signalOf, numberOf}
@@ -33,12 +34,12 @@ use Rattle.layout_facts.proofs.BranchT.{computed}
 use Rattle.fitted.specs.Fitted.{anyOf, isTold, lacks, toldBy, withTold, equipped}
 use Rattle.reasons.specs.Refusal.{refused, noRefusal, refusedIf, found, firstOf}
 use Rattle.reasons.specs.Searches.{unfree, misplaced, routeLocks, lineLocks, failing}
-use Rattle.tables.specs.Locks.{locked, lockedExitBy, lockedExit}
+use Rattle.tables.specs.Locks.{locked, lockedExitBy, lockedExit, departs}
 use Rattle.reasons.specs.Reasons.{notFree, notPlaced, conflicting, byRoute, byLine, exitLocked, blockBarred, blockHeld, arrivalDark, noHeads, hasHeads}
-use Rattle.refusals.specs.Orders.{throwRefusal, exitRefusal, routeRefusal, setRefusal, cancelRefusal, secureRefusal, manualRefusal}
+use Rattle.refusals.specs.Orders.{throwRefusal, wayRefusal, exitRefusal, routeRefusal, setRefusal, cancelRefusal, secureRefusal, manualRefusal}
 use Rattle.refusals.specs.Events.{numbersRefusal}
 use Rattle.interlocking.specs.State.{cold, codes, routesAndLinesInRange, inRange, headsAt, withSections, withPoints, withRoutes, withLines, withBars, withAxles, withLamps}
-use Rattle.interlocking.specs.Own.{ownSection, ownPoint, throwReading, ownThrow, ownSet, ownCancel, ownSecure, openAt, ownManual, ownBar, headSection, headsOf, headsBy, ownHeads, ownLamp}
+use Rattle.interlocking.specs.Own.{ownSection, ownPoint, throwReading, ownThrow, ownLock, secureFirst, ownSet, ownCancel, ownSecure, openAt, ownManual, ownBar, headSection, headsOf, headsBy, ownHeads, ownLamp}
 use Rattle.interlocking.specs.Parts.{isOfHeads}
 use Rattle.interlocking.specs.Settle.{fallenAt, signals, proceedsIn, farSections, lockingOf, routeAfter, unlessIdle, routesBy, routes, arrivals, lineRelease, settle}
 use Rattle.interlocking.specs.Rows.{nothing, givesReading, aSecond, sectionRow, pointRow, throwRow, setRow, cancelRow, secureRow, manualRow, barRow, secondRow, headRow, countRow, silentRow, resetRow, stillSilent, lampRow, noRow, rowWith, rowOf}
@@ -69,9 +70,9 @@ unfolding computed
     innerSection entranceSignal nearestBlock
     refused noRefusal refusedIf found firstOf unfree notFree misplaced notPlaced locked conflicting byRoute byLine exitLocked blockBarred blockHeld arrivalDark hasHeads
     routeLocks lineLocks failing lockedExitBy lockedExit
-    throwRefusal exitRefusal routeRefusal setRefusal cancelRefusal secureRefusal manualRefusal
+    throwRefusal secureRefusal departs leaving wayRefusal exitRefusal routeRefusal setRefusal cancelRefusal manualRefusal
     cold codes routesAndLinesInRange inRange withSections withPoints withRoutes withLines withBars withLamps
-    ownGiven ownStageAt givenStages ownStages ownSection ownPoint throwReading ownThrow ownSet ownCancel ownSecure openAt ownManual ownBar ownLamp
+    ownGiven ownStageAt givenStages ownStages ownSection ownPoint throwReading ownThrow ownLock secureFirst ownSet ownCancel ownSecure openAt ownManual ownBar ownLamp
     fallenAt signals proceedsIn farSections lockingOf routeAfter unlessIdle routesBy routes arrivals
     lastBlock passable wasPassed endsBy directionAfter directionsAfter lineRelease settle
     numbersRefusal nothing givesReading aSecond sectionRow pointRow throwRow setRow cancelRow secureRow manualRow barRow secondRow lampRow noRow rowWith rowOf

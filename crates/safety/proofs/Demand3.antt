@@ -1,11 +1,11 @@
 -- Demand 3 holds: the invariant says what is demanded.
-use Prim.Native.Nat.{ℕ, _+_, _<_}
+use Prim.Native.Nat.{ℕ, _<_}
 use mathlib.Core.Path.{_≡_, sym, ap, _∙_}
-use mathlib.Core.Logic.{_≢_, inr}
+use mathlib.Core.Logic.{inr}
 use mathlib.Core.Bool.{true}
 use mathlib.Core.List.{List}
-use native.Mathlib.Omega.{arith}
 use Rattle.track.specs.Signal.{Signal, main}
+use Rattle.track.proofs.Ways.{leaving-some}
 use Rattle.layout.specs.declared.Layout.{Layout}
 use Rattle.layout.specs.Layout.{routeIn}
 use Rattle.layout.specs.Sound.{sound}
@@ -53,8 +53,7 @@ module _ (L : Layout) (S : Sound L) (s : State) (h : History) (I : Inv L s h) wh
   safe = record {
     apart = λ r q b c t x y. I .apart r q b c t (I .routes r b .locks .1 x) (I .routes q c .locks .1 y);
     exits = λ r b k x.
-        let some : routeIn L r .end + 1 ≢ 0 = λ z. omega arith in
-        I .lines (routeIn L r .line) (S .ranges .routes r b .line (inr k) .0) (routeIn L r .end + 1) some .0 (I .exits r b k (I .routes r b .locks .1 x));
+        I .lines (routeIn L r .line) (S .ranges .routes r b .line (inr k) .0) _ (leaving-some (routeIn L r .end)) .0 (I .exits r b k (I .routes r b .locks .1 x));
     directions = λ l w b d q. I .lines l b w d .0 (sym (line-shown l b) ∙ q);
     backed = backed;
     guarded = guarded;

@@ -26,7 +26,7 @@ use Rattle.layout.specs.Layout.{isFitted}
 use Rattle.layout.specs.Sound.{sound}
 use Rattle.interlocking.specs.declared.State.{State}
 use Rattle.interlocking.specs.State.{inRange, headsAt, withSections, withRoutes, withLines, withAxles}
-use Rattle.interlocking.specs.Own.{ownSection, ownSet, ownCancel, ownSecure, ownManual, headsOf}
+use Rattle.interlocking.specs.Own.{ownSection, ownLock, ownCancel, ownSecure, ownManual, headsOf}
 use Rattle.interlocking.specs.Rows.{Row, nothing, givesReading, aSecond, sectionRow, pointRow, throwRow, setRow, cancelRow, secureRow, manualRow, barRow, secondRow, headRow, countRow, silentRow, resetRow, lampRow, noRow}
 use Rattle.interlocking.specs.Step.{refusal, gives}
 use Rattle.interlocking.proofs.Rows.{OfKind, section-row, point-row, throw-row, set-row, cancel-row, secure-row, manual-row, bar-row, unbar-row, second-row, count-row, silent-row, reset-row, lamp-row, no-row, row-of, reset-named, heads-row}
@@ -168,7 +168,7 @@ module _ (L : Layout) (s : State) (e : Event) (h : History) (H : HeadsHeld L (s 
     -- the stored reading follows it: what was given, or what the section read
     pub stored-follows : g < mostSections
         → readings.reading (done L s e .section) g ≡ if eqb (gaveSection L g (granted L s e) h) 0 then readings.reading (s .section) g else gaveSection L g (granted L s e) h
-    unfolding ownSection ownSet ownCancel ownSecure ownManual withSections withRoutes withLines withAxles readings.reading
+    unfolding ownSection ownLock ownCancel ownSecure ownManual withSections withRoutes withLines withAxles readings.reading
     stored-follows b = go (is-done L s e)
       where
         Follows : ℕ → Type 0

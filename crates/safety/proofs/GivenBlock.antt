@@ -31,7 +31,7 @@ use Rattle.lamps.specs.Lamps.{farStopLit}
 use Rattle.line_block.specs.PassingBack.{goesOpen, noArrival, waitedStage, waitedStageAt, passedBack}
 use Rattle.line_block.specs.OwnReadings.{ownGiven, ownStageAt, givenStages, ownStages}
 use Rattle.axles.specs.declared.Axles.{Axles}
-use Rattle.interlocking.specs.Own.{ownSection, ownSet, ownCancel, ownSecure, openAt, ownManual}
+use Rattle.interlocking.specs.Own.{ownSection, ownLock, ownCancel, ownSecure, openAt, ownManual}
 use Rattle.interlocking.specs.Rows.{givesReading}
 use Rattle.interlocking.specs.Step.{refusal}
 use Rattle.step_facts.specs.Run.{Event}
@@ -130,7 +130,7 @@ module _ (L : Layout) (S : Sound L) (s : State) (e : Event) (h : History) (H : H
 
   -- by its kind
   pub own-follows : ¬ On 7 e l → (own : List ℕ) × OwnStages L s e h l own
-  unfolding ownSet ownCancel ownSecure ownManual withRoutes withLines openAt
+  unfolding ownLock ownCancel ownSecure ownManual withRoutes withLines openAt
   own-follows n = go (is-done L s e) refl
     where
       go : {t : State} → Done L s e t → done L s e ≡ t → (own : List ℕ) × OwnStages L s e h l own

@@ -32,9 +32,10 @@ use Rattle.safety.specs.Grants.{MayRead, MayCount, MaySilence, MayReset,
 use Rattle.safety.proofs.Heads.{speaks-told}
 use Rattle.safety.proofs.Invariant.{Inv}
 use Rattle.safety.proofs.EveryEvent.{in-every-event}
-use Rattle.safety.proofs.Stories.{not-refused}
+use Rattle.step_facts.proofs.Step.{not-refused}
 use Rattle.safety.proofs.Unrefused.{Lifts, there-means, right-means, fails-means, unless-means}
-use Rattle.safety.proofs.Orders.{fit-means, row-means, throw-means, set-means, cancel-means, secure-means, release-means}
+use Rattle.safety.proofs.Orders.{fit-means, row-means, throw-means, cancel-means, release-means}
+use Rattle.safety.proofs.SetOrders.{secure-means, set-means}
 
 module _ (L : Layout) (ok : sound L ≡ true) (S : Sound L) (s : State) (h : History) (I : Inv L s h) where
   -- ---- the rows that ask nothing of the history
@@ -152,7 +153,7 @@ module _ (L : Layout) (ok : sound L ≡ true) (S : Sound L) (s : State) (h : His
     -- so its answer is 0 just where it is granted
     accepts : AcceptedJust L (moment L e (box L s e)) h
     unfolding moment box
-    accepts = (λ z. grants (not-refused L S s h I e z), λ g. rw (step-granted L s e (not-refuses g)))
+    accepts = (λ z. grants (not-refused L s (e .kind) (e .first) (e .second) z), λ g. rw (step-granted L s e (not-refuses g)))
 
 -- ---- in every event of every run
 

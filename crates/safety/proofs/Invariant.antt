@@ -1,12 +1,13 @@
 -- What the state of the box and the history have to do with each other. The state holds just what the history tells: of each section and point what it reads,
 -- of its heads what was said of them (L1), of each lamp what it reports (L3), of each block its stage and its bar, of each line its direction, of each route its phase, its steps and its
 -- seconds. It holds at the cold start.
-use Prim.Native.Nat.{ℕ, _+_, _<_, _≤_}
+use Prim.Native.Nat.{ℕ, _<_, _≤_}
 use mathlib.Core.Path.{_≡_, refl}
 use mathlib.Core.Logic.{_≢_, _↔_}
 use mathlib.Core.Bool.{true}
 use mathlib.Core.List.{[]}
 use native.Mathlib.Omega.{arith}
+use Rattle.track.specs.Codes.{leaving}
 use Rattle.track.specs.Sizes.{mostSections, mostPoints, mostLines, mostPlaces, mostRoutes, mostLamps}
 use Rattle.tables.specs.Readings as readings
 use Rattle.tables.specs.Blocks.{place}
@@ -68,7 +69,7 @@ pub record Inv (L : Layout) (s : State) (h : History) : Type 0 where
   pub lines : (l : ℕ) → l < L .lines → (w : ℕ) → w ≢ 0 → (direction s l ≡ w ↔ Secured L l w h)
   pub apart : (r q : ℕ) → r < L .routes → q < L .routes → conflict L r q ≡ true → phase s r ≢ 0 → phase s q ≢ 0 → ⊥
   pub lights : (r : ℕ) → r < L .routes → phase s r ≡ 1 → clear (L .line) (s .section) (s .point) (s .stage) (s .bar) (routeIn L r) ≡ true
-  pub exits : (r : ℕ) → r < L .routes → routeIn L r .kind ≡ 2 → phase s r ≢ 0 → direction s (routeIn L r .line) ≡ routeIn L r .end + 1
+  pub exits : (r : ℕ) → r < L .routes → routeIn L r .kind ≡ 2 → phase s r ≢ 0 → direction s (routeIn L r .line) ≡ leaving (routeIn L r .end)
 
 -- ---- at the cold start everything reads none, nothing is barred, every route is idle, every line neutral and every block held in stage 0
 
@@ -124,7 +125,7 @@ module _ (L : Layout) (S : Sound L) where
 
   -- so nothing is asked of the history but that everything reads none
   pub cold-has : Inv L cold []
-  unfolding shown reads lampTold position Since cold readings.reading readings.pointReading lampOf
+  unfolding shown reads lampTold position Since Secured cold readings.reading readings.pointReading lampOf
   cold-has = record {
     ranged = cold-in-range;
     seen = refl;

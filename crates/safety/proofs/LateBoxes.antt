@@ -23,7 +23,8 @@ use Rattle.safety.specs.LateBoxes.{Part, aSection, aPoint, aBlock, aLine
 use Rattle.safety.proofs.Computed.{runComputed}
 use Rattle.safety.proofs.Tested.{enteredTest, entered-means, somePassageTest, some-passage-means}
 use Rattle.safety.proofs.TestedLocks.{cancelledTest, cancelled-means, lockedTest, locked-means}
-use Rattle.safety.proofs.TestedBlocks.{someWaitsTest, some-waits-means, openedTest, opened-means, securedTest, secured-means}
+use Rattle.safety.proofs.TestedBlocks.{someWaitsTest, some-waits-means, openedTest, opened-means}
+use Rattle.safety.proofs.TestedLines.{securedTest, secured-means}
 use Rattle.safety.proofs.TestedLights.{mayEnterTest, may-enter-means, someAtProceedTest, some-at-proceed-means}
 use Rattle.safety.proofs.WrongRuns.{passes, each-passes}
 

@@ -31,9 +31,10 @@ use Rattle.layout_facts.specs.Plain.{path, nearestBlock, Sound}
 use Rattle.layout_facts.proofs.Uses.{nearest-there}
 use Rattle.interlocking.specs.declared.State.{State}
 use Rattle.interlocking.specs.State.{inRange, withSections, withRoutes, withLines, withAxles}
-use Rattle.interlocking.specs.Own.{ownSection, ownSet, ownCancel, ownSecure, ownManual}
+use Rattle.interlocking.specs.Own.{ownSection, ownLock, ownCancel, ownSecure, ownManual}
 use Rattle.interlocking.specs.Settle.{fallenAt, signals, farSections, lockingOf, routeAfter, unlessIdle, routesBy, routes, arrivals, lineRelease, settle}
 use Rattle.interlocking.specs.Step.{refusal, gives, after}
+use Rattle.interlocking.proofs.Departure.{firstDirections}
 use Rattle.step_facts.specs.Run.{Event}
 use Rattle.safety.specs.History.{History, gaveSection, reads, sectionReads}
 use Rattle.safety.specs.Locked.{gaveEnd, gaveFirst, gaveSecond, Vacated}
@@ -57,7 +58,7 @@ pub data OwnRoute (s t : State) (e : Event) (r : ℕ) : Type 0 where
 
 -- by its kind
 pub own-route : (L : Layout) → L .routes ≤ mostTrainRoutes → (s : State) (e : Event) (r : ℕ) → r < L .routes → OwnRoute s (done L s e) e r
-unfolding ownSection ownSet ownCancel ownSecure ownManual withSections withRoutes withLines withAxles
+unfolding ownSection ownLock ownCancel ownSecure ownManual withSections withRoutes withLines withAxles
 own-route L few s e r b = go (is-done L s e)
   where
     same : {t : State} → e .kind ≢ 4 → e .kind ≢ 5 → (t .phase ≡ s .phase) × (t .steps ≡ s .steps) × (t .seconds ≡ s .seconds) → OwnRoute s t e r
@@ -75,7 +76,7 @@ own-route L few s e r b = go (is-done L s e)
     go (within.reads t) = same (λ k. tells-no-order t (omega arith)) (λ k. tells-no-order t (omega arith)) (refl, refl, refl)
     go (sets k) = at (ℕ-discrete (e .first) r)
       where
-        at : Dec (e .first ≡ r) → OwnRoute s (ownSet s (e .first)) e r
+        at : Dec (e .first ≡ r) → OwnRoute s (ownLock (withLines s (firstDirections (s .direction) (routeIn L (e .first))) (s .stage)) (e .first)) e r
         at (yes q) = set (k, q) (here mostRoutes _ 1 (omega arith) q) (here mostTrainRoutes _ 0 (omega arith) q)
         at (no d) =
             keep (λ v. d (v .1)) (λ v. d (v .1)) (other mostRoutes _ 1 (omega arith) d) (other mostTrainRoutes _ 0 (omega arith) d)

@@ -47,6 +47,7 @@ pub mod WrongBoxes10
 pub mod Tested
 pub mod TestedLocks
 pub mod TestedBlocks
+pub mod TestedLines
 pub mod TestedLights
 pub mod OtherLayouts
 pub mod WrongRuns
@@ -56,11 +57,17 @@ pub mod WrongStories
 pub mod Unseen
 pub mod Unrefused
 pub mod Orders
+pub mod SetOrders
+pub mod Trim
+pub mod Unmoved
+pub mod Settled
+pub mod Departure
 pub mod Grants
 pub mod Only
 pub mod OnlyEvents
 pub mod WrongGrants
 pub mod WrongHeads
 pub mod WrongLamps
+pub mod WrongDepartures
 pub mod WrongDistants
 pub mod Sense

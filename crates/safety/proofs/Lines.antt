@@ -1,6 +1,6 @@
 -- The direction of a line is the one in which the history tells that it is secured (section 5).
 use Prim.Native.Nat.{ℕ, _<_, _≤_}
-use mathlib.Core.Path.{_≡_, refl, sym, ap, _∙_}
+use mathlib.Core.Path.{_≡_, refl, sym, _∙_}
 use mathlib.Core.Logic.{_≢_, _⊎_, _↔_, inl, inr, ⊎-elim}
 use mathlib.Core.Bool.{true}
 use mathlib.Core.List.{_∷_}
@@ -26,14 +26,16 @@ use Rattle.interlocking.specs.Own.{ownSecure, ownManual}
 use Rattle.interlocking.specs.Settle.{signals, farSections, routesBy, routes, arrivals, lineRelease, settle}
 use Rattle.interlocking.specs.Step.{refusal, after}
 use Rattle.step_facts.specs.Run.{Event}
-use Rattle.safety.specs.History.{Moment, History, gaveSection, Since}
+use Rattle.safety.specs.History.{Moment, History, gaveSection}
 use Rattle.safety.specs.Locked.{Locked}
-use Rattle.safety.specs.Secured.{Barred, lastBlock, LineEnds, StaysSecured, Secured}
+use Rattle.safety.specs.Secured.{Barred, lastBlock, LineEnds, StaysSecured, byOrder, byRoute, Secured, Neutral}
 use Rattle.laws.proofs.Choice.{chosen, passed-over}
 use Rattle.step_facts.proofs.Entries.{phase, direction, stage, barAt, ends, read-each, put-here}
-use Rattle.step_facts.proofs.Passed.{secure-neutral}
+use Rattle.step_facts.proofs.Passed.{set-there}
+use Rattle.step_facts.proofs.Range.{inRange-means, read-within}
 use Rattle.step_facts.proofs.Tells.{tells-no-order}
-use Rattle.step_facts.proofs.Within.{On, done, waited, end, Done, reads, sets, cancels, secures, opens, leaves, is-done, direction-same, released}
+use Rattle.step_facts.proofs.Within.{On, done, waited, end, Done, reads, sets, cancels, secures, opens, leaves, is-done, released}
+use Rattle.step_facts.proofs.Securing.{Departs, Secures, departing, direction-same, departs-way, secures-neutral}
 use Rattle.safety.proofs.Given.{granted}
 use Rattle.safety.proofs.Invariant.{Inv}
 use Rattle.safety.proofs.Blocks.{on}
@@ -45,6 +47,21 @@ use Rattle.safety.proofs.Refused.{quiet-completes}
 -- the last block in travel is there
 last-there : (L : Layout) → Sound L → (l w : ℕ) → l < L .lines → lastBlock L l w < lineIn L l .blocks
 last-there L S l w b = nearest-there L S l _ b
+
+-- a line is neutral just where the history tells it, since it has one of three codes
+pub neutral-told : (L : Layout) (s : State) (h : History) → Inv L s h → (l : ℕ) → l < L .lines → (direction s l ≡ 0 ↔ Neutral L l h)
+neutral-told L s h I l b = (λ z. (unsecured z 1 (omega arith), unsecured z 2 (omega arith)), λ n. go n (ℕ-discrete (direction s l) 1) (ℕ-discrete (direction s l) 2))
+  where
+    unsecured : direction s l ≡ 0 → (w : ℕ) → w ≢ 0 → ¬ Secured L l w h
+    unsecured z w d y = d (sym (I .lines l b w d .1 y) ∙ z)
+
+    few : direction s l ≤ 2
+    few = read-within (inRange-means s .0 (I .ranged) .direction) 0 l (omega arith) .1
+
+    go : Neutral L l h → Dec (direction s l ≡ 1) → Dec (direction s l ≡ 2) → direction s l ≡ 0
+    go n (yes q) y = absurd (n .0 (I .lines l b 1 (omega arith) .0 q))
+    go n (no x) (yes q) = absurd (n .1 (I .lines l b 2 (omega arith) .0 q))
+    go n (no x) (no y) = omega (arith, few)
 
 -- ---- the direction within one event
 
@@ -150,13 +167,13 @@ module _ (L : Layout) (S : Sound L) (s : State) (h : History) (I : Inv L s h) (e
       ⊎-elim (λ x. B .passes (eqb-true _ 3 x) .0 z) (λ x. B .holds (eqb-true _ 4 x) .0 z) (or-cases _ _ (every-at _ t 0))
 
   -- a line that the event neither secures nor releases by hand
-  unmoved : ¬ On 6 e l → ¬ On 7 e l → direction (done L s e) l ≡ direction s l
+  unmoved : ¬ Secures L s e l → ¬ On 7 e l → direction (done L s e) l ≡ direction s l
   unmoved = direction-same L few s e l b
 
   -- a line with a direction was secured so: by this event, or before and it stayed
   secured-then : (w : ℕ) → w ≢ 0 → direction (end L s e) l ≡ w → Secured L l w (granted L s e ∷ h)
-  unfolding Since directionAfter
-  secured-then w d q = go (on 6 e l)
+  unfolding Secured directionAfter
+  secured-then w d q = go (on 6 e l) (departing L s e l)
     where
       own : direction (done L s e) l ≡ w
       own = sym (kept L few s e l b (omega arith)) ∙ q
@@ -164,10 +181,13 @@ module _ (L : Layout) (S : Sound L) (s : State) (h : History) (I : Inv L s h) (e
       hand : ¬ On 7 e l
       hand u = d (sym own ∙ by-hand L few s e l b u)
 
-      go : Dec (On 6 e l) → Secured L l w (granted L s e ∷ h)
-      go (yes u) = inl ((refl, u .0, u .1), sym (by-order L few s e l b u) ∙ own)
-      go (no n) =
-          let was : direction s l ≡ w = sym (unmoved n hand) ∙ own in
+      go : Dec (On 6 e l) → Dec (Departs L s e l) → Secured L l w (granted L s e ∷ h)
+      go (yes u) x = inl (byOrder (refl, u .0, u .1) (sym (by-order L few s e l b u) ∙ own))
+      go (no n) (yes D) = inl (byRoute (e .first)
+          (record { sets = (refl, D .isSet, refl); there = set-there L s e pass (D .isSet); isExit = D .isExit; ofLine = D .ofLine; way = sym (departs-way L few s e l b D) ∙ own })
+          (neutral-told L s h I l b .0 (D .isNeutral)))
+      go (no n) (no x) =
+          let was : direction s l ≡ w = sym (unmoved (⊎-elim n x) hand) ∙ own in
           inr (
             record {
               noOrder = λ u. n (u .1, u .2);
@@ -177,26 +197,27 @@ module _ (L : Layout) (S : Sound L) (s : State) (h : History) (I : Inv L s h) (e
             I .lines l b w d .0 was,
           )
 
+  -- a neutral line that the event gives direction w has it at the end too
+  secured-now : (w : ℕ) → direction s l ≡ 0 → direction (done L s e) l ≡ w → direction (end L s e) l ≡ w
+  secured-now w z own = ⊎-elim (λ q. q ∙ own) (λ t. absurd (not-ending _ z (t .1))) (released L few s e l b)
+
   -- and one that was secured so has that direction
   secures-then : (w : ℕ) → w ≢ 0 → Secured L l w (granted L s e ∷ h) → direction (end L s e) l ≡ w
-  unfolding Since
-  secures-then w d (inl u) = go (released L few s e l b)
-    where
-      ordered : On 6 e l
-      ordered = (u .0 .1, u .0 .2)
-
-      go : (direction (end L s e) l ≡ direction (done L s e) l)
-          ⊎ ((direction (end L s e) l ≡ 0) × (ends L s (waited L s e) l (direction (done L s e) l) ≡ true))
-          → direction (end L s e) l ≡ w
-      go (inl q) = q ∙ by-order L few s e l b ordered ∙ u .1
-      go (inr t) = absurd (not-ending _ (ap (direction s) (sym (ordered .1)) ∙ secure-neutral L s e pass (ordered .0)) (t .1))
+  unfolding Secured
+  secures-then w d (inl (byOrder u v)) =
+      let ordered : On 6 e l = (u .1, u .2) in
+      secured-now w (secures-neutral L s e pass l (inl ordered)) (by-order L few s e l b ordered ∙ v)
+  secures-then w d (inl (byRoute r x n)) =
+      let at : e .first ≡ r = x .sets .2 in
+      let D : Departs L s e l = record { isSet = x .sets .1; isExit = rw at (x .isExit); ofLine = rw at (x .ofLine); isNeutral = neutral-told L s h I l b .1 n } in
+      secured-now w (D .isNeutral) (departs-way L few s e l b D ∙ rw at (x .way))
   secures-then w d (inr u) = go (released L few s e l b)
     where
       was : direction s l ≡ w
       was = I .lines l b w d .1 (u .1)
 
       own : direction (done L s e) l ≡ w
-      own = unmoved (λ v. u .0 .noOrder (refl, v .0, v .1)) (λ v. u .0 .noRelease (refl, v .0, v .1)) ∙ was
+      own = unmoved (⊎-elim (λ v. u .0 .noOrder (refl, v .0, v .1)) (λ D. d (sym was ∙ D .isNeutral))) (λ v. u .0 .noRelease (refl, v .0, v .1)) ∙ was
 
       go : (direction (end L s e) l ≡ direction (done L s e) l)
           ⊎ ((direction (end L s e) l ≡ 0) × (ends L s (waited L s e) l (direction (done L s e) l) ≡ true))
@@ -212,7 +233,7 @@ module _ (L : Layout) (S : Sound L) (s : State) (h : History) (I : Inv L s h) (e
 
 pub line-refused : (L : Layout) → Sound L → (s : State) (h : History) (m : Moment) → Inv L s h → ((g : ℕ) → gaveSection L g m h ≡ 0) → m .number ≢ 0
     → ((r : ℕ) → r < L .routes → Locked L r h → Locked L r (m ∷ h)) → (l : ℕ) → l < L .lines → (w : ℕ) → w ≢ 0 → (direction s l ≡ w ↔ Secured L l w (m ∷ h))
-unfolding Since
+unfolding Secured
 line-refused L S s h m I quiet d still l b w z = (λ q. inr (stays, I .lines l b w z .0 q), back)
   where
     stays : StaysSecured L l w m h
@@ -223,5 +244,6 @@ line-refused L S s h m I quiet d still l b w z = (λ q. inr (stays, I .lines l b
     }
 
     back : Secured L l w (m ∷ h) → direction s l ≡ w
-    back (inl u) = absurd (d (u .0 .0))
+    back (inl (byOrder u v)) = absurd (d (u .0))
+    back (inl (byRoute r x n)) = absurd (d (x .sets .0))
     back (inr u) = I .lines l b w z .1 (u .1)

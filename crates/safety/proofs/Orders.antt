@@ -1,76 +1,61 @@
--- An order of each kind is not refused just where there is what the history tells that it asks (section 3).
-use Prim.Native.Nat.{ℕ, _+_, _<_, _≤_}
-use mathlib.Core.Path.{_≡_, refl}
-use mathlib.Core.Logic.{_≢_, _⊎_, _↔_, inr, ⊎-elim, Iff·rfl, Iff·trans, Iff·and}
+-- An order to throw, to cancel or to release by hand is not refused just where there is what the history tells that it asks (section 3); `SetOrders` has the
+-- same of secure and set.
+use Prim.Native.Nat.{ℕ, _<_, _≤_}
+use mathlib.Core.Path.{_≡_, refl, sym, _∙_}
+use mathlib.Core.Logic.{_⊎_, _↔_, ⊎-elim, Iff·rfl, Iff·trans}
 use mathlib.Core.Bool.{Bool, true, false, not}
 use mathlib.Core.List.{List}
-use native.Mathlib.Decide.{ℕ-discrete}
 use native.Mathlib.Omega.{arith}
-use borrow.Author.Tests.{eq-eqb}
 use lib.Dec.{eqb}
 use lib.ListN.{getD}
 use Rattle.laws.specs.Tests.{_and_}
 use Rattle.laws.specs.Tables.{read}
 use Rattle.laws.proofs.Arrays.{read-at}
-use Rattle.laws.proofs.Choice.{if-both}
 use Rattle.laws.proofs.Tests.{and-both}
 use Rattle.layout_facts.proofs.Means.{eqb-means, leb-means, not-means, and-means, any-means}
-use Rattle.layout_facts.proofs.Uses.{entered-block}
 use Rattle.layout_facts.proofs.Order.{one-of}
-use Rattle.layout_facts.proofs.Lists.{between-means}
-use Rattle.step_facts.proofs.Range.{inRange-means, read-within}
-use Rattle.sets.specs.Sets.{mergedSet, setOf, joined}
+use Rattle.sets.specs.Sets.{setOf, joined}
 use Rattle.track.specs.Lists.{between, among}
-use Rattle.track.specs.Objects.{entrance}
-use Rattle.track.specs.Signal.{main}
-use Rattle.track.specs.SignalNumbers.{numberOf}
-use Rattle.track.proofs.SignalNumbers.{one-number}
-use Rattle.passage.specs.Passage.{arrival}
-use Rattle.lamps.specs.Lamps.{lampOf, reportsNone}
 use Rattle.track.specs.Sizes.{mostSections, mostPoints}
 use Rattle.track.specs.Blocks.{blockDetail, lineSections}
 use Rattle.tables.specs.Readings.{reading, pointReading}
 use Rattle.tables.specs.Blocks.{isOpen, unbarred}
 use Rattle.tables.specs.Locks.{locked, lockedExitBy, lockedExit}
 use Rattle.layout.specs.declared.Layout.{Layout}
-use Rattle.layout.specs.Layout.{lineIn, routeIn, signalsIn}
+use Rattle.layout.specs.Layout.{lineIn, routeIn}
 use Rattle.layout.specs.Sound.{sound}
-use Rattle.layout_facts.specs.Plain.{entranceSignal, ownSection, nearestBlock, linePoint, linePosition, path, overlap, routePoint, routePosition, RouteRanges, Sound}
+use Rattle.layout_facts.specs.Plain.{ownSection, linePoint, linePosition, routePoint, Sound}
 use Rattle.reasons.specs.Refusal.{noRefusal, refused, found}
 use Rattle.reasons.specs.Searches.{misplaced, routeLocks, lineLocks, failing}
-use Rattle.reasons.specs.Reasons.{notFree, notPlaced, conflicting, byRoute, byLine, exitLocked, blockBarred, blockHeld, arrivalDark}
+use Rattle.reasons.specs.Reasons.{notFree, notPlaced, byRoute, byLine, exitLocked}
 use Rattle.refusals.specs.Events.{numbersRefusal}
-use Rattle.refusals.specs.Orders.{throwRefusal, exitRefusal, routeRefusal, setRefusal, cancelRefusal, secureRefusal, manualRefusal}
+use Rattle.refusals.specs.Orders.{throwRefusal, cancelRefusal, manualRefusal}
 use Rattle.interlocking.specs.declared.State.{State}
-use Rattle.interlocking.specs.State.{inRange, tablesOf}
-use Rattle.interlocking.specs.Rows.{Row, throwRow, setRow, cancelRow, secureRow, manualRow}
+use Rattle.interlocking.specs.State.{inRange}
+use Rattle.interlocking.specs.Rows.{Row, throwRow, cancelRow, manualRow}
 use Rattle.interlocking.specs.Step.{rowRefusal}
 use Rattle.step_facts.proofs.Entries.{block, block-there, block-below, phase, direction}
-use Rattle.safety.specs.History.{History, sectionReads, blockReads, lampTold}
+use Rattle.safety.specs.History.{History, sectionReads, blockReads}
 use Rattle.safety.specs.Locked.{Locked}
 use Rattle.safety.specs.Cleared.{Opened}
-use Rattle.safety.specs.Secured.{Barred, Secured}
-use Rattle.safety.specs.Lights.{position, LinePlaced, MayEnter, Clear}
-use Rattle.safety.specs.Grants.{Neutral, MayThrow, MaySet, MayCancel, MaySecure, MayRelease}
+use Rattle.safety.specs.Secured.{Barred, Neutral}
+use Rattle.safety.specs.Lights.{position, LinePlaced}
+use Rattle.safety.specs.Grants.{MayThrow, MayCancel, MayRelease}
 use Rattle.safety.proofs.Invariant.{Inv}
 use Rattle.safety.proofs.Lights.{bar-means}
-use Rattle.safety.proofs.Unrefused.{Lifts, each-means, there-means, right-means, last, _before_, reasons-mean, fails-means, if-means, unless-means, found-means, named-means, where-means, AllIn, free-means, union-means, list-means, one-means}
+use Rattle.safety.proofs.Lines.{neutral-told}
+use Rattle.safety.proofs.Unrefused.{Lifts, each-means, there-means, right-means, last, _before_, reasons-mean, fails-means, if-means, unless-means, found-means, named-means, AllIn, free-means, list-means, one-means}
 
 -- a second number that is 1 or 2 is not wrong
-two-means : (w : ℕ) → not (between 1 2 w) ≡ false ↔ (w ≡ 1) ⊎ (w ≡ 2)
+pub two-means : (w : ℕ) → not (between 1 2 w) ≡ false ↔ (w ≡ 1) ⊎ (w ≡ 2)
 unfolding between
 two-means w =
     Iff·trans (right-means (and-means (leb-means 1 w) (leb-means w 2)))
     (λ (few, most). one-of w 1 2 (omega arith), ⊎-elim (λ q. (omega arith, omega arith)) (λ q. (omega arith, omega arith)))
 
 -- nor is 0, where it is not used
-none-means : (n : ℕ) → not (eqb n 0) ≡ false ↔ n ≡ 0
+pub none-means : (n : ℕ) → not (eqb n 0) ≡ false ↔ n ≡ 0
 none-means n = right-means (eqb-means n 0)
-
--- a direction arrives at one of the two ends
-arrival-end : (w : ℕ) → arrival w ≤ 1
-unfolding arrival
-arrival-end w = if-both (λ n. n ≤ 1) (eqb w 1) (λ t. omega arith) (λ f. omega arith)
 
 module _ (L : Layout) (ok : sound L ≡ true) (S : Sound L) (s : State) (h : History) (I : Inv L s h) where
   -- ---- an event by its row
@@ -96,23 +81,16 @@ module _ (L : Layout) (ok : sound L ≡ true) (S : Sound L) (s : State) (h : His
   -- ---- what the reasons ask
 
   -- a route is locked
-  lock-means : (r : ℕ) → r < L .routes → locked (s .phase) r ≡ true ↔ Locked L r h
+  pub lock-means : (r : ℕ) → r < L .routes → locked (s .phase) r ≡ true ↔ Locked L r h
   unfolding locked
   lock-means r b = Iff·trans (not-means (eqb-means (phase s r) 0)) (I .routes r b .locks)
 
   -- a line is neutral
-  neutral-means : (l : ℕ) → l < L .lines → eqb (direction s l) 0 ≡ true ↔ Neutral L l h
-  neutral-means l b = (
-    λ t w d y. let way = I .lines l b w (omega arith) .1 y in let z = eqb-means (direction s l) 0 .0 t in absurd (omega arith),
-    λ f. eq-eqb _ 0 (go f (ℕ-discrete (direction s l) 0)),
-  )
-    where
-      go : Neutral L l h → Dec (direction s l ≡ 0) → direction s l ≡ 0
-      go f (yes z) = z
-      go f (no d) = absurd (f (direction s l) (omega arith) (I .lines l b _ d .0 refl))
+  pub neutral-means : (l : ℕ) → l < L .lines → eqb (direction s l) 0 ≡ true ↔ Neutral L l h
+  neutral-means l b = Iff·trans (eqb-means _ 0) (neutral-told L s h I l b)
 
   -- 6: the points of a list are read in position
-  placed-means : (n : ℕ) (ps ws : List ℕ) → ((i : ℕ) → i < n → getD ps i 0 < L .points)
+  pub placed-means : (n : ℕ) (ps ws : List ℕ) → ((i : ℕ) → i < n → getD ps i 0 < L .points)
       → Lifts (notPlaced (s .point) n ps ws) ((i : ℕ) → i < n → position (getD ps i 0) h ≡ getD ws i 0)
   unfolding notPlaced misplaced
   placed-means n ps ws there =
@@ -121,31 +99,31 @@ module _ (L : Layout) (ok : sound L ≡ true) (S : Sound L) (s : State) (h : His
       (each-means (λ j c. rw (I .points _ (there j c)) (eqb-means _ _)))
 
   -- 7, 8: the sections of a list read free
-  listed-means : (n : ℕ) (xs : List ℕ) → ((j : ℕ) → j < n → getD xs j 0 < L .sections)
+  pub listed-means : (n : ℕ) (xs : List ℕ) → ((j : ℕ) → j < n → getD xs j 0 < L .sections)
       → AllIn (setOf n xs) (λ g. reading (s .section) g ≡ 1) ↔ ((j : ℕ) → j < n → sectionReads L (getD xs j 0) h ≡ 1)
   listed-means n xs there =
       Iff·trans (list-means n xs (λ j c. omega (arith, there j c, S .ranges .sectionCount))) (each-means (λ j c. rw (I .reads _ (there j c)) Iff·rfl))
 
   module _ (l : ℕ) (b : l < L .lines) where
     -- 11, 10: the blocks of a line pass a test
-    blocks-means : {n : ℕ} (test : ℕ → Bool) {P : ℕ → Type 0} → 0 < n → ((i : ℕ) → i < lineIn L l .blocks → test i ≡ true ↔ P i)
+    pub blocks-means : {n : ℕ} (test : ℕ → Bool) {P : ℕ → Type 0} → 0 < n → ((i : ℕ) → i < lineIn L l .blocks → test i ≡ true ↔ P i)
         → Lifts (found n mostSections (failing test (lineIn L l))) ((i : ℕ) → i < lineIn L l .blocks → P i)
     unfolding failing blockDetail
     blocks-means test some m = Iff·trans (named-means (block L l) (λ g i. test i) some (λ i c. block-below L S l i b c)) (each-means m)
 
     -- 6 for the line's points
-    line-means : Lifts (notPlaced (s .point) (lineIn L l .points) (lineIn L l .point) (lineIn L l .position)) (LinePlaced L l h)
+    pub line-means : Lifts (notPlaced (s .point) (lineIn L l .points) (lineIn L l .point) (lineIn L l .position)) (LinePlaced L l h)
     unfolding linePoint linePosition
     line-means = placed-means _ _ _ (S .ranges .lines l b .points)
 
     module _ (i : ℕ) (c : i < lineIn L l .blocks) where
       -- a block is open
-      open-means : isOpen (s .stage) l i ≡ true ↔ Opened L l i h
+      pub open-means : isOpen (s .stage) l i ≡ true ↔ Opened L l i h
       unfolding isOpen
       open-means = Iff·trans (eqb-means _ 0) (I .blocks l i b c .opens)
 
       -- a block is not barred
-      unbarred-means : unbarred (s .bar) l i ≡ true ↔ ¬ Barred l i h
+      pub unbarred-means : unbarred (s .bar) l i ≡ true ↔ ¬ Barred l i h
       unbarred-means =
           bar-means L S s h (record { reads = I .reads; points = I .points; bars = I .bars; opens = λ l i b c. I .blocks l i b c .opens }) l i b c
 
@@ -162,13 +140,13 @@ module _ (L : Layout) (ok : sound L ≡ true) (S : Sound L) (s : State) (h : His
           blades = record {
             isFree = f;
             noRoute = λ q i c d x y. r q c (y, (i, d, x));
-            noLine = λ k i v c d x n y. l k c (λ none. none v n y, (i, d, x));
+            noLine = λ k i v c d x n y. l k c (λ none. n (sym (I .lines k c v n .1 y) ∙ neutral-told L s h I k c .1 none), (i, d, x));
           };
         },
         λ m. (
           m .there,
           m .position,
-          (λ q c (y, (i, d, x)). m .blades .noRoute q i c d x y, (λ k c (n, (i, d, x)). n (λ v e y. m .blades .noLine k i v c d x e y), m .blades .isFree)),
+          (λ q c (y, (i, d, x)). m .blades .noRoute q i c d x y, (λ k c (n, (i, d, x)). n (λ y. m .blades .noLine k i 1 c d x (omega arith) y, λ y. m .blades .noLine k i 2 c d x (omega arith) y), m .blades .isFree)),
         ),
       )
     where
@@ -186,52 +164,6 @@ module _ (L : Layout) (ok : sound L ≡ true) (S : Sound L) (s : State) (h : His
           rw (read-at mostPoints 0 (L .pointsection) a (omega (arith, S .ranges .pointCount)))
           (Iff·trans (free-means _ _) (Iff·trans (one-means _ (omega (arith, S .ranges .sectionCount))) (rw (I .reads _ there) Iff·rfl)))
 
-  -- ---- set route
-
-  module _ (a : ℕ) (there : a < L .routes) where
-    -- 9, 6, 11, 10 of an exit route
-    exit-means : routeIn L a .kind ≡ 2 → Lifts (exitRefusal (L .line) (tablesOf s) (routeIn L a))
-        (Secured L (routeIn L a .line) (routeIn L a .end + 1) h × MayEnter L (routeIn L a .line) (nearestBlock L (routeIn L a .line) (routeIn L a .end)) h)
-    unfolding exitRefusal nearestBlock lineIn
-    exit-means k =
-        Iff·trans (reasons-mean (unless-means _ (omega arith) (Iff·trans (eqb-means _ _) (I .lines _ b _ (omega arith))) before line-means _ b before
-        unless-means _ (omega arith) (unbarred-means _ b _ c) before last (unless-means _ (omega arith) (open-means _ b _ c))))
-        (λ (w, (p, (u, o))). (w, record { isOpen = o; unbarred = u; placed = p }), λ (w, m). (w, (m .placed, (m .unbarred, m .isOpen))))
-      where
-        b : routeIn L a .line < L .lines
-        b = S .ranges .routes a there .line (inr k) .0
-
-        c : nearestBlock L (routeIn L a .line) (routeIn L a .end) < lineIn L (routeIn L a .line) .blocks
-        c = entered-block L S a there k
-
-    -- 6, 7 and 8, and these: all that keeps the signal at proceed, and 9
-    route-means : Lifts (routeRefusal (L .line) (tablesOf s) (routeIn L a))
-        (Clear L a h × (routeIn L a .kind ≡ 2 → Secured L (routeIn L a .line) (routeIn L a .end + 1) h))
-    unfolding routeRefusal path overlap routePoint routePosition
-    route-means =
-        Iff·trans (reasons-mean (placed-means _ _ _ (ranges .points) before sections before last (where-means _ exit-means))) (
-          λ (p, ((f, o), x)). (record { pathFree = f; overlapFree = o; placed = p; mayEnter = λ k. x k .1 }, λ k. x k .0),
-          λ (m, w). (m .placed, ((m .pathFree, m .overlapFree), λ k. (w k, m .mayEnter k))),
-        )
-      where
-        ranges : RouteRanges L a
-        ranges = S .ranges .routes a there
-
-        sections : Lifts (notFree (s .section) (mergedSet (setOf (routeIn L a .paths) (routeIn L a .path)) (setOf (routeIn L a .overlaps) (routeIn L a .overlap))))
-            (((j : ℕ) → j < routeIn L a .paths → sectionReads L (path L a j) h ≡ 1) × ((j : ℕ) → j < routeIn L a .overlaps → sectionReads L (overlap L a j) h ≡ 1))
-        sections =
-            Iff·trans (free-means _ _) (Iff·trans (union-means _ _) (Iff·and (listed-means _ _ (ranges .paths)) (listed-means _ _ (ranges .overlaps))))
-
-  -- 4 by the route's phase, 5 by the search over the routes, and the rest
-  pub set-means : (a b : ℕ) → Lifts (rowRefusal (sound L and inRange s) a (setRow L s a b)) (MaySet L a b h)
-  unfolding setRow setRefusal conflicting routeIn
-  set-means a b =
-      Iff·trans (row-means a _ (there-means _ a) refl (none-means b) (λ p.
-      reasons-mean (if-means _ (omega arith) (lock-means a p) before found-means (omega arith) (λ q c. and-means (lock-means q c) Iff·rfl) before last (route-means a p)))) (
-        λ (p, w, (i, (f, (m, x)))). record { there = p; unused = w; idle = i; apart = λ q c t y. f q c (y, t); clear = m; secured = x },
-        λ m. (m .there, m .unused, (m .idle, (λ q c (y, t). m .apart q c t y, (m .clear, m .secured)))),
-      )
-
   -- ---- cancel
 
   -- 13 by the route's phase; 14 since a route that is locked is cancelling just where it was cancelled
@@ -242,34 +174,6 @@ module _ (L : Layout) (ok : sound L ≡ true) (S : Sound L) (s : State) (h : His
       reasons-mean (unless-means _ (omega arith) (lock-means a p) before last (if-means _ (omega arith) (eqb-means (phase s a) 3))))) (
         λ (p, w, (y, n)). record { there = p; unused = w; locked = y; standing = λ c. n (I .routes a p .cancels (I .routes a p .locks .1 y) .1 c) },
         λ m. let told = I .routes a (m .there) in (m .there, m .unused, (m .locked, λ z. m .standing (told .cancels (told .locks .1 (m .locked)) .0 z))),
-      )
-
-  -- ---- secure
-
-  -- 31 by the lamp of the arrival entrance signal, which is a signal; a lamp has three codes (L3)
-  dark-means : (a b : ℕ) → a < L .lines → between 1 2 (lampOf (s .lamp) (entrance (lineIn L a) (arrival b))) ≡ true ↔ lampTold (entrance (lineIn L a) (arrival b)) h ≢ 3
-  unfolding entranceSignal signalsIn numberOf lampOf
-  dark-means a b p =
-      Iff·trans (between-means 1 2 _) (rw same (λ x z. omega arith, λ n. omega (arith, three)))
-    where
-      x : ℕ
-      x = entrance (lineIn L a) (arrival b)
-
-      same : lampOf (s .lamp) x ≡ lampTold x h
-      same = I .lamps x (one-number (L .signals) (L .lines) (L .line) (main x) (S .ranges .lines a p .entrances (arrival b) (arrival-end b)) .below)
-
-      three : (1 ≤ lampTold x h) × (lampTold x h ≤ 3)
-      three = rw same at (read-within (inRange-means s .0 (I .ranged) .lamp) 3 x (omega arith))
-
-  -- 12 by the line's direction, 11 and 10 by the searches over its blocks, 6 by its points, 31 by the lamp
-  pub secure-means : (a b : ℕ) → Lifts (rowRefusal (sound L and inRange s) a (secureRow L s a b)) (MaySecure L a b h)
-  unfolding secureRow secureRefusal blockBarred blockHeld arrivalDark reportsNone lineIn
-  secure-means a b =
-      Iff·trans (row-means a _ (there-means _ a) refl (two-means b) (λ p.
-      reasons-mean (unless-means _ (omega arith) (neutral-means a p) before blocks-means a p _ (omega arith) (unbarred-means a p) before line-means a p before
-      blocks-means a p _ (omega arith) (open-means a p) before last (unless-means _ (omega arith) (dark-means a b p))))) (
-        λ (p, w, (n, (u, (q, (o, d))))). record { there = p; direction = w; isNeutral = n; unbarred = u; placed = q; allOpen = o; lamp = d },
-        λ m. (m .there, m .direction, (m .isNeutral, (m .unbarred, (m .placed, (m .allOpen, m .lamp))))),
       )
 
   -- ---- manual release

@@ -31,7 +31,8 @@ use Rattle.safety.specs.History.{Moment, History, gaveSection, gaveBlock
 use Rattle.safety.specs.Cleared.{farSection, farSignal, Proceeds, Passage, StopLit, Completed, whileLit, withBeyond, later, FreesBeyond}
 use Rattle.safety.specs.Passing.{MayGoOn, next, GivesNext, GoingOut, PassesOn, WaitsOn, TrainsPass, headLogOf, Arrives, Leaves, byReading, byCount, PassByCounts, PassByReadings}
 use Rattle.step_facts.proofs.Entries.{direction, stage, block, block-there}
-use Rattle.step_facts.proofs.Within.{On, done, end, direction-same, direction-held}
+use Rattle.step_facts.proofs.Within.{On, done, end, direction-held}
+use Rattle.step_facts.proofs.Securing.{Departs, direction-same}
 use Rattle.safety.proofs.Heads.{counted}
 use Rattle.safety.proofs.Given.{granted, order-gives-nothing, gives-recorded, gives-said, one-section, refused-gives-nothing}
 use Rattle.safety.proofs.Told.{reads-given, entered-reads, closing, opened-by-passage}
@@ -83,9 +84,13 @@ module _ (L : Layout) (ok : sound L ≡ true) (S : Sound L) (s : State) (h : His
     unmoved : (k : ℕ) → 3 ≤ k → k ≤ 9 → ¬ On k e l
     unmoved k x y = no-order L ok s h I (granted L s e) _ some k l x y
 
+    -- nor sets an exit route of it
+    unset : ¬ Departs L s e l
+    unset D = no-order L ok s h I (granted L s e) _ some 4 (e .first) (omega arith) (omega arith) (D .isSet, refl)
+
     -- so its direction stays
     same : direction (done L s e) l ≡ w
-    same = direction-same L (S .ranges .lineCount) s e l b (unmoved 6 (omega arith) (omega arith)) (unmoved 7 (omega arith) (omega arith)) ∙ way
+    same = direction-same L (S .ranges .lineCount) s e l b (⊎-elim (unmoved 6 (omega arith) (omega arith)) unset) (unmoved 7 (omega arith) (omega arith)) ∙ way
 
     -- the block was entered, so its far section alone moves it: that reads occupied, and the far signal was at proceed
     pub proved : stage (end L s e) l i ≡ 3

@@ -1,10 +1,12 @@
 -- An accepted event keeps what the invariant says of conflicting routes, of signals at proceed and of the lines of locked exit routes.
-use Prim.Native.Nat.{ℕ, _+_, _<_}
+use Prim.Native.Nat.{ℕ, _<_, _≤_}
 use mathlib.Core.Path.{_≡_, refl, sym, ap, _∙_}
 use mathlib.Core.Logic.{_≢_, _⊎_, inl, inr}
 use mathlib.Core.Bool.{true}
-use native.Mathlib.Omega.{arith}
 use Rattle.laws.specs.Tests.{_and_}
+use Rattle.track.specs.Codes.{leaving}
+use Rattle.track.specs.Sizes.{mostLines}
+use Rattle.track.proofs.Ways.{leaving-some}
 use Rattle.layout.specs.declared.Layout.{Layout}
 use Rattle.layout.specs.Layout.{routeIn, conflict}
 use Rattle.layout.specs.Sound.{sound}
@@ -16,8 +18,9 @@ use Rattle.interlocking.specs.Step.{refusal}
 use Rattle.step_facts.specs.Run.{Event}
 use Rattle.safety.specs.History.{History}
 use Rattle.step_facts.proofs.Entries.{phase, direction}
-use Rattle.step_facts.proofs.Passed.{set-alone, set-secured, cancel-locked, secure-neutral, release-unlocked}
-use Rattle.step_facts.proofs.Within.{On, done, end, was-locked, direction-same, direction-locked}
+use Rattle.step_facts.proofs.Passed.{set-alone, cancel-locked, release-unlocked}
+use Rattle.step_facts.proofs.Within.{On, done, end, was-locked, direction-locked}
+use Rattle.step_facts.proofs.Securing.{direction-same, secures-neutral, set-secures}
 use Rattle.safety.proofs.Invariant.{Inv}
 
 module _ (L : Layout) (S : Sound L) (s : State) (h : History) (I : Inv L s h) (e : Event)
@@ -37,23 +40,21 @@ module _ (L : Layout) (S : Sound L) (s : State) (h : History) (I : Inv L s h) (e
       go (inr u) (inr v) = I .apart r q b c t u v
 
   -- the line of a locked exit route stays secured its way
-  pub exits-on : (r : ℕ) → r < L .routes → routeIn L r .kind ≡ 2 → phase (end L s e) r ≢ 0 → direction (end L s e) (routeIn L r .line) ≡ routeIn L r .end + 1
+  pub exits-on : (r : ℕ) → r < L .routes → routeIn L r .kind ≡ 2 → phase (end L s e) r ≢ 0 → direction (end L s e) (routeIn L r .line) ≡ leaving (routeIn L r .end)
   exits-on r b k x =
       direction-locked L (S .ranges .lineCount) s e (routeIn L r .line) there r b k refl x ∙ go (locked-before r b x)
     where
       there : routeIn L r .line < L .lines
       there = S .ranges .routes r b .line (inr k) .0
 
-      unmoved : ¬ On 6 e (routeIn L r .line) → ¬ On 7 e (routeIn L r .line)
-          → direction (done L s e) (routeIn L r .line) ≡ direction s (routeIn L r .line)
-      unmoved = direction-same L (S .ranges .lineCount) s e (routeIn L r .line) there
+      few : L .lines ≤ mostLines
+      few = S .ranges .lineCount
 
-      go : On 4 e r ⊎ (phase s r ≢ 0) → direction (done L s e) (routeIn L r .line) ≡ routeIn L r .end + 1
+      go : On 4 e r ⊎ (phase s r ≢ 0) → direction (done L s e) (routeIn L r .line) ≡ leaving (routeIn L r .end)
       go (inl u) =
-          unmoved (λ v. let z = u .0 in let y = v .0 in omega arith) (λ v. let z = u .0 in let y = v .0 in omega arith)
-          ∙ rw (u .1) at (set-secured L s e pass (u .0) (rw (u .1) k))
+          set-secures L s e pass (routeIn L r .line) few there (u .0) (rw (u .1) k) (ap (λ n. routeIn L n .line) (u .1)) ∙ ap (λ n. leaving (routeIn L n .end)) (u .1)
       go (inr u) =
-          unmoved
-          (λ v. let z : routeIn L r .end + 1 ≡ 0 = sym (I .exits r b k u) ∙ ap (direction s) (sym (v .1)) ∙ secure-neutral L s e pass (v .0) in omega arith)
+          direction-same L few s e (routeIn L r .line) there
+          (λ v. leaving-some (routeIn L r .end) (sym (I .exits r b k u) ∙ secures-neutral L s e pass (routeIn L r .line) v))
           (λ v. u (release-unlocked L s e pass (v .0) r b k (sym (v .1))))
           ∙ I .exits r b k u

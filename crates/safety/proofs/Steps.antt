@@ -63,7 +63,7 @@ pairTold L r m h = record {
 
 module _ (L : Layout) (r : ℕ) where
   -- after the first step the first reads occupied, and the second does not read none
-  one-reads : (h : History) → StepOne L r h → (reads (gaveFirst L r) h ≡ 2) × (reads (gaveSecond L r) h ≢ 3)
+  pub one-reads : (h : History) → StepOne L r h → (reads (gaveFirst L r) h ≡ 2) × (reads (gaveSecond L r) h ≢ 3)
   unfolding Since
   one-reads [] x = absurd x
   one-reads (m ∷ h) (inl p) = (reads-given (gaveFirst L r) m h 2 (p .0) (omega arith), p .1)

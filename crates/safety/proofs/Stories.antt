@@ -15,10 +15,7 @@ use Rattle.layout_facts.specs.Plain.{InBlock, Sound, sameEntry}
 use Rattle.layout_facts.proofs.Sound.{sound-says}
 use Rattle.fitted.proofs.InUse.{in-use-sound}
 use Rattle.interlocking.specs.declared.State.{State}
-use Rattle.interlocking.specs.State.{inRange}
-use Rattle.interlocking.specs.Step.{step, refusal}
 use Rattle.step_facts.specs.Run.{Event, box}
-use Rattle.step_facts.proofs.Step.{step-refused}
 use Rattle.safety.specs.History.{Moment, History, gaveSection, sectionReads, shown, Since, Throughout, moment, history}
 use Rattle.safety.specs.Locked.{Locked}
 use Rattle.safety.specs.Cleared.{Proceeds, Cleared, byPassage, byHand}
@@ -26,6 +23,7 @@ use Rattle.safety.specs.Lights.{Clear, NotFallen}
 use Rattle.safety.specs.Demand3.{Enters, Safe}
 use Rattle.safety.specs.Exact.{Exact}
 use Rattle.safety.specs.Stories.{ThrowsFree, Lists, FallsAtOnce, OpenedSince, NoStory, StoriesKept}
+use Rattle.step_facts.proofs.Step.{not-refused}
 use Rattle.step_facts.proofs.Passed.{throw-routes, throw-lines, throw-free}
 use Rattle.safety.proofs.Told.{reads-given, since-map}
 use Rattle.safety.proofs.Invariant.{Inv}
@@ -37,21 +35,11 @@ use Rattle.safety.proofs.Exact.{exact}
 -- ---- blades
 
 module _ (L : Layout) (S : Sound L) (s : State) (h : History) (I : Inv L s h) (e : Event) where
-  -- an event that was answered with 0 is one that nothing refuses
-  pub not-refused : box L s e .number ≡ 0 → refusal (sound L and inRange s) L s (e .kind) (e .first) (e .second) .number ≡ 0
-  unfolding box step
-  not-refused z = go (ℕ-discrete (refusal (sound L and inRange s) L s (e .kind) (e .first) (e .second) .number) 0)
-    where
-      go : Dec (refusal (sound L and inRange s) L s (e .kind) (e .first) (e .second) .number ≡ 0)
-          → refusal (sound L and inRange s) L s (e .kind) (e .first) (e .second) .number ≡ 0
-      go (yes p) = p
-      go (no d) = absurd (d (rw (step-refused _ L s (e .kind) (e .first) (e .second) d) at z))
-
   -- 15, 16, 7 and 8 asked it all
   throws : ThrowsFree L (moment L e (box L s e)) h
-  unfolding moment
+  unfolding moment box
   throws p (z, k, q) =
-      let pass = not-refused z in
+      let pass = not-refused L s (e .kind) (e .first) (e .second) z in
       let free = throw-free L s e pass S k in
       record {
         isFree = rw q at (sym (I .reads _ (free .0)) ∙ free .1);

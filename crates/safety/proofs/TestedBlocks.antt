@@ -1,23 +1,22 @@
--- Tests on a history that hold just where what they test does: completed passages and waits for them (L3), cleared blocks and secured lines. Where a test is
--- cheap it stands first.
+-- Tests on a history that hold just where what they test does: completed passages and waits for them (L3), and cleared blocks. Where a test is cheap it
+-- stands first.
 use Prim.Native.Nat.{ℕ, zero, suc, _<_}
 use mathlib.Core.Path.{_≡_, refl}
 use mathlib.Core.Logic.{_⊎_, _↔_, inl, inr, Iff·trans}
 use mathlib.Core.Bool.{Bool, true, false, not}
 use mathlib.Core.List.{[], _∷_}
 use lib.Dec.{eqb}
-use Rattle.laws.specs.Tests.{_and_, _or_, implies, every, allBelow, anyBelow}
+use Rattle.laws.specs.Tests.{_and_, _or_, every, anyBelow}
 use Rattle.laws.proofs.Tests.{and-right, and-both, or-right, not-both}
-use Rattle.track.specs.Codes.{free, entranceRoute, exitRoute, secureLine, releaseLine, barBlock, unbarBlock, lampStop}
+use Rattle.track.specs.Codes.{free, entranceRoute, releaseLine, lampStop}
 use Rattle.track.specs.SignalNumbers.{numberOf}
 use Rattle.passage.specs.Passage.{arrival, fromArrival}
 use Rattle.layout.specs.declared.Layout.{Layout}
 use Rattle.layout.specs.Layout.{lineIn, routeIn}
-use Rattle.layout_facts.proofs.Means.{eqb-means, not-means, and-means, or-means, implies-means, lastly, _also_, _&_, every-means, all-means, any-means}
+use Rattle.layout_facts.proofs.Means.{eqb-means, not-means, and-means, or-means, lastly, _also_, _&_, every-means, any-means}
 use Rattle.safety.specs.History.{Moment, History, gaveBlock, blockReads, lampTold, Releases, Since, LeavesFree}
 use Rattle.safety.specs.Cleared.{farSignal, Closes, StopLit, ReleasesEntrance, WaitsFor, CompletedBy, whileLit, withBeyond, later, FreesBeyond, Waits, Completed, Cleared, byPassage, byHand, Opened}
-use Rattle.safety.specs.Secured.{Barred, lastBlock, LineEnds, StaysSecured, Secured}
-use Rattle.safety.proofs.Tested.{sinceTest, since-means, acceptedTest, accepted-means, cameTest, came-means, wayTest, some-way, way-shown, leavesTest, closesTest, closes-means}
+use Rattle.safety.proofs.Tested.{sinceTest, since-means, acceptedTest, accepted-means, wayTest, some-way, way-shown, leavesTest, closesTest, closes-means}
 use Rattle.safety.proofs.TestedLocks.{lockedTest, locked-means}
 
 -- ---- a stop that isn't shown (L3)
@@ -128,11 +127,11 @@ module _ (L : Layout) (l i : ℕ) where
   )
 
   -- the event completed its passage in direction w
-  abbrev completedTest : ℕ → Moment → History → Bool
+  abbrev pub completedTest : ℕ → Moment → History → Bool
   completedTest w = completedByTest L l i w (beyondTest w)
 
   -- by what lies beyond it
-  completed-means : (w : ℕ) (m : Moment) (h : History) → completedTest w m h ≡ true ↔ Completed L l i w m h
+  pub completed-means : (w : ℕ) (m : Moment) (h : History) → completedTest w m h ≡ true ↔ Completed L l i w m h
   completed-means w = completed-by-means L l i w _ (beyond-means w)
 
   -- it completed one in some direction
@@ -207,52 +206,3 @@ openedTest L l i h = eqb (blockReads L l i h) free and (passedTest L l i h or by
 pub opened-means : (L : Layout) (l i : ℕ) (h : History) → openedTest L l i h ≡ true ↔ Opened L l i h
 opened-means L l i h =
     Iff·trans (and-means (eqb-means _ free) (cleared-means L l i h)) (λ (f, c). record { isFree = f; cleared = c }, λ o. (o .isFree, o .cleared))
-
--- ---- a line that is secured
-
--- block i of line l is barred
-abbrev pub barredTest : ℕ → ℕ → History → Bool
-barredTest l i h = sinceTest (λ m older. cameTest barBlock l i m) (λ m older. not (cameTest unbarBlock l i m)) h
-
--- by the law of `Since`
-pub barred-means : (l i : ℕ) (h : History) → barredTest l i h ≡ true ↔ Barred l i h
-barred-means l i = since-means (λ m h. came-means barBlock l i m) (λ m h. not-means (came-means unbarBlock l i m))
-
-module _ (L : Layout) (l w : ℕ) where
-  -- the event releases the line
-  abbrev lineEndsTest : Moment → History → Bool
-  lineEndsTest m h = every (
-      completedTest L l (lastBlock L l w) w m h
-      ∷ not (openedTest L l (lastBlock L l w) h)
-      ∷ allBelow (lineIn L l .blocks) (λ i. openedTest L l i (m ∷ h))
-      ∷ allBelow (L .routes) (λ r. implies (eqb (routeIn L r .kind) exitRoute) (implies (eqb (routeIn L r .line) l) (not (lockedTest L r (m ∷ h)))))
-      ∷ allBelow (lineIn L l .blocks) (λ i. not (barredTest l i (m ∷ h)))
-      ∷ [])
-
-  -- part by part, over blocks and routes
-  line-ends-means : (m : Moment) (h : History) → lineEndsTest m h ≡ true ↔ LineEnds L l w m h
-  line-ends-means m h =
-      Iff·trans
-      (every-means (completed-means L l (lastBlock L l w) w m h also not-means (opened-means L l (lastBlock L l w) h) also all-means (λ i b. opened-means L l i (m ∷ h))
-      also all-means (λ r b. implies-means (eqb-means _ exitRoute) (implies-means (eqb-means _ l) (not-means (locked-means L r (m ∷ h)))))
-      also lastly (all-means (λ i b. not-means (barred-means l i (m ∷ h))))))
-      (λ (c, (n, (o, (e, b)))). record { held = n; completes = c; allOpen = o; noExit = e; noBar = b }, λ E. E .completes & E .held & E .allOpen & E .noExit & E .noBar)
-
-  -- the line stays secured
-  abbrev staysSecuredTest : Moment → History → Bool
-  staysSecuredTest m h = every (not (acceptedTest secureLine l m) ∷ not (acceptedTest releaseLine l m) ∷ not (lineEndsTest m h) ∷ [])
-
-  -- no order, no release, no line release
-  stays-secured-means : (m : Moment) (h : History) → staysSecuredTest m h ≡ true ↔ StaysSecured L l w m h
-  stays-secured-means m h =
-      Iff·trans
-      (every-means (not-means (accepted-means secureLine l m) also not-means (accepted-means releaseLine l m) also lastly (not-means (line-ends-means m h))))
-      (λ (o, (r, g)). record { noOrder = o; noRelease = r; noEnd = g }, λ s. s .noOrder & s .noRelease & s .noEnd)
-
-  -- it is secured
-  abbrev pub securedTest : History → Bool
-  securedTest h = sinceTest (λ m older. acceptedTest secureLine l m and eqb (m .event .second) w) staysSecuredTest h
-
-  -- by the law of `Since`
-  pub secured-means : (h : History) → securedTest h ≡ true ↔ Secured L l w h
-  secured-means = since-means (λ m h. and-means (accepted-means secureLine l m) (eqb-means _ w)) stays-secured-means

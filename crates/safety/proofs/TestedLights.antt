@@ -18,7 +18,8 @@ use Rattle.safety.specs.Lights.{position, MayEnter, Clear, NotFallen, At
 use Rattle.safety.specs.Demand3.{LeadsOut, Leads, Enters}
 use Rattle.safety.proofs.Tested.{sinceTest, since-means, acceptedTest, accepted-means}
 use Rattle.safety.proofs.TestedLocks.{cancelledTest, cancelled-means, lockedTest, locked-means}
-use Rattle.safety.proofs.TestedBlocks.{openedTest, opened-means, barredTest, barred-means}
+use Rattle.safety.proofs.TestedBlocks.{openedTest, opened-means}
+use Rattle.safety.proofs.TestedLines.{barredTest, barred-means}
 
 -- ---- a signal at proceed
 

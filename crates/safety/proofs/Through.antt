@@ -1,6 +1,6 @@
 -- What becomes of a block in an accepted event: by its own reading, by what lies beyond it (L3), and by its far section.
 use Prim.Native.Nat.{ℕ, _<_, _≤_}
-use mathlib.Core.Path.{_≡_, refl, sym, ap, _∙_}
+use mathlib.Core.Path.{_≡_, refl, sym, _∙_}
 use mathlib.Core.Logic.{_≢_, inl, inr}
 use mathlib.Core.Bool.{Bool, true}
 use mathlib.Core.List.{List}
@@ -22,8 +22,8 @@ use Rattle.interlocking.specs.Step.{refusal}
 use Rattle.step_facts.specs.Run.{Event}
 use Rattle.step_facts.proofs.Range.{inRange-means, read-within}
 use Rattle.step_facts.proofs.Entries.{direction, stage, block}
-use Rattle.step_facts.proofs.Passed.{secure-neutral}
-use Rattle.step_facts.proofs.Within.{On, done, lit, moved, end, direction-same}
+use Rattle.step_facts.proofs.Within.{On, done, lit, moved, end}
+use Rattle.step_facts.proofs.Securing.{direction-same, secures-neutral}
 use Rattle.step_facts.proofs.FarCases.{FarCase, keeps, proves, loses, far-of, far-keeps, end-of}
 use Rattle.step_facts.proofs.Openings.{Through, Opens, open-stays, moves-on, waiting-opens, waiting-stays}
 use Rattle.safety.specs.History.{History, gaveBlock}
@@ -50,11 +50,11 @@ Stages L s e l own = Through (lineIn L l) l (direction (done L s e) l) (arrived 
 
 module _ (L : Layout) (S : Sound L) (s : State) (h : History) (I : Inv L s h) (e : Event)
     (pass : refusal (sound L and inRange s) L s (e .kind) (e .first) (e .second) .number ≡ 0) (l : ℕ) (b : l < L .lines) where
-  -- a line with a block in stage 2 or 3 is secured, so it is not the one that an order secures, and it keeps its direction unless it is released by hand
+  -- a line with a block in stage 2 or 3 is secured, so it is not one that the event secures, and it keeps its direction unless it is released by hand
   pub way-kept : (i : ℕ) → i < lineIn L l .blocks → 3 ≤ stage s l i → ¬ On 7 e l → (direction s l ≢ 0) × (direction (done L s e) l ≡ direction s l)
   way-kept i c held n = (
     secured,
-    direction-same L (S .ranges .lineCount) s e l b (λ u. secured (ap (direction s) (sym (u .1)) ∙ secure-neutral L s e pass (u .0))) n,
+    direction-same L (S .ranges .lineCount) s e l b (λ u. secured (secures-neutral L s e pass l u)) n,
   )
     where
       secured : direction s l ≢ 0

@@ -13,7 +13,7 @@ use Rattle.layout.specs.Layout.{routeIn}
 use Rattle.safety.specs.History.{Moment, History, Given, gaveSection, reads, Since}
 use Rattle.safety.specs.Locked.{gaveFirst, gaveSecond, Unbroken, StepOne, StepTwo, StepThree, Vacated, secondsSince, Goes, Locked}
 use Rattle.safety.specs.Cleared.{Closes, CompletedBy, whileLit, withBeyond, later, FreesBeyond, Waits, Cleared, byPassage, byHand, Opened}
-use Rattle.safety.specs.Secured.{LineEnds, Secured}
+use Rattle.safety.specs.Secured.{LineEnds, Secured, byOrder, byRoute}
 use Rattle.safety.specs.Lights.{position, MayEnter, Lit, Clear, NotFallen, AtProceed}
 
 -- the moment m with image a in place of its own
@@ -149,8 +149,9 @@ module _ (L : Layout) (m : Moment) (h : History) where
 
   -- so a line is secured or not
   pub secured : (l w : ℕ) (a b : List ℕ) → Secured L l w (showing m a ∷ h) → Secured L l w (showing m b ∷ h)
-  unfolding Since
-  secured l w a b (inl x) = inl x
+  unfolding Secured
+  secured l w a b (inl (byOrder x y)) = inl (byOrder x y)
+  secured l w a b (inl (byRoute r x n)) = inl (byRoute r (record { sets = x .sets; there = x .there; isExit = x .isExit; ofLine = x .ofLine; way = x .way }) n)
   secured l w a b (inr (x, y)) = inr (record { noOrder = x .noOrder; noRelease = x .noRelease; noEnd = λ z. x .noEnd (line-ends l w b a z) }, y)
 
   -- ---- signals

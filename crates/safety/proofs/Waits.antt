@@ -44,7 +44,7 @@ use Rattle.safety.proofs.Far.{there, far-reads, stop-follows}
 -- ---- of the history alone
 
 -- while a passage waits for its free reading, the far section does not read none: it read occupied, and nothing gave it none
-passage-far : (L : Layout) (l i w : ℕ) (h : History) → Passage L l i w h → sectionReads L (farSection L l i w) h ≢ 3
+pub passage-far : (L : Layout) (l i w : ℕ) (h : History) → Passage L l i w h → sectionReads L (farSection L l i w) h ≢ 3
 unfolding Since
 passage-far L l i w [] p = absurd p
 passage-far L l i w (m ∷ h) (inl d) = let t = d .taken in omega arith

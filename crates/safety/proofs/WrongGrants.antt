@@ -14,7 +14,7 @@ use Rattle.safety.specs.OtherLayouts.{withOverlap}
 use Rattle.safety.specs.WrongRuns.{told}
 use Rattle.safety.specs.WrongGrants.{MisjudgedLast, overTheOverlap, turnedUnder, noBar}
 use Rattle.safety.proofs.Computed.{runComputed}
-use Rattle.safety.proofs.TestedBlocks.{secured-means}
+use Rattle.safety.proofs.TestedLines.{secured-means}
 
 -- what an event asks: a reading of a section, a route that is set, a line that is secured, a count of axles in, a reset
 abbrev Asked : Layout → Event → History → Type 0
@@ -53,7 +53,7 @@ overlap-not-free J = eqb-false 2 1 refl (granted-asks _ _ _ (J .0 refl) .clear .
 -- it was accepted, and the line is secured from A to B
 pub line-not-neutral : MisjudgedLast layoutT (told turnedUnder)
 unfolding runComputed if_then_else_
-line-not-neutral J = granted-asks _ _ _ (J .0 refl) .isNeutral 1 (eqb-false 1 0 refl) (secured-means layoutT 0 1 _ .0 refl)
+line-not-neutral J = granted-asks _ _ _ (J .0 refl) .isNeutral .0 (secured-means layoutT 0 1 _ .0 refl)
 
 -- it was refused, and there is the block
 pub bar-refused-wrongly : MisjudgedLast (noBar .layout) (told noBar)

@@ -28,7 +28,8 @@ use Rattle.step_facts.proofs.Entries.{block}
 use Rattle.safety.proofs.Computed.{runComputed}
 use Rattle.safety.proofs.Cases.{same-itself}
 use Rattle.safety.proofs.TestedLocks.{lockedTest, locked-means}
-use Rattle.safety.proofs.TestedBlocks.{passedTest, byHandTest, cleared-means, securedTest, secured-means}
+use Rattle.safety.proofs.TestedBlocks.{passedTest, byHandTest, cleared-means}
+use Rattle.safety.proofs.TestedLines.{securedTest, secured-means}
 use Rattle.safety.proofs.TestedLights.{someAtProceedTest, some-at-proceed-means, entersTest, enters-means}
 
 -- with the box's own panel the history is the one of `goesOn`

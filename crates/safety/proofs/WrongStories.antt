@@ -24,7 +24,8 @@ use Rattle.safety.specs.WrongStories.{Story, blades, falls, opens, Broke
 use Rattle.safety.proofs.Computed.{runComputed}
 use Rattle.safety.proofs.Tested.{sinceTest, since-means, acceptedTest, accepted-means}
 use Rattle.safety.proofs.TestedLocks.{lockedTest, locked-means}
-use Rattle.safety.proofs.TestedBlocks.{someCompletedTest, some-completed-means, securedTest, secured-means}
+use Rattle.safety.proofs.TestedBlocks.{someCompletedTest, some-completed-means}
+use Rattle.safety.proofs.TestedLines.{securedTest, secured-means}
 use Rattle.safety.proofs.TestedLights.{entersTest, enters-means}
 use Rattle.safety.proofs.WrongRuns.{passes, each-passes, someSignal, find}
 

@@ -7,7 +7,7 @@ use mathlib.Core.Path.{_≡_}
 use mathlib.Core.Logic.{_≢_, _⊎_, _↔_}
 use mathlib.Core.Bool.{true, false}
 use mathlib.Core.List.{List}
-use Rattle.track.specs.Codes.{free, left, right, exitRoute, neutral, aToB, bToA, leaving, readSection, readPoint, throwPoint, setRoute, cancelRoute, secureLine, releaseLine, barBlock, unbarBlock, oneSecond, axlesIn, axlesOut, headSilent, resetAxles, reportLamp, lampNone}
+use Rattle.track.specs.Codes.{free, left, right, exitRoute, aToB, bToA, leaving, readSection, readPoint, throwPoint, setRoute, cancelRoute, secureLine, releaseLine, barBlock, unbarBlock, oneSecond, axlesIn, axlesOut, headSilent, resetAxles, reportLamp, lampNone}
 use Rattle.track.specs.Objects.{entrance}
 use Rattle.passage.specs.Passage.{arrival}
 use Rattle.layout.specs.declared.Layout.{Layout}
@@ -18,13 +18,9 @@ use Rattle.step_facts.specs.Run.{Event}
 use Rattle.safety.specs.History.{Moment, History, headLog, blockReads, lampTold, Throughout, history}
 use Rattle.safety.specs.Locked.{Cancelled, Locked}
 use Rattle.safety.specs.Cleared.{Opened}
-use Rattle.safety.specs.Secured.{Barred, Secured}
+use Rattle.safety.specs.Secured.{Barred, Secured, Neutral}
 use Rattle.safety.specs.Lights.{LinePlaced, Clear}
 use Rattle.safety.specs.Stories.{BladesFree}
-
--- line l is neutral: it is secured in neither direction
-abbrev pub Neutral : Layout → ℕ → History → Type 0
-Neutral L l h = (w : ℕ) → w ≢ neutral → ¬ Secured L l w h
 
 -- ---- orders
 
@@ -36,32 +32,6 @@ pub record MayThrow (L : Layout) (a b : ℕ) (h : History) : Type 0 where
   pub position : (b ≡ left) ⊎ (b ≡ right)
   -- 15, 16, 7/8 for the point's own section
   pub blades : BladesFree L a h
-
--- set route a
-pub record MaySet (L : Layout) (a b : ℕ) (h : History) : Type 0 where
-  -- 2
-  pub there : a < L .routes
-  -- 3
-  pub unused : b ≡ 0
-  -- 4
-  pub idle : ¬ Locked L a h
-  -- 5
-  pub apart : (r : ℕ) → r < L .routes → conflict L a r ≡ true → ¬ Locked L r h
-  -- 6, 7/8 over path and overlap; an exit route 6 for the line's points, 11, 10 for the block it enters: all that keeps its signal at proceed
-  pub clear : Clear L a h
-  -- 9, of an exit route
-  pub secured : routeIn L a .kind ≡ exitRoute → Secured L (routeIn L a .line) (leaving (routeIn L a .end)) h
-
--- cancel route a
-pub record MayCancel (L : Layout) (a b : ℕ) (h : History) : Type 0 where
-  -- 2
-  pub there : a < L .routes
-  -- 3
-  pub unused : b ≡ 0
-  -- 13
-  pub locked : Locked L a h
-  -- 14
-  pub standing : ¬ Cancelled a h
 
 -- secure line a in direction b
 pub record MaySecure (L : Layout) (a b : ℕ) (h : History) : Type 0 where
@@ -79,6 +49,33 @@ pub record MaySecure (L : Layout) (a b : ℕ) (h : History) : Type 0 where
   pub allOpen : (i : ℕ) → i < lineIn L a .blocks → Opened L a i h
   -- 31: the lamp of the arrival entrance signal reports 1 or 2 (L3)
   pub lamp : lampTold (entrance (lineIn L a) (arrival b)) h ≢ lampNone
+
+-- set route a
+pub record MaySet (L : Layout) (a b : ℕ) (h : History) : Type 0 where
+  -- 2
+  pub there : a < L .routes
+  -- 3
+  pub unused : b ≡ 0
+  -- 4
+  pub idle : ¬ Locked L a h
+  -- 5
+  pub apart : (r : ℕ) → r < L .routes → conflict L a r ≡ true → ¬ Locked L r h
+  -- 6, 7/8 over path and overlap; an exit route 6 for the line's points, 11, 10 for the block it enters: all that keeps its signal at proceed
+  pub clear : Clear L a h
+  -- 9, of an exit route: its line is secured its way; or (L5) it may be secured so, which asks that it is neutral, and 11, 6, 10, 31
+  pub secured : routeIn L a .kind ≡ exitRoute
+      → Secured L (routeIn L a .line) (leaving (routeIn L a .end)) h ⊎ MaySecure L (routeIn L a .line) (leaving (routeIn L a .end)) h
+
+-- cancel route a
+pub record MayCancel (L : Layout) (a b : ℕ) (h : History) : Type 0 where
+  -- 2
+  pub there : a < L .routes
+  -- 3
+  pub unused : b ≡ 0
+  -- 13
+  pub locked : Locked L a h
+  -- 14
+  pub standing : ¬ Cancelled a h
 
 -- release line a by hand, on ground b
 pub record MayRelease (L : Layout) (a b : ℕ) (h : History) : Type 0 where

@@ -21,9 +21,11 @@ pub mod WrongRuns
 pub mod LateBoxes
 pub mod WrongStories
 pub mod Grants
+pub mod Departure
 pub mod Only
 pub mod OnlyEvents
 pub mod WrongGrants
 pub mod WrongHeads
 pub mod WrongLamps
+pub mod WrongDepartures
 pub mod WrongDistants

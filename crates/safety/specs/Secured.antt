@@ -1,17 +1,18 @@
--- A line secured, told from the history (section 5): from the event in which an order to secure it was accepted until a manual release or the line
--- release.
+-- A line secured, told from the history (section 5): from the event in which an order to secure it was accepted, or (L5) one to set an exit route of it while
+-- it was neutral, until a manual release or the line release.
 --
 -- Read as `Demand3` says.
 use Prim.Native.Nat.{ℕ, _<_}
 use mathlib.Core.Path.{_≡_}
-use mathlib.Core.List.{_∷_}
-use Rattle.track.specs.Codes.{exitRoute, secureLine, barBlock, unbarBlock}
+use mathlib.Core.Logic.{_⊎_}
+use mathlib.Core.List.{[], _∷_}
+use Rattle.track.specs.Codes.{exitRoute, aToB, bToA, leaving, secureLine, barBlock, unbarBlock}
 use Rattle.passage.specs.Passage.{arrival}
 use Rattle.layout.specs.declared.Layout.{Layout}
 use Rattle.layout.specs.Layout.{lineIn, routeIn}
 use Rattle.layout_facts.specs.Plain.{nearestBlock}
 use Rattle.safety.specs.History.{Moment, History, Accepted, Releases, Came, Since}
-use Rattle.safety.specs.Locked.{Locked}
+use Rattle.safety.specs.Locked.{Sets, Locked}
 use Rattle.safety.specs.Cleared.{Completed, Opened}
 
 -- block i of line l is barred: a bar of it came, and no unbar since
@@ -41,6 +42,33 @@ pub record StaysSecured (L : Layout) (l w : ℕ) (m : Moment) (older : History) 
   pub noRelease : ¬ Releases l m
   pub noEnd : ¬ LineEnds L l w m older
 
--- line l is secured in direction w: an order to secure it so was accepted, and it has stayed so
-abbrev pub Secured : Layout → ℕ → ℕ → History → Type 0
-Secured L l w h = Since (λ m older. Accepted secureLine l m × (m .event .second ≡ w)) (StaysSecured L l w) h
+-- ---- one order for departure (L5)
+
+-- the event m sets route r, an exit route of line l that leaves in direction w
+pub record SetsOut (L : Layout) (l w : ℕ) (m : Moment) (r : ℕ) : Type 0 where
+  pub sets : Sets r m
+  pub there : r < L .routes
+  pub isExit : routeIn L r .kind ≡ exitRoute
+  pub ofLine : routeIn L r .line ≡ l
+  pub way : leaving (routeIn L r .end) ≡ w
+
+-- neutral: neither from A to B nor from B to A, where `Was v` says that it was secured in direction v
+abbrev pub Neither : (ℕ → Type 0) → Type 0
+Neither Was = ¬ Was aToB × ¬ Was bToA
+
+-- the event m secures line l in direction w, where `Was` tells the direction in which it was secured before: an order to secure it so was accepted; or "setting
+-- an exit route on a neutral line now first secures it the route's way"
+pub data SecuredBy (L : Layout) (l w : ℕ) (Was : ℕ → Type 0) (m : Moment) : Type 0 where
+  byOrder : Accepted secureLine l m → m .event .second ≡ w → SecuredBy L l w Was m
+  byRoute : (r : ℕ) → SetsOut L l w m r → Neither Was → SecuredBy L l w Was m
+
+-- ---- secured
+
+-- line l is secured in direction w: an event secured it so, and it has stayed so
+unfoldable pub Secured : Layout → ℕ → ℕ → History → Type 0
+Secured L l w [] = ⊥
+Secured L l w (m ∷ h) = SecuredBy L l w (λ v. Secured L l v h) m ⊎ (StaysSecured L l w m h × Secured L l w h)
+
+-- line l is neutral
+abbrev pub Neutral : Layout → ℕ → History → Type 0
+Neutral L l h = Neither (λ w. Secured L l w h)

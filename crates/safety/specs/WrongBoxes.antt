@@ -1,7 +1,8 @@
 -- Boxes that are wrong in one thing, for demand 3 to refuse: the step of a run with one of its parts done another way, as an error that looks reasonable
 -- would (section 9), or with one guard left out. `proofs/WrongBoxes` proves that with the step's own parts they are the step of a run, so each differs from
 -- it in that alone; `WrongRuns` has a run of each that shows it. `WrongOrders` has the boxes that are wrong in what they refuse of an order, `WrongHeads` those
--- that are wrong in axle counters, `WrongLamps` those that are wrong in lamps and stage 3.
+-- that are wrong in axle counters, `WrongLamps` those that are wrong in lamps and stage 3,
+-- `WrongDepartures` those that are wrong in one order for departure.
 use Prim.Native.Nat.{ℕ, _*_, _/_, _%_}
 use mathlib.Core.Bool.{Bool, true, false, not}
 use mathlib.Core.List.{List, [], _∷_}

@@ -11,7 +11,7 @@ use Rattle.track.specs.Codes.{neutral, leaving, throwPoint, setRoute, secureLin
 use Rattle.track.specs.Sizes.{mostPoints, mostLines}
 use Rattle.track.specs.Objects.{line, route}
 use Rattle.track.specs.Blocks.{lineSections}
-use Rattle.tables.specs.Locks.{locked}
+use Rattle.tables.specs.Locks.{locked, departs}
 use Rattle.layout.specs.declared.Layout.{Layout}
 use Rattle.layout.specs.Layout.{conflict}
 use Rattle.reasons.specs.declared.Refusal.{Refusal}
@@ -70,17 +70,17 @@ setBy conflicts rest =
 
 -- 5 is not asked
 abbrev pub asksNoConflict : Box
-asksNoConflict = setBy (λ L s r. noRefusal) (λ L s a. routeRefusal (L .line) (tablesOf s) a)
+asksNoConflict = setBy (λ L s r. noRefusal) (λ L s a. routeRefusal L (tablesOf s) a)
 
 -- 5 is asked of lower numbers only
 abbrev pub asksLower : Box
-asksLower = setBy (λ L s r. found 5 r (λ q. locked (s .phase) q and conflict L r q)) (λ L s a. routeRefusal (L .line) (tablesOf s) a)
+asksLower = setBy (λ L s r. found 5 r (λ q. locked (s .phase) q and conflict L r q)) (λ L s a. routeRefusal L (tablesOf s) a)
 
--- 9 is not asked: as if the line were secured that way
+-- 9 is not asked: as if the line were secured that way, unless it is neutral (L5)
 abbrev pub setsUnsecured : Box
 setsUnsecured =
     setBy (λ L s r. conflicting L (s .phase) r)
-    (λ L s a. routeRefusal (L .line) (tablesOf (withLines s (put mostLines (s .direction) (a .line) (leaving (a .end))) (s .stage))) a)
+    (λ L s a. routeRefusal L (tablesOf (if departs (s .direction) a then s else withLines s (put mostLines (s .direction) (a .line) (leaving (a .end))) (s .stage))) a)
 
 -- a route without its overlap
 abbrev bare : Route → Route
@@ -101,7 +101,7 @@ bare a = record {
 
 -- 7 and 8 are not asked of the overlap
 abbrev pub asksNoOverlap : Box
-asksNoOverlap = setBy (λ L s r. conflicting L (s .phase) r) (λ L s a. routeRefusal (L .line) (tablesOf s) (bare a))
+asksNoOverlap = setBy (λ L s r. conflicting L (s .phase) r) (λ L s a. routeRefusal L (tablesOf s) (bare a))
 
 -- ---- throw
 

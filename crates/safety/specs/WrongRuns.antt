@@ -150,8 +150,8 @@ unsafe secured =
     onT releasesLocked (letOut ++ (event 7 0 1 ∷ []))
     -- secure: 12 is not asked. The line is secured the other way under a set route
     ∷ onT securesAnew (letOut ++ (event 15 1 1 ∷ event 6 0 2 ∷ []))
-    -- set route: 9 is not asked. The line is neutral
-    ∷ onT setsUnsecured (released ++ (event 4 0 0 ∷ []))
+    -- set route: 9 is not asked. The line is secured the other way
+    ∷ onT setsUnsecured (released ++ (event 15 1 1 ∷ event 6 0 2 ∷ event 4 0 0 ∷ []))
     -- panel: block signals lit both ways; lit in neutral
     ∷ drawnBy (litBy bothWays) opened
     ∷ drawnBy (litBy inNeutral) released

@@ -11,7 +11,7 @@ use Rattle.track.specs.Sizes.{mostSections}
 use Rattle.layout.specs.declared.Layout.{Layout}
 use Rattle.interlocking.specs.declared.State.{State}
 use Rattle.interlocking.specs.State.{cold, headsAt, withSections, withRoutes, withLines, withAxles}
-use Rattle.interlocking.specs.Own.{ownSection, ownSet, ownCancel, ownSecure, ownManual, headSection, headsBy}
+use Rattle.interlocking.specs.Own.{ownSection, ownLock, ownCancel, ownSecure, ownManual, headSection, headsBy}
 use Rattle.interlocking.specs.Settle.{signals, farSections, routesBy, routes, arrivals, lineRelease, settle}
 use Rattle.interlocking.specs.declared.Answer.{Answer}
 use Rattle.interlocking.specs.Step.{own, after, step}
@@ -52,7 +52,7 @@ module _ (L : Layout) (s : State) (e : Event) where
 
   -- those of any other section stay, and after any other event all do
   pub heads-elsewhere : (g : ℕ) → (KindOfHeads → g ≢ named) → headsAt (end L s e .axles) g ≡ headsAt (s .axles) g
-  unfolding ownSection ownSet ownCancel ownSecure ownManual withSections withRoutes withLines withAxles headsAt
+  unfolding ownSection ownLock ownCancel ownSecure ownManual withSections withRoutes withLines withAxles headsAt
   heads-elsewhere g d = rw end-axles (go (is-done L s e))
     where
       go : {t : State} → Done L s e t → headsAt (t .axles) g ≡ headsAt (s .axles) g
@@ -66,7 +66,7 @@ module _ (L : Layout) (s : State) (e : Event) where
 
   -- there are as many as before
   pub heads-many : length (end L s e .axles) ≡ length (s .axles)
-  unfolding ownSection ownSet ownCancel ownSecure ownManual withSections withRoutes withLines withAxles
+  unfolding ownSection ownLock ownCancel ownSecure ownManual withSections withRoutes withLines withAxles
   heads-many = rw end-axles (go (is-done L s e))
     where
       go : {t : State} → Done L s e t → length (t .axles) ≡ length (s .axles)

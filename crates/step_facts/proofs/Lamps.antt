@@ -11,10 +11,11 @@ use Rattle.tables.specs.Readings.{recorded}
 use Rattle.layout.specs.declared.Layout.{Layout}
 use Rattle.interlocking.specs.declared.State.{State}
 use Rattle.interlocking.specs.State.{withSections, withPoints, withRoutes, withLines, withBars, withAxles, withLamps}
-use Rattle.interlocking.specs.Own.{ownSection, ownPoint, ownThrow, ownSet, ownCancel, ownSecure, ownManual, ownBar, ownHeads, ownLamp}
+use Rattle.interlocking.specs.Own.{ownSection, ownPoint, ownThrow, ownLock, ownCancel, ownSecure, ownManual, ownBar, ownHeads, ownLamp}
 use Rattle.interlocking.specs.Settle.{signals, farSections, routesBy, routes, arrivals, lineRelease, settle}
 use Rattle.interlocking.specs.Rows.{Row, sectionRow, pointRow, throwRow, setRow, cancelRow, secureRow, manualRow, barRow, secondRow, headRow, countRow, silentRow, resetRow, lampRow, noRow}
 use Rattle.interlocking.specs.Step.{own, after}
+use Rattle.interlocking.proofs.Departure.{set-lines}
 use Rattle.interlocking.proofs.Rows.{OfKind, section-row, point-row, throw-row, set-row, cancel-row, secure-row, manual-row, bar-row, unbar-row, second-row, count-row, silent-row, reset-row, lamp-row, no-row, row-of}
 use Rattle.step_facts.specs.Run.{Event}
 use Rattle.step_facts.proofs.Within.{end}
@@ -28,14 +29,14 @@ pub data LampCase (e : Event) (xs : List ℕ) : List ℕ → Type 0 where
 pub lamps-of : (L : Layout) (s : State) (e : Event) → LampCase e (s .lamp) (end L s e .lamp)
 unfolding after settle lineRelease withLines arrivals routes routesBy withRoutes farSections signals own
     sectionRow pointRow throwRow setRow cancelRow secureRow manualRow barRow secondRow headRow countRow silentRow resetRow lampRow noRow
-    ownSection ownPoint ownThrow ownSet ownCancel ownSecure ownManual ownBar ownHeads ownLamp withSections withPoints withBars withAxles withLamps
+    ownSection ownPoint ownThrow ownLock ownCancel ownSecure ownManual ownBar ownHeads ownLamp withSections withPoints withBars withAxles withLamps
 lamps-of L s e = go (row-of L s (e .kind) (e .first) (e .second))
   where
     go : {row : Row} → OfKind L s (e .first) (e .second) (e .kind) row → LampCase e (s .lamp) (row .does .lamp)
     go (section-row q) = left (omega arith)
     go (point-row q) = left (omega arith)
     go (throw-row q) = left (omega arith)
-    go (set-row q) = left (omega arith)
+    go (set-row q) = rw (set-lines (L .route) s (e .first)) (left (omega arith))
     go (cancel-row q) = left (omega arith)
     go (secure-row q) = left (omega arith)
     go (manual-row q) = left (omega arith)

@@ -8,6 +8,7 @@ pub mod Entries
 pub mod Passed
 pub mod Tells
 pub mod Within
+pub mod Securing
 pub mod Heads
 pub mod Granted
 pub mod Lamps

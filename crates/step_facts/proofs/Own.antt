@@ -1,6 +1,7 @@
 -- What an accepted event itself does keeps the state in range.
 use Prim.Native.Nat.{ℕ, _/_}
 use mathlib.Core.Path.{_≡_}
+use mathlib.Core.Logic.{⊎-elim}
 use mathlib.Core.Bool.{Bool, false, not}
 use mathlib.Core.List.{List}
 use native.Mathlib.Omega.{arith}
@@ -8,8 +9,10 @@ use borrow.Author.Tests.{not-false}
 use lib.IntN.{ℤ, pos, negsuc}
 use Rattle.laws.proofs.Choice.{if-both}
 use Rattle.track.specs.declared.Line.{Line}
+use Rattle.track.specs.declared.Route.{Route}
 use Rattle.track.specs.Sizes.{mostSections, mostPoints, mostRoutes, mostTrainRoutes, mostLines, mostPlaces, mostLamps}
 use Rattle.track.specs.Lists.{between}
+use Rattle.track.proofs.Ways.{leaving-two}
 use Rattle.tables.specs.declared.Gives.{Gives}
 use Rattle.tables.specs.Readings.{recorded}
 use Rattle.passage.specs.Passage.{freeStage, ownStage}
@@ -20,7 +23,7 @@ use Rattle.axles.specs.Heads.{readingOf, axlesReading}
 use Rattle.layout_facts.proofs.Lists.{between-means}
 use Rattle.layout.specs.declared.Layout.{Layout}
 use Rattle.interlocking.specs.declared.State.{State}
-use Rattle.interlocking.specs.Own.{ownSection, ownPoint, throwReading, ownThrow, ownSet, ownCancel, ownSecure, openAt, ownManual, ownBar, ownHeads, ownLamp}
+use Rattle.interlocking.specs.Own.{ownSection, ownPoint, throwReading, ownThrow, ownLock, secureFirst, ownSet, ownCancel, ownSecure, openAt, ownManual, ownBar, ownHeads, ownLamp}
 use Rattle.interlocking.specs.Rows.{Row, sectionRow, pointRow, throwRow, setRow, cancelRow, secureRow, manualRow, barRow, secondRow, headRow, countRow, silentRow, resetRow, lampRow, noRow}
 use Rattle.interlocking.proofs.Rows.{OfKind, section-row, point-row, throw-row, set-row, cancel-row, secure-row, manual-row, bar-row, unbar-row, second-row, count-row, silent-row, reset-row, lamp-row, no-row}
 use Rattle.step_facts.specs.Range.{In, InRange}
@@ -84,9 +87,9 @@ module _ (L : Layout) {s : State} (R : InRange s) (a v : ℕ) where
   throw-range h = points-range R (put-within (R .point) mostPoints a _ (throw-in (s .point) a v h)) (put-within (R .order) mostPoints a v (omega arith))
 
   -- 4: phase 1, no step, no second
-  set-range : InRange (ownSet s a)
-  unfolding ownSet
-  set-range = routes-range R (put-within (R .phase) mostRoutes a 1 (omega arith)) (put-within (R .steps) mostTrainRoutes a 0 (omega arith)) (put-within (R .seconds) mostTrainRoutes a 0 (omega arith))
+  lock-range : InRange (ownLock s a)
+  unfolding ownLock
+  lock-range = routes-range R (put-within (R .phase) mostRoutes a 1 (omega arith)) (put-within (R .steps) mostTrainRoutes a 0 (omega arith)) (put-within (R .seconds) mostTrainRoutes a 0 (omega arith))
 
   -- 5: phase 3, no second
   cancel-range : InRange (ownCancel s a)
@@ -112,6 +115,11 @@ module _ (L : Layout) {s : State} (R : InRange s) (a v : ℕ) where
   lamp-range : In 1 3 v → InRange (ownLamp s a v)
   unfolding ownLamp
   lamp-range h = lamps-range R (put-within (R .lamp) mostLamps a v h)
+
+-- L5: a line that is secured first has one of the two directions
+first-range : {s : State} → InRange s → (a : Route) → InRange (secureFirst s a)
+unfolding secureFirst ownSecure
+first-range R a = if-both InRange _ (λ t. lines-range R (put-within (R .direction) mostLines _ _ (⊎-elim (λ q. omega arith) (λ q. omega arith) (leaving-two (a .end)))) (R .stage)) (λ f. R)
 
 -- what is recorded of a reading is free, occupied or none
 pub recorded-in : (code : ℕ) → In 1 3 (recorded code)
@@ -140,11 +148,11 @@ position-in b w = between-means 1 2 b .0 (not-false _ w)
 
 -- an event whose second number is not wrong, row by row
 pub own-range : (L : Layout) {s : State} (R : InRange s) (k a b : ℕ) {row : Row} → OfKind L s a b k row → row .wrong ≡ false → InRange (row .does)
-unfolding sectionRow pointRow throwRow setRow cancelRow secureRow manualRow barRow secondRow headRow countRow silentRow resetRow lampRow noRow
+unfolding sectionRow pointRow throwRow setRow cancelRow secureRow manualRow barRow secondRow headRow countRow silentRow resetRow lampRow noRow ownSet
 own-range L R k a b (section-row q) w = section-range L R a _ (recorded-in b)
 own-range L R k a b (point-row q) w = point-range L R a _ (recorded-in b)
 own-range L R k a b (throw-row q) w = throw-range L R a b (position-in b w)
-own-range L R k a b (set-row q) w = set-range L R a b
+own-range L R k a b (set-row q) w = lock-range L (first-range R _) a b
 own-range L R k a b (cancel-row q) w = cancel-range L R a b
 own-range L R k a b (secure-row q) w = secure-range L R a b (position-in b w)
 own-range L R k a b (manual-row q) w = manual-range L R a b

@@ -1,12 +1,12 @@
 -- What the tests say that an accepted event has passed: the reasons to refuse it that there were not.
-use Prim.Native.Nat.{ℕ, _+_, _*_, _/_, _<_, _≤_}
+use Prim.Native.Nat.{ℕ, _*_, _/_, _<_, _≤_}
 use mathlib.Core.Path.{_≡_, refl, _∙_}
 use mathlib.Core.Logic.{_≢_, _⊎_, inl, inr}
 use mathlib.Core.Bool.{Bool, true, false}
 use mathlib.Core.List.{List}
 use native.Mathlib.Decide.{ℕ-discrete}
 use native.Mathlib.Omega.{arith}
-use borrow.Author.Tests.{eqb-true, eqb-false, eq-eqb, ltb-false, leb-false, not-true, not-false}
+use borrow.Author.Tests.{eqb-true, eqb-false, eq-eqb, ne-eqb, ltb-false, leb-false, not-true, not-false}
 use lib.Dec.{ltb, leb}
 use lib.ListN.{getD}
 use Rattle.laws.specs.Choice.{if_then_else_}
@@ -16,6 +16,7 @@ use Rattle.laws.proofs.Searches.{lowest-none}
 use Rattle.laws.proofs.Tests.{and-left, and-right, and-both, not-both, fails-from, any-at, or-right}
 use Rattle.laws.proofs.Arrays.{read-at}
 use Rattle.track.specs.Sizes.{mostSections, mostPoints}
+use Rattle.track.specs.Codes.{leaving}
 use Rattle.track.specs.Lists.{among}
 use Rattle.track.specs.Blocks.{lineSections}
 use Rattle.sets.specs.Sets as sets
@@ -30,12 +31,12 @@ use Rattle.layout_facts.specs.Plain.{ownSection, routePoint, linePoint, nearest
 use Rattle.reasons.specs.declared.Refusal.{Refusal}
 use Rattle.reasons.specs.Refusal.{refused, found}
 use Rattle.reasons.specs.Searches.{unfree, routeLocks, lineLocks}
-use Rattle.tables.specs.Locks.{locked, lockedExitBy, lockedExit}
+use Rattle.tables.specs.Locks.{locked, lockedExitBy, lockedExit, departs}
 use Rattle.reasons.specs.Reasons.{notFree, conflicting, byRoute, byLine, exitLocked, noHeads, hasHeads}
-use Rattle.refusals.specs.Orders.{throwRefusal, exitRefusal, routeRefusal, setRefusal, cancelRefusal, secureRefusal, manualRefusal}
+use Rattle.refusals.specs.Orders.{throwRefusal, wayRefusal, exitRefusal, routeRefusal, setRefusal, cancelRefusal, secureRefusal, manualRefusal}
 use Rattle.refusals.proofs.Granted.{granted-at, when-granted, granted-sound, granted-there, granted-fit, granted-second}
 use Rattle.interlocking.specs.declared.State.{State}
-use Rattle.interlocking.specs.State.{inRange, headsAt}
+use Rattle.interlocking.specs.State.{inRange, headsAt, tablesOf}
 use Rattle.interlocking.specs.Own.{headSection, headsOf}
 use Rattle.interlocking.specs.Rows.{sectionRow, throwRow, setRow, cancelRow, secureRow, manualRow, barRow, secondRow, headRow, countRow, silentRow, resetRow, stillSilent, rowWith, rowOf}
 use Rattle.interlocking.specs.Step.{rowRefusal, refusal}
@@ -85,6 +86,11 @@ module _ (L : Layout) (s : State) (e : Event) (pass : refusal (sound L and inRan
   unfolding refusal rowRefusal
   order-granted k q = rw q at (granted-at _ pass 1)
 
+  -- 2: the route that is set is there
+  pub set-there : e .kind ≡ 4 → e .first < L .routes
+  unfolding refusal rowRefusal rowOf rowWith setRow if_then_else_
+  set-there k = let n = rw k at (granted-at _ pass 0) in leb-false _ _ (granted-there _ _ _ _ _ n)
+
   -- 5: no route that conflicts with the one set is locked
   pub set-alone : e .kind ≡ 4 → (q : ℕ) → q < L .routes → conflict L (e .first) q ≡ true → phase s q ≡ 0
   unfolding rowOf rowWith setRow if_then_else_ setRefusal conflicting locked
@@ -92,23 +98,30 @@ module _ (L : Layout) (s : State) (e : Event) (pass : refusal (sound L and inRan
       let five = granted-at _ (order-granted 4 k) 1 in
       eqb-true _ _ (not-false _ (fails-from _ (λ t. not-both (and-both _ _ t c) (found-granted 5 _ _ (omega arith) five q b))))
 
-  -- 9: an exit route's line is secured its way
-  pub set-secured : e .kind ≡ 4 → routeIn L (e .first) .kind ≡ 2
-      → direction s (routeIn L (e .first) .line) ≡ routeIn L (e .first) .end + 1
-  unfolding rowOf rowWith setRow if_then_else_ setRefusal routeRefusal exitRefusal routeIn
-  set-secured k x =
-      let lists = granted-at _ (order-granted 4 k) 2 in
-      let exit = rw (eq-eqb _ _ x) at (granted-at _ lists 2) in
-      eqb-true _ _ (not-false _ (when-granted _ 9 _ (omega arith) (granted-at _ exit 0)))
+  -- nothing is refused of it as an exit route: its line's way, 6, 11, 10
+  set-exit : e .kind ≡ 4 → routeIn L (e .first) .kind ≡ 2 → exitRefusal L (tablesOf s) (routeIn L (e .first)) .number ≡ 0
+  unfolding rowOf rowWith setRow if_then_else_ setRefusal routeRefusal routeIn
+  set-exit k x = rw (eq-eqb _ _ x) at (granted-at _ (granted-at _ (order-granted 4 k) 2) 2)
+
+  -- 9: an exit route's line is secured its way, unless it is neutral
+  pub set-way : e .kind ≡ 4 → routeIn L (e .first) .kind ≡ 2 → direction s (routeIn L (e .first) .line) ≢ 0
+      → direction s (routeIn L (e .first) .line) ≡ leaving (routeIn L (e .first) .end)
+  unfolding exitRefusal wayRefusal departs if_then_else_ _and_
+  set-way k x d =
+      let way = granted-at _ (set-exit k x) 0 in
+      eqb-true _ _ (not-false _ (when-granted _ 9 _ (omega arith) (rw (eq-eqb _ 2 x, ne-eqb _ 0 d) at way)))
+
+  -- L5: a neutral line may be secured its way
+  pub set-first : e .kind ≡ 4 → routeIn L (e .first) .kind ≡ 2 → direction s (routeIn L (e .first) .line) ≡ 0
+      → secureRefusal L (tablesOf s) (routeIn L (e .first) .line) (leaving (routeIn L (e .first) .end)) .number ≡ 0
+  unfolding exitRefusal wayRefusal departs if_then_else_ _and_
+  set-first k x z = rw (eq-eqb _ 2 x, eq-eqb _ 0 z) at (granted-at _ (set-exit k x) 0)
 
   -- 10: the block that it enters is open
   pub set-open : e .kind ≡ 4 → routeIn L (e .first) .kind ≡ 2
       → stage s (routeIn L (e .first) .line) (nearestBlock L (routeIn L (e .first) .line) (routeIn L (e .first) .end)) ≡ 0
-  unfolding rowOf rowWith setRow if_then_else_ setRefusal routeRefusal exitRefusal routeIn lineIn nearestBlock isOpen
-  set-open k x =
-      let lists = granted-at _ (order-granted 4 k) 2 in
-      let exit = rw (eq-eqb _ _ x) at (granted-at _ lists 2) in
-      eqb-true _ _ (not-false _ (when-granted _ 10 _ (omega arith) (granted-at _ exit 3)))
+  unfolding exitRefusal routeIn lineIn nearestBlock isOpen
+  set-open k x = eqb-true _ _ (not-false _ (when-granted _ 10 _ (omega arith) (granted-at _ (set-exit k x) 3)))
 
   -- 13: the route that is cancelled is locked
   pub cancel-locked : e .kind ≡ 5 → phase s (e .first) ≢ 0

@@ -7,14 +7,13 @@ use mathlib.Core.Logic.{_≢_, inl, inr}
 use native.Mathlib.Omega.{arith}
 use Rattle.laws.specs.Choice.{if_then_else_}
 use Rattle.laws.proofs.Choice.{if-both}
-use Rattle.track.specs.declared.Line.{Line}
 use Rattle.track.specs.declared.Route.{Route}
 use Rattle.tables.specs.Tables.{Tables}
 use Rattle.layout.specs.declared.Layout.{Layout}
 use Rattle.reasons.specs.declared.Refusal.{Refusal}
 use Rattle.reasons.specs.Refusal.{refused, noRefusal, refusedIf, found, firstOf}
 use Rattle.reasons.specs.Reasons.{notFree, notPlaced, conflicting, byRoute, byLine, exitLocked, blockBarred, blockHeld, arrivalDark, noHeads, hasHeads}
-use Rattle.refusals.specs.Orders.{throwRefusal, exitRefusal, routeRefusal, setRefusal, cancelRefusal, secureRefusal, manualRefusal}
+use Rattle.refusals.specs.Orders.{throwRefusal, wayRefusal, exitRefusal, routeRefusal, setRefusal, cancelRefusal, secureRefusal, manualRefusal}
 use Rattle.refusals.specs.Events.{numbersRefusal}
 use Rattle.refusals.proofs.Granted.{granted-at, granted-second}
 use Rattle.interlocking.specs.declared.State.{State}
@@ -94,35 +93,36 @@ throw-order : (L : Layout) (t : Tables) (p : ℕ) → Known (throwRefusal L t p)
 unfolding throwRefusal byRoute byLine
 throw-order L t p = first-order (found-order 15 _ _ (omega arith) then found-order 16 _ _ (omega arith) then not-free-order _ _ then no-more)
 
--- set route, where it is an exit route: 9, 6, 11, 10
-exit-order : (ls : List Line) (t : Tables) (a : Route) → Known (exitRefusal ls t a)
-unfolding exitRefusal notPlaced
-exit-order ls t a =
-    first-order (when-order _ 9 _ (low (omega arith)) then found-order 6 _ _ (omega arith) then when-order _ 11 _ (low (omega arith)) then when-order _ 10 _ (low (omega arith)) then no-more)
-
--- what is asked of the route by itself: 6, 7 and 8, then as an exit route
-route-order : (ls : List Line) (t : Tables) (a : Route) → Known (routeRefusal ls t a)
-unfolding routeRefusal notPlaced noRefusal refused
-route-order ls t a =
-    first-order (found-order 6 _ _ (omega arith) then not-free-order _ _
-    then if-both Known _ (λ t. exit-order ls _ a) (λ t. none-order) then no-more)
-
--- set route: 4, 5, then these
-set-order : (L : Layout) (t : Tables) (r : ℕ) → Known (setRefusal L t r)
-unfolding setRefusal conflicting
-set-order L t r = first-order (when-order _ 4 _ (low (omega arith)) then found-order 5 _ _ (omega arith) then route-order _ _ _ then no-more)
-
--- cancel: 13, 14
-cancel-order : (t : Tables) (r : ℕ) → Known (cancelRefusal t r)
-unfolding cancelRefusal
-cancel-order t r = first-order (when-order _ 13 _ (low (omega arith)) then when-order _ 14 _ (low (omega arith)) then no-more)
-
 -- secure: 12, 11, 6, 10, 31
 secure-order : (L : Layout) (t : Tables) (l w : ℕ) → Known (secureRefusal L t l w)
 unfolding secureRefusal notPlaced blockBarred blockHeld arrivalDark OfEvents
 secure-order L t l w =
     first-order (when-order _ 12 _ (low (omega arith)) then found-order 11 _ _ (omega arith) then found-order 6 _ _ (omega arith) then found-order 10 _ _ (omega arith)
     then when-order _ 31 _ (inr (inr (inl refl))) then no-more)
+
+-- set route, where it is an exit route: on a neutral line those of secure (L5), 9, 6, 11, 10
+exit-order : (L : Layout) (t : Tables) (a : Route) → Known (exitRefusal L t a)
+unfolding exitRefusal wayRefusal notPlaced
+exit-order L t a =
+    first-order (if-both Known _ (λ u. secure-order L t _ _) (λ u. when-order _ 9 _ (low (omega arith))) then found-order 6 _ _ (omega arith)
+    then when-order _ 11 _ (low (omega arith)) then when-order _ 10 _ (low (omega arith)) then no-more)
+
+-- what is asked of the route by itself: 6, 7 and 8, then as an exit route
+route-order : (L : Layout) (t : Tables) (a : Route) → Known (routeRefusal L t a)
+unfolding routeRefusal notPlaced noRefusal refused
+route-order L t a =
+    first-order (found-order 6 _ _ (omega arith) then not-free-order _ _
+    then if-both Known _ (λ t. exit-order L _ a) (λ t. none-order) then no-more)
+
+-- set route: 4, 5, then these
+set-order : (L : Layout) (t : Tables) (r : ℕ) → Known (setRefusal L t r)
+unfolding setRefusal conflicting
+set-order L t r = first-order (when-order _ 4 _ (low (omega arith)) then found-order 5 _ _ (omega arith) then route-order L _ _ then no-more)
+
+-- cancel: 13, 14
+cancel-order : (t : Tables) (r : ℕ) → Known (cancelRefusal t r)
+unfolding cancelRefusal
+cancel-order t r = first-order (when-order _ 13 _ (low (omega arith)) then when-order _ 14 _ (low (omega arith)) then no-more)
 
 -- manual release: 17, then 7 and 8
 manual-order : (L : Layout) (t : Tables) (l : ℕ) → Known (manualRefusal L t l)

@@ -68,6 +68,11 @@ module _ {isSound : Bool} {L : Layout} {s : State} {k a b : ℕ} where
   ended-detail (done e) p = refl
   ended-detail (refused-by e) p = absurd (e p)
 
+  -- an event that is answered by 0 was done
+  ended-granted : {r : Answer} → Ending isSound L s k a b r → r .number ≡ 0 → refusal isSound L s k a b .number ≡ 0
+  ended-granted (done e) p = e
+  ended-granted (refused-by e) p = p
+
   -- the number is 0 or the refusal's
   ended-number : {r : Answer} → Ending isSound L s k a b r → OfEvents (refusal isSound L s k a b .number) → OfEvents (r .number)
   ended-number (done e) h = rw e at h
@@ -83,6 +88,11 @@ module _ {isSound : Bool} {L : Layout} {s : State} {k a b : ℕ} where
 pub refusal-keeps : (L : Layout) (s : State) (k a b : ℕ) → (step L s k a b .number ≡ 0 → ⊥) → step L s k a b .next ≡ s
 unfolding step
 refusal-keeps L s k a b = ended-kept (ending _ L s k a b)
+
+-- an event that is answered by 0 is refused by nothing
+pub not-refused : (L : Layout) (s : State) (k a b : ℕ) → step L s k a b .number ≡ 0 → refusal (sound L and inRange s) L s k a b .number ≡ 0
+unfolding step
+not-refused L s k a b = ended-granted (ending _ L s k a b)
 
 -- a done event has detail 0
 pub done-detail : (L : Layout) (s : State) (k a b : ℕ) → step L s k a b .number ≡ 0 → step L s k a b .detail ≡ 0

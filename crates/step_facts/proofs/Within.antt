@@ -25,11 +25,12 @@ use Rattle.layout.specs.Layout.{lineIn, routeIn}
 use Rattle.line_block.specs.LineRelease.{passable, endsBy, directionAfter, directionsAfter}
 use Rattle.interlocking.specs.declared.State.{State}
 use Rattle.interlocking.specs.State.{withSections, withPoints, withRoutes, withLines, withBars, withAxles, withLamps}
-use Rattle.interlocking.specs.Own.{ownSection, ownPoint, ownThrow, ownSet, ownCancel, ownSecure, ownManual, ownBar, headsOf, ownHeads, ownLamp}
+use Rattle.interlocking.specs.Own.{ownSection, ownPoint, ownThrow, ownLock, ownCancel, ownSecure, ownManual, ownBar, headsOf, ownHeads, ownLamp}
 use Rattle.tables.specs.Locks.{locked, lockedExitBy, lockedExit}
 use Rattle.interlocking.specs.Settle.{fallenAt, signals, farSections, lockingOf, routeAfter, unlessIdle, routesBy, routes, arrivals, lineRelease, settle}
 use Rattle.interlocking.specs.Rows.{Row, sectionRow, pointRow, throwRow, setRow, cancelRow, secureRow, manualRow, barRow, secondRow, headRow, countRow, silentRow, resetRow, lampRow, noRow}
 use Rattle.interlocking.specs.Step.{own, gives, after}
+use Rattle.interlocking.proofs.Departure.{firstDirections, set-lines}
 use Rattle.interlocking.proofs.Rows.{OfKind, section-row, point-row, throw-row, set-row, cancel-row, secure-row, manual-row, bar-row, unbar-row, second-row, count-row, silent-row, reset-row, lamp-row, no-row, row-of, heads-row}
 use Rattle.step_facts.specs.Run.{Event}
 use Rattle.step_facts.proofs.Entries.{phase, direction, stage, ends, read-each, put-elsewhere}
@@ -67,7 +68,7 @@ On k e a = (e .kind ≡ k) × (e .first ≡ a)
 -- heads, directions, stages and what is held of routes as they are
 pub data Done (L : Layout) (s : State) (e : Event) : State → Type 0 where
   reads : {g v : ℕ} {xs : List Axles} → Tells s e g v xs → Done L s e (ownSection (L .signals) (L .line) (L .lines) (withAxles s xs) g v)
-  sets : e .kind ≡ 4 → Done L s e (ownSet s (e .first))
+  sets : e .kind ≡ 4 → Done L s e (ownLock (withLines s (firstDirections (s .direction) (routeIn L (e .first))) (s .stage)) (e .first))
   cancels : e .kind ≡ 5 → Done L s e (ownCancel s (e .first))
   secures : e .kind ≡ 6 → Done L s e (ownSecure s (e .first) (e .second))
   opens : e .kind ≡ 7 → Done L s e (ownManual (L .line) (L .lines) s (e .first))
@@ -79,7 +80,7 @@ pub data Done (L : Layout) (s : State) (e : Event) : State → Type 0 where
 -- by its row
 pub is-done : (L : Layout) (s : State) (e : Event) → Done L s e (done L s e)
 unfolding own sectionRow pointRow throwRow setRow cancelRow secureRow manualRow barRow secondRow headRow countRow silentRow resetRow lampRow noRow ownPoint ownThrow ownBar ownHeads ownLamp
-    withPoints withBars withAxles withLamps headsOf
+    withPoints withBars withAxles withLamps headsOf routeIn
 is-done L s e = go (row-of L s (e .kind) (e .first) (e .second))
   where
     same : (s .section ≡ s .section) × (s .phase ≡ s .phase) × (s .direction ≡ s .direction) × (s .stage ≡ s .stage) × (s .steps ≡ s .steps) × (s .seconds ≡ s .seconds)
@@ -93,7 +94,7 @@ is-done L s e = go (row-of L s (e .kind) (e .first) (e .second))
     go (section-row q) = reads (by-code q)
     go (point-row q) = leaves (omega arith) same
     go (throw-row q) = leaves (omega arith) same
-    go (set-row q) = sets q
+    go (set-row q) = rw (set-lines (L .route) s (e .first)) (sets q)
     go (cancel-row q) = cancels q
     go (secure-row q) = secures q
     go (manual-row q) = opens q
@@ -136,14 +137,14 @@ pub data Placed (s : State) (e : Event) : State → Type 0 where
 -- by its row
 pub is-placed : (L : Layout) (s : State) (e : Event) → Placed s e (done L s e)
 unfolding own sectionRow pointRow throwRow setRow cancelRow secureRow manualRow barRow secondRow headRow countRow silentRow resetRow lampRow noRow
-    ownSection ownSet ownCancel ownSecure ownManual ownHeads ownLamp withSections withRoutes withLines withAxles withLamps
+    ownSection ownLock ownCancel ownSecure ownManual ownHeads ownLamp withSections withRoutes withLines withAxles withLamps
 is-placed L s e = go (row-of L s (e .kind) (e .first) (e .second))
   where
     go : {row : Row} → OfKind L s (e .first) (e .second) (e .kind) row → Placed s e (row .does)
     go (section-row q) = untouched (omega arith) (refl, refl)
     go (point-row q) = point-read q
     go (throw-row q) = thrown q
-    go (set-row q) = untouched (omega arith) (refl, refl)
+    go (set-row q) = rw (set-lines (L .route) s (e .first)) (untouched (omega arith) (refl, refl))
     go (cancel-row q) = untouched (omega arith) (refl, refl)
     go (secure-row q) = untouched (omega arith) (refl, refl)
     go (manual-row q) = untouched (omega arith) (refl, refl)
@@ -214,7 +215,7 @@ module _ (L : Layout) (few : L .routes ≤ mostTrainRoutes) (s : State) (e : Eve
   -- a route that is locked at the end was locked before, or is set by the event
   pub was-locked : (e .kind ≡ 5 → phase s (e .first) ≢ 0) → phase (end L s e) r ≢ 0
       → On 4 e r ⊎ (phase s r ≢ 0)
-  unfolding ownSection ownSet ownCancel ownSecure ownManual withSections withRoutes withLines withAxles
+  unfolding ownSection ownLock ownCancel ownSecure ownManual withSections withRoutes withLines withAxles
   was-locked cancelled d = go (is-done L s e) own-locked
     where
       own-locked : phase (done L s e) r ≢ 0
@@ -237,22 +238,6 @@ module _ (L : Layout) (few : L .routes ≤ mostTrainRoutes) (s : State) (e : Eve
 -- ---- lines
 
 module _ (L : Layout) (few : L .lines ≤ mostLines) (s : State) (e : Event) (l : ℕ) (b : l < L .lines) where
-  -- a line that the event neither secures nor releases by hand keeps its direction, as far as the event itself goes
-  pub direction-same : ¬ On 6 e l → ¬ On 7 e l → direction (done L s e) l ≡ direction s l
-  unfolding ownSection ownSet ownCancel ownSecure ownManual withSections withRoutes withLines withAxles
-  direction-same n m = go (is-done L s e)
-    where
-      elsewhere : (v : ℕ) → (e .first ≡ l → ⊥) → read mostLines 0 (put mostLines (s .direction) (e .first) v) l ≡ direction s l
-      elsewhere v d = put-elsewhere mostLines 0 (s .direction) (e .first) v l (omega arith) (λ z. d (sym z))
-
-      go : {t : State} → Done L s e t → direction t l ≡ direction s l
-      go (reads k) = refl
-      go (sets k) = refl
-      go (cancels k) = refl
-      go (secures k) = elsewhere _ (λ q. n (k, q))
-      go (opens k) = elsewhere _ (λ q. m (k, q))
-      go (leaves f u) = rw (u .2) refl
-
   -- by the end of the event the line is as its own effect left it, or the line release made it neutral
   pub released : (direction (end L s e) l ≡ direction (done L s e) l)
       ⊎ ((direction (end L s e) l ≡ 0) × (ends L s (waited L s e) l (direction (done L s e) l) ≡ true))

@@ -24,7 +24,7 @@ use Rattle.layout.specs.Layout.{lineIn}
 use Rattle.layout_facts.specs.Plain.{Sound}
 use Rattle.interlocking.specs.declared.State.{State}
 use Rattle.interlocking.specs.State.{withSections, withRoutes, withLines, withAxles}
-use Rattle.interlocking.specs.Own.{ownSection, ownSet, ownCancel, ownSecure, openAt, ownManual}
+use Rattle.interlocking.specs.Own.{ownSection, ownLock, ownCancel, ownSecure, openAt, ownManual}
 use Rattle.interlocking.specs.Settle.{signals, farSections, lockingOf, routeAfter, unlessIdle, routesBy, routes, arrivals, lineRelease, settle}
 use Rattle.interlocking.specs.Rows.{aSecond, cancelRow, manualRow, secondRow, rowWith, rowOf}
 use Rattle.interlocking.specs.Step.{own, gives, after}
@@ -46,7 +46,7 @@ Calm s r = (phase s r ≡ 0) ⊎ (phase s r ≡ 3)
 module _ (L : Layout) (S : Sound L) (s : State) (e : Event) (r : ℕ) (b : r < L .routes) where
   -- an event that sets no route and does not cancel this one does not itself change its phase
   phase-own : e .kind ≢ 4 → (e .kind ≡ 5 → e .first ≢ r) → phase (done L s e) r ≡ phase s r
-  unfolding ownSection ownSet ownCancel ownSecure ownManual withSections withRoutes withLines withAxles
+  unfolding ownSection ownLock ownCancel ownSecure ownManual withSections withRoutes withLines withAxles
   phase-own d other = go (is-done L s e)
     where
       go : {t : State} → Done L s e t → phase t r ≡ phase s r

@@ -13,6 +13,7 @@ use Rattle.laws.specs.Totals.{total, bit, count}
 use Rattle.laws.proofs.Choice.{if-both}
 use Rattle.laws.specs.Tables.{join}
 use Rattle.laws.proofs.Tables.{length-table}
+use Rattle.track.specs.Codes.{leaving}
 use Rattle.layout.specs.declared.Layout.{Layout}
 use Rattle.layout.specs.Layout.{isFitted, lineIn, routeIn}
 use Rattle.layout.specs.Sound.{sound}
@@ -24,7 +25,7 @@ use Rattle.fitted.proofs.InUse.{in-use-sound}
 use Rattle.step_facts.specs.Run.{Event, fromCold}
 use Rattle.interlocking.specs.declared.State.{State}
 use Rattle.panel.specs.Panel.{routeByte}
-use Rattle.way_out.specs.WayToProceed.{unbars, readsFree, countsAfter, allReadsFree, throws, readsPlaced, placing, countsAfterPath, countsAfterOverlap, countsAfterPoints, clearing, securing, lineFor, wayToProceed, PointsAgree, fittedForLine, fittedAsked, WayToProceed, EveryRouteProceeds}
+use Rattle.way_out.specs.WayToProceed.{unbars, readsFree, countsAfter, allReadsFree, throws, readsPlaced, placing, countsAfterPath, countsAfterOverlap, countsAfterPoints, clearing, readying, lineFor, wayToProceed, PointsAgree, fittedForLine, fittedAsked, WayToProceed, EveryRouteProceeds}
 use Rattle.way_out.specs.Freeing.{CountsOf, fittedAmong, fittedBlocks}
 use Rattle.panel.proofs.Image.{shows-main, shows-route}
 use Rattle.way_out.proofs.Goes.{Whole, run-whole, after-that}
@@ -48,16 +49,16 @@ unfolding placing throws readsPlaced
 place-short L cs n p w = let h = free-short L cs n (λ j. ownSection L (p j)) in simp (length-append, length-table) (omega arith)
 
 module _ (L : Layout) (ok : sound L ≡ true) (r : ℕ) (b : r < L .routes) where
-  -- what an exit route asks of its line: at most eight unbars, eight points, the lamp's report (L3) and secure
-  line-short : (cs : CountsOf) → length (lineFor L cs r) ≤ 34 + 6 * fittedForLine L r
-  unfolding lineFor fittedForLine securing unbars if_then_else_
+  -- what an exit route asks of its line: at most eight unbars, eight points, and the lamp's report (L3)
+  line-short : (cs : CountsOf) → length (lineFor L cs r) ≤ 33 + 6 * fittedForLine L r
+  unfolding lineFor fittedForLine readying unbars if_then_else_
   line-short cs = go (eqb (routeIn L r .kind) 2) refl
     where
       l : ℕ
       l = routeIn L r .line
 
       go : (t : Bool) → eqb (routeIn L r .kind) 2 ≡ t
-          → length (if t then securing L cs l (routeIn L r .end + 1) else []) ≤ 34 + 6 * (if t then fittedAmong L (lineIn L l .points) (λ j. ownSection L (linePoint L l j)) else 0)
+          → length (if t then readying L cs l (leaving (routeIn L r .end)) else []) ≤ 33 + 6 * (if t then fittedAmong L (lineIn L l .points) (λ j. ownSection L (linePoint L l j)) else 0)
       go true e =
           let S : Sound L = sound-says L ok in
           let line : LineRanges L l = S .ranges .lines _ (S .ranges .routes r b .line (inr (eqb-true _ 2 e)) .0) in
@@ -66,7 +67,7 @@ module _ (L : Layout) (ok : sound L ≡ true) (r : ℕ) (b : r < L .routes) wher
       go false e = omega arith
 
   -- how long it is: the way out; at most twelve sections of path and overlap, and eight points; the line; set
-  proceed-short : (cs : CountsOf) (s : State) → length (wayToProceed L cs s r) ≤ L .routes + 9 * L .lines + 161 + 6 * (fittedBlocks L (L .lines) + fittedAsked L r)
+  proceed-short : (cs : CountsOf) (s : State) → length (wayToProceed L cs s r) ≤ L .routes + 9 * L .lines + 160 + 6 * (fittedBlocks L (L .lines) + fittedAsked L r)
   unfolding wayToProceed clearing fittedAsked
   proceed-short cs s =
       let S : Sound L = sound-says L ok in
@@ -124,12 +125,12 @@ module _ (L : Layout) (ok : sound L ≡ true) (r : ℕ) (b : r < L .routes) wher
           omega (arith, line .pointCount, among-few L (lineIn L (routeIn L r .line) .points) (λ j. ownSection L (linePoint L (routeIn L r .line) j))))
           (λ f. omega arith)
 
-  -- so the way has at most 329 events besides what routes and lines take
-  pub proceed-longest : (cs : CountsOf) (s : State) → length (wayToProceed L cs s r) ≤ L .routes + 57 * L .lines + 329
+  -- so the way has at most 328 events besides what routes and lines take
+  pub proceed-longest : (cs : CountsOf) (s : State) → length (wayToProceed L cs s r) ≤ L .routes + 57 * L .lines + 328
   proceed-longest cs s = omega (arith, proceed-short L ok r b cs s, asked-few, blocks-few L (sound-says L ok) (L .lines) (omega arith))
 
-  -- and at most 161 where no section has heads
-  pub unfitted-proceed-short : ((g : ℕ) → isFitted L g ≡ false) → (cs : CountsOf) (s : State) → length (wayToProceed L cs s r) ≤ L .routes + 9 * L .lines + 161
+  -- and at most 160 where no section has heads
+  pub unfitted-proceed-short : ((g : ℕ) → isFitted L g ≡ false) → (cs : CountsOf) (s : State) → length (wayToProceed L cs s r) ≤ L .routes + 9 * L .lines + 160
   unfolding fittedAsked fittedForLine
   unfitted-proceed-short none cs s = omega (arith, proceed-short L ok r b cs s, none-in-blocks L none (L .lines), asked)
     where
@@ -148,5 +149,5 @@ module _ (L : Layout) (ok : sound L ≡ true) (r : ℕ) (b : r < L .routes) wher
 
 -- so on an accepted layout
 pub accepted-proceed-short : (bytes : List ℕ) → load bytes .number ≡ 0 → (cs : CountsOf) (s : State) (r : ℕ) → r < load bytes .layout .routes
-    → length (wayToProceed (load bytes .layout) cs s r) ≤ load bytes .layout .routes + 9 * load bytes .layout .lines + 161
+    → length (wayToProceed (load bytes .layout) cs s r) ≤ load bytes .layout .routes + 9 * load bytes .layout .lines + 160
 accepted-proceed-short bytes ok cs s r b = unfitted-proceed-short _ (loaded-sound bytes ok) r b (loaded-unfitted bytes) cs s

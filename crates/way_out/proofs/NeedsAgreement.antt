@@ -2,7 +2,7 @@
 use Prim.Native.Nat.{ℕ, _<_}
 use mathlib.Core.Path.{_≡_, refl, sym, ap, _∙_}
 use mathlib.Core.Logic.{inr}
-use mathlib.Core.Bool.{Bool, true}
+use mathlib.Core.Bool.{true}
 use mathlib.Core.List.{List}
 use native.Mathlib.Omega.{arith}
 use borrow.Author.Tests.{eqb-true, eq-eqb, leb-false, not-false}
@@ -24,17 +24,11 @@ use Rattle.reasons.specs.Reasons.{notPlaced}
 use Rattle.refusals.specs.Orders.{exitRefusal, routeRefusal, setRefusal}
 use Rattle.refusals.proofs.Granted.{granted-at, when-granted, granted-sound, granted-there}
 use Rattle.interlocking.specs.declared.State.{State}
-use Rattle.interlocking.specs.declared.Answer.{Answer}
 use Rattle.interlocking.specs.State.{inRange}
 use Rattle.interlocking.specs.Rows.{setRow, rowWith, rowOf}
-use Rattle.interlocking.specs.Step.{rowRefusal, refusal, step}
-use Rattle.step_facts.proofs.Step.{Ending, done, refused-by, ending}
+use Rattle.interlocking.specs.Step.{rowRefusal, refusal}
+use Rattle.step_facts.proofs.Step.{not-refused}
 use Rattle.way_out.specs.WayToProceed.{SetNeedsAgreement}
-
--- an event that is answered by 0 is refused by nothing
-nothing-refused : (isSound : Bool) (L : Layout) (s : State) (k a b : ℕ) {r : Answer} → Ending isSound L s k a b r → r .number ≡ 0 → refusal isSound L s k a b .number ≡ 0
-nothing-refused isSound L s k a b (done e) z = e
-nothing-refused isSound L s k a b (refused-by e) z = z
 
 -- 6 was not given: each point listed reads its position
 placed : (points : List ℕ) (n : ℕ) (ps ws : List ℕ) → notPlaced points n ps ws .number ≡ 0 → (j : ℕ) → j < n → getD ps j 0 < mostPoints
@@ -72,5 +66,4 @@ module _ (L : Layout) (s : State) (r : ℕ) (exit : routeIn L r .kind ≡ 2) (pa
 
 -- a route that is set
 pub set-needs-agreement : SetNeedsAgreement
-unfolding step
-set-needs-agreement L s r exit z = agreed L s r exit (nothing-refused _ L s 4 r 0 (ending _ L s 4 r 0) z)
+set-needs-agreement L s r exit z = agreed L s r exit (not-refused L s 4 r 0 z)

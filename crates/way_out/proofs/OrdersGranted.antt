@@ -1,5 +1,5 @@
--- What is granted of the events that lead a route to proceed: throw, a lamp's report, secure and set, from what the reasons to refuse them ask.
-use Prim.Native.Nat.{ℕ, _+_, _<_}
+-- What is granted of the orders that lead a route to proceed: throw and set, from what the reasons to refuse them ask.
+use Prim.Native.Nat.{ℕ, _<_}
 use mathlib.Core.Path.{_≡_, refl, sym, ap, _∙_}
 use mathlib.Core.Logic.{_⊎_, ⊎-elim}
 use mathlib.Core.Bool.{Bool, true, false, not}
@@ -10,31 +10,33 @@ use lib.ListN.{getD}
 use Rattle.laws.specs.Choice.{if_then_else_}
 use Rattle.laws.specs.Tests.{_and_}
 use Rattle.laws.proofs.Arrays.{read-at}
-use Rattle.laws.proofs.Choice.{if-both}
-use Rattle.laws.proofs.Tests.{and-left, and-right, or-cases, not-both, fails-from, any-some, any-fails}
+use Rattle.laws.proofs.Choice.{if-both, chosen}
+use Rattle.laws.proofs.Tests.{and-left, and-right, and-both, or-cases, not-both, fails-from, any-some, any-fails}
 use Rattle.sets.specs.Sets.{mergedSet, setOf, holds}
 use Rattle.sets.proofs.Sets.{holds-none, holds-union, holds-joined, holds-setOf}
 use Rattle.track.specs.declared.Line.{Line}
+use Rattle.track.specs.Codes.{leaving}
 use Rattle.track.specs.Lists.{between}
 use Rattle.track.specs.Sizes.{mostSections, mostPoints}
 use Rattle.track.specs.Objects.{entrance}
 use Rattle.tables.specs.Readings.{reading, pointReading}
 use Rattle.tables.specs.Blocks.{isOpen, unbarred}
-use Rattle.tables.specs.Locks.{locked}
+use Rattle.tables.specs.Locks.{locked, departs}
 use Rattle.passage.specs.Passage.{arrival}
 use Rattle.lamps.specs.Lamps.{lampOf, reportsNone}
 use Rattle.layout.specs.declared.Layout.{Layout}
 use Rattle.layout.specs.Layout.{lineIn, routeIn}
 use Rattle.layout.specs.Sound.{sound}
 use Rattle.layout_facts.specs.Plain.{ownSection, entranceSignal, nearestBlock, linePoint, linePosition, path, overlap, routePoint, routePosition, Sound}
+use Rattle.layout_facts.proofs.Uses.{entered-block}
 use Rattle.reasons.specs.declared.Refusal.{Refusal}
 use Rattle.reasons.specs.Refusal.{refused, noRefusal, found}
 use Rattle.reasons.specs.Searches.{misplaced, routeLocks, lineLocks, failing}
 use Rattle.reasons.specs.Reasons.{notPlaced, conflicting, byRoute, byLine, blockBarred, blockHeld, arrivalDark}
-use Rattle.refusals.specs.Orders.{throwRefusal, exitRefusal, routeRefusal, setRefusal, secureRefusal}
+use Rattle.refusals.specs.Orders.{throwRefusal, wayRefusal, exitRefusal, routeRefusal, setRefusal, secureRefusal}
 use Rattle.interlocking.specs.declared.State.{State}
 use Rattle.interlocking.specs.State.{inRange, tablesOf}
-use Rattle.interlocking.specs.Rows.{throwRow, setRow, secureRow, rowWith, rowOf}
+use Rattle.interlocking.specs.Rows.{throwRow, setRow, rowWith, rowOf}
 use Rattle.interlocking.specs.Step.{refusal}
 use Rattle.way_out.specs.WayOut.{AtRest}
 use Rattle.step_facts.proofs.Entries.{phase, direction}
@@ -79,10 +81,10 @@ stop-none : (b : Line) (lamps : List ℕ) (w : ℕ) → lampOf lamps (entrance b
 unfolding arrivalDark reportsNone between _and_
 stop-none b lamps w q = when-none _ 31 _ (rw q)
 
--- ---- throw, a lamp's report and secure
+-- ---- throw
 
 module _ (L : Layout) (s : State) (ok : sound L ≡ true) (ranged : inRange s ≡ true) where
-  -- one of two positions, or of two directions, is no wrong second number
+  -- one of two positions is no wrong second number
   one-of-two : (w : ℕ) → (w ≡ 1) ⊎ (w ≡ 2) → not (between 1 2 w) ≡ false
   unfolding between _and_
   one-of-two w = ⊎-elim (λ q. rw q) (λ q. rw q)
@@ -99,26 +101,16 @@ module _ (L : Layout) (s : State) (ok : sound L ≡ true) (ranged : inRange s �
       ⊎-elim (λ z. not-both z (holds-none g)) (λ q. ap (reading (s .section)) (sym (eqb-true _ g q) ∙ read-at mostPoints 0 _ p (omega (arith, S .ranges .pointCount))) ∙ free)
       (or-cases _ _ (sym (holds-joined 0 _ g c) ∙ t)))))))
 
-  -- secure a neutral line whose blocks are open and not barred, whose points read their positions and (L3) at whose arrival end the lamp reports stop
-  pub secure-granted : (l w : ℕ) → l < L .lines → (w ≡ 1) ⊎ (w ≡ 2) → AtRest L s → AllUnbarred l (lineIn L l .blocks) s → LinePlaced L l s
-      → lampOf (s .lamp) (entranceSignal L l (arrival w)) ≡ 1 → refusal (sound L and inRange s) L s 6 l w .number ≡ 0
-  unfolding rowOf rowWith secureRow if_then_else_ secureRefusal blockBarred blockHeld linePoint linePosition entranceSignal lineIn noRefusal refused
-  secure-granted l w b way rest bars placed lit =
-      granted L s ok ranged 6 l w (lt-leb _ l b) refl (one-of-two w way)
-      (first-none _ _ _ (when-none _ 12 _ (ap not (eq-eqb _ 0 (rest .lines l b))))
-      (first-none _ _ _ (passing-none 11 _ _ bars)
-      (first-none _ _ _ (placed-none _ _ _ _ placed)
-      (first-none _ _ _ (passing-none 10 _ _ (λ i h. rest .blocks l i b h)) (last-none _ (stop-none _ _ w lit))))))
-
 -- ---- set a route
 
--- what an exit route asks of its line: it is secured the route's way, the block that the route enters is open and not barred, its points read their
--- positions
+-- what an exit route asks of its line: it is neutral and can be secured, since its blocks are open and not barred, its points read their positions and (L3) the
+-- lamp of the entrance signal at the arrival end reports stop
 pub record LineReady (L : Layout) (r : ℕ) (s : State) : Type 0 where
-  pub secured : direction s (routeIn L r .line) ≡ routeIn L r .end + 1
-  pub opened : isOpen (s .stage) (routeIn L r .line) (nearestBlock L (routeIn L r .line) (routeIn L r .end)) ≡ true
-  pub noBar : unbarred (s .bar) (routeIn L r .line) (nearestBlock L (routeIn L r .line) (routeIn L r .end)) ≡ true
+  pub isNeutral : direction s (routeIn L r .line) ≡ 0
+  pub opened : (i : ℕ) → i < lineIn L (routeIn L r .line) .blocks → isOpen (s .stage) (routeIn L r .line) i ≡ true
+  pub noBar : AllUnbarred (routeIn L r .line) (lineIn L (routeIn L r .line) .blocks) s
   pub placed : LinePlaced L (routeIn L r .line) s
+  pub lit : lampOf (s .lamp) (entranceSignal L (routeIn L r .line) (arrival (leaving (routeIn L r .end)))) ≡ 1
 
 -- what a route is set by: no route is locked, path and overlap read free, its points read their positions; an exit route has what it asks of its line
 pub record Prepared (L : Layout) (r : ℕ) (s : State) : Type 0 where
@@ -128,14 +120,26 @@ pub record Prepared (L : Layout) (r : ℕ) (s : State) : Type 0 where
   pub placed : RoutePlaced L r s
   pub line : routeIn L r .kind ≡ 2 → LineReady L r s
 
-module _ (L : Layout) (s : State) (ok : sound L ≡ true) (ranged : inRange s ≡ true) (r : ℕ) (b : r < L .routes) (P : Prepared L r s) where
-  -- 9, 6, 11, 10 are not given of an exit route
-  exit-none : LineReady L r s → exitRefusal (L .line) (tablesOf s) (routeIn L r) .number ≡ 0
-  unfolding exitRefusal linePoint linePosition nearestBlock lineIn
-  exit-none line =
-      first-none _ _ _ (when-none _ 9 _ (ap not (eq-eqb _ _ (line .secured))))
-      (first-none _ _ _ (placed-none _ _ _ _ (line .placed))
-      (first-none _ _ _ (when-none _ 11 _ (ap not (line .noBar))) (last-none _ (when-none _ 10 _ (ap not (line .opened))))))
+module _ (L : Layout) (s : State) (ok : sound L ≡ true) (S : Sound L) (ranged : inRange s ≡ true) (r : ℕ) (b : r < L .routes) (P : Prepared L r s) where
+  module _ (exit : routeIn L r .kind ≡ 2) (line : LineReady L r s) where
+    -- the line is secured first (L5): 12, 11, 6, 10, 31 are not given
+    way-none : wayRefusal L (tablesOf s) (routeIn L r) .number ≡ 0
+    unfolding wayRefusal departs secureRefusal blockBarred blockHeld linePoint linePosition entranceSignal lineIn
+    way-none =
+        ap (λ (x : Refusal). x .number) (chosen _ _ _ (and-both _ _ (eq-eqb _ 2 exit) (eq-eqb _ 0 (line .isNeutral))))
+        ∙ first-none _ _ _ (when-none _ 12 _ (ap not (eq-eqb _ 0 (line .isNeutral))))
+        (first-none _ _ _ (passing-none 11 _ _ (line .noBar))
+        (first-none _ _ _ (placed-none _ _ _ _ (line .placed))
+        (first-none _ _ _ (passing-none 10 _ _ (line .opened)) (last-none _ (stop-none _ _ _ (line .lit))))))
+
+    -- nor are then 6, 11, 10 of the block that it enters
+    exit-none : exitRefusal L (tablesOf s) (routeIn L r) .number ≡ 0
+    unfolding exitRefusal linePoint linePosition nearestBlock lineIn
+    exit-none =
+        let here = entered-block L S r b exit in
+        first-none _ _ _ way-none
+        (first-none _ _ _ (placed-none _ _ _ _ (line .placed))
+        (first-none _ _ _ (when-none _ 11 _ (ap not (line .noBar _ here))) (last-none _ (when-none _ 10 _ (ap not (line .opened _ here))))))
 
   -- a section of path or overlap reads free
   listed-free : (g : ℕ) → g < mostSections
@@ -157,4 +161,4 @@ module _ (L : Layout) (s : State) (ok : sound L ≡ true) (ranged : inRange s �
       (first-none _ _ _ (when-none _ 4 r (ap not (eq-eqb _ 0 (P .idle r b))))
       (first-none _ _ _ (found-none 5 _ _ (λ q c. fails-from _ (λ t. not-both (eq-eqb _ 0 (P .idle q c)) (not-true _ (and-left _ _ t)))))
       (last-none _ (first-none _ _ _ (placed-none _ _ _ _ (P .placed)) (first-none _ _ _ (all-free (s .section) _ listed-free)
-      (last-none _ (if-both (λ (x : Refusal). x .number ≡ 0) _ (λ t. exit-none (P .line (eqb-true _ 2 t))) (λ f. refl))))))))
+      (last-none _ (if-both (λ (x : Refusal). x .number ≡ 0) _ (λ t. let exit = eqb-true _ 2 t in exit-none exit (P .line exit)) (λ f. refl))))))))

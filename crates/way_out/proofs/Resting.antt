@@ -11,13 +11,12 @@ use borrow.Author.Tests.{eqb-true, eq-eqb}
 use lib.Dec.{eqb}
 use Rattle.laws.specs.Choice.{if_then_else_}
 use Rattle.laws.proofs.Choice.{if-both, chosen, passed-over}
-use Rattle.laws.proofs.Tests.{not-both, fails-from, every-at, or-cases, any-at, any-some}
+use Rattle.laws.proofs.Tests.{not-both, fails-from, any-at, any-some}
 use Rattle.track.specs.declared.Line.{Line}
-use Rattle.track.specs.Sizes.{mostPoints, mostLines, mostBlocks, mostPlaces, mostLamps}
+use Rattle.track.specs.Sizes.{mostPoints, mostBlocks, mostPlaces, mostLamps}
 use Rattle.track.specs.Blocks.{onlySection}
 use Rattle.track.proofs.OnlySection.{only-in, in-only}
 use Rattle.rules.specs.Rules.{hasBlock, isBlock}
-use Rattle.track.specs.Objects.{nearest}
 use Rattle.tables.specs.declared.Gives.{Gives}
 use Rattle.tables.specs.Readings.{recorded, reading, blockReading, blockGiven, pointReading}
 use Rattle.axles.specs.declared.Axles.{Axles}
@@ -26,21 +25,21 @@ use Rattle.passage.specs.Passage.{ownStage}
 use Rattle.lamps.specs.Lamps.{lampOf}
 use Rattle.line_block.specs.PassingBack.{waitedStageAt, passedBack}
 use Rattle.line_block.specs.OwnReadings.{ownGiven, ownStageAt, givenStages, ownStages}
-use Rattle.line_block.specs.LineRelease.{lastBlock, wasPassed, endsBy}
 use Rattle.layout.specs.declared.Layout.{Layout}
 use Rattle.layout.specs.Layout.{lineIn, routeIn}
 use Rattle.layout_facts.specs.Plain.{routePoint, routePosition, Sound}
 use Rattle.interlocking.specs.declared.State.{State}
 use Rattle.interlocking.specs.State.{withSections, withPoints, withRoutes, withLines, withBars, withAxles, withLamps}
-use Rattle.interlocking.specs.Own.{ownSection, ownPoint, throwReading, ownThrow, ownSet, ownCancel, ownSecure, ownBar, ownLamp}
+use Rattle.interlocking.specs.Own.{ownSection, ownPoint, throwReading, ownThrow, ownLock, ownCancel, ownSecure, ownBar, ownLamp}
 use Rattle.interlocking.specs.Settle.{signals, farSections, routesBy, routes, arrivals, lineRelease, settle}
-use Rattle.interlocking.specs.Rows.{pointRow, throwRow, secureRow, barRow, lampRow, rowWith, rowOf}
+use Rattle.interlocking.specs.Rows.{pointRow, throwRow, barRow, lampRow, rowWith, rowOf}
 use Rattle.interlocking.specs.Step.{own, after}
 use Rattle.step_facts.specs.Run.{Event, event}
 use Rattle.way_out.specs.WayOut.{AtRest}
 use Rattle.step_facts.proofs.Entries.{block, block-below, direction, stage, place-line, place-block, read-block, put-here, put-elsewhere}
 use Rattle.step_facts.proofs.Tells.{Tells, tells-nothing, tells-no-order, tells-once}
-use Rattle.step_facts.proofs.Within.{done, end, Done, reads, sets, cancels, secures, opens, leaves, is-done, direction-same, released}
+use Rattle.step_facts.proofs.Within.{end, Done, reads, sets, cancels, secures, opens, leaves, is-done, released}
+use Rattle.step_facts.proofs.Securing.{direction-same}
 use Rattle.line_block.proofs.PassingBackLaws.{not-waiting}
 use Rattle.step_facts.proofs.FarCases.{open-same}
 use Rattle.way_out.proofs.Freeing.{told-elsewhere}
@@ -81,7 +80,7 @@ keeps-open e b i lit d =
 module _ (L : Layout) (S : Sound L) (s : State) (e : Event) (told : (g v : ℕ) (xs : List Axles) → Tells s e g v xs → OffBlocks L g) (by-hand : e .kind ≢ 7) where
   -- an open block stays open in an event that is no manual release and gives no block anything
   pub open-stays : (l i : ℕ) → l < L .lines → i < lineIn L l .blocks → isOpen (s .stage) l i ≡ true → isOpen (end L s e .stage) l i ≡ true
-  unfolding isOpen stageOf ownSection ownStages givenStages passedBack waitedStageAt ownSet ownCancel ownSecure withSections withRoutes withLines withAxles ownStageAt lineIn
+  unfolding isOpen stageOf ownSection ownStages givenStages passedBack waitedStageAt ownLock ownCancel ownSecure withSections withRoutes withLines withAxles ownStageAt lineIn
   open-stays l i b h o = let own = go (is-done L s e) in open-same L S s e l i b h (omega (arith, own)) ∙ eq-eqb _ 0 own
     where
       few : i < mostBlocks
@@ -107,11 +106,6 @@ module _ (L : Layout) (S : Sound L) (s : State) (e : Event) (told : (g v : ℕ) 
 -- ---- sections, points and bars
 
 module _ (L : Layout) (s : State) where
-  -- securing a line leaves sections, points and bars
-  pub secure-else : (l w : ℕ) → (end L s (event 6 l w) .section ≡ s .section) × (end L s (event 6 l w) .point ≡ s .point) × (end L s (event 6 l w) .bar ≡ s .bar)
-  unfolding own rowOf rowWith secureRow ownSecure if_then_else_ after settle lineRelease withLines arrivals routes routesBy withRoutes farSections signals
-  secure-else l w = (refl, refl, refl)
-
   -- a lamp's report of stop leaves points, and it is what the lamp then reports (L3)
   pub stop-reported : (x : ℕ) → (end L s (event 15 x 1) .point ≡ s .point) × (x < mostLamps → lampOf (end L s (event 15 x 1) .lamp) x ≡ 1)
   unfolding own rowOf rowWith lampRow ownLamp withLamps recorded if_then_else_ after settle lineRelease withLines arrivals routes routesBy withRoutes farSections signals lampOf
@@ -219,7 +213,7 @@ module _ (L : Layout) (S : Sound L) (s : State) (rest : AtRest L s) where
   rest-on e q told free = record {
     routes = λ a c. idle-on L S s e a c (q .0) (q .1) (rest .routes a c);
     lines = λ l c.
-        ⊎-elim (λ z. z ∙ direction-same L (S .ranges .lineCount) s e l c (λ o. q .2 (o .0)) (λ o. q .3 (o .0)) ∙ rest .lines l c)
+        ⊎-elim (λ z. z ∙ direction-same L (S .ranges .lineCount) s e l c (⊎-elim (λ o. q .2 (o .0)) (λ D. q .0 (D .isSet))) (λ o. q .3 (o .0)) ∙ rest .lines l c)
         (λ t. t .0) (released L (S .ranges .lineCount) s e l c);
     blocks = λ l i c h. open-stays L S s e told (q .3) l i c h (rest .blocks l i c h);
     free = free;
@@ -269,28 +263,3 @@ module _ (L : Layout) (r : ℕ) where
   -- the points of the route in position
   pub points-last : Lasting L r (RoutePlaced L r)
   points-last s t on = on .placed
-
--- ---- a line that is secured
-
-module _ (L : Layout) (S : Sound L) (s : State) (l : ℕ) (b : l < L .lines) (rest : AtRest L s) where
-  -- the last block in travel is one of the line
-  last-there : (w : ℕ) → lastBlock (lineIn L l) w < lineIn L l .blocks
-  unfolding lastBlock nearest
-  last-there w = let few = S .ranges .lines l b .blockCount in if-both (λ i. i < lineIn L l .blocks) _ (λ t. omega arith) (λ f. omega arith)
-
-  -- from rest it is secured: no block was in stage 2 or 3, so the line is not released in the same event
-  pub secured-on : (w : ℕ) → direction (end L s (event 6 l w)) l ≡ w
-  unfolding own rowOf rowWith secureRow ownSecure withLines if_then_else_ endsBy wasPassed stageOf isOpen
-  secured-on w =
-      ⊎-elim (λ q. q ∙ here)
-      (λ t. absurd (⊎-elim (λ u. omega (arith, eqb-true last 3 u, was)) (λ u. omega (arith, eqb-true last 4 u, was)) (or-cases _ _ (every-at _ (t .1) 0))))
-      (released L (S .ranges .lineCount) s (event 6 l w) l b)
-    where
-      last : ℕ
-      last = stage s l (lastBlock (lineIn L l) (direction (done L s (event 6 l w)) l))
-
-      was : last ≡ 0
-      was = eqb-true _ 0 (rest .blocks l _ b (last-there _))
-
-      here : direction (done L s (event 6 l w)) l ≡ w
-      here = put-here mostLines 0 (s .direction) l w l (omega (arith, S .ranges .lineCount)) refl

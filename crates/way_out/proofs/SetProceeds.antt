@@ -28,12 +28,14 @@ use Rattle.release.specs.Release.{watchedPair, stepsAfter, goes, lockingAfter}
 use Rattle.layout.specs.declared.Layout.{Layout}
 use Rattle.layout.specs.Layout.{lineIn, routeIn}
 use Rattle.layout_facts.specs.Plain.{nearestBlock, linePoint, linePosition, path, overlap, routePoint, routePosition, Sound}
+use Rattle.layout_facts.proofs.Uses.{entered-block}
 use Rattle.interlocking.specs.declared.State.{State}
 use Rattle.interlocking.specs.State.{withRoutes, withLines}
-use Rattle.interlocking.specs.Own.{ownSet}
+use Rattle.interlocking.specs.Own.{ownLock}
 use Rattle.interlocking.specs.Settle.{fallenAt, signals, farSections, lockingOf, routeAfter, unlessIdle, routesBy, routes, arrivals, lineRelease, settle}
 use Rattle.interlocking.specs.Rows.{setRow, rowWith, rowOf}
 use Rattle.interlocking.specs.Step.{own, after}
+use Rattle.interlocking.proofs.Departure.{firstDirections, set-lines}
 use Rattle.step_facts.specs.Run.{event}
 use Rattle.step_facts.proofs.Entries.{phase, read-each, put-here, put-elsewhere}
 use Rattle.step_facts.proofs.Within.{done, lit, end, phase-lit, phase-stays}
@@ -65,7 +67,8 @@ prepared-clear L S r b s P =
     (every-one _ (implies-from _ _ (λ t.
     let exit = eqb-true _ 2 t in
     let line = P .line exit in
-    every-more _ _ _ (line .opened) (every-more _ _ _ (line .noBar)
+    let here = entered-block L S r b exit in
+    every-more _ _ _ (line .opened _ here) (every-more _ _ _ (line .noBar _ here)
     (every-one _ (placed-listed _ _ _ _ (S .ranges .lines _ (own .line (inr exit) .0) .pointCount) (line .placed)))))))))
 
 -- ---- the event
@@ -104,21 +107,26 @@ only-lowest n p r b t others = seek-here n p r (up-to r (omega arith)) b refl t
     up-to (suc i) c = rw (← add-one i) (seek-on n p i (up-to i (omega arith)) (omega arith) refl (others i (omega arith) (omega arith)))
 
 module _ (L : Layout) (S : Sound L) (r : ℕ) (b : r < L .routes) (s : State) (P : Prepared L r s) where
-  -- the event itself puts it to proceed
+  -- what the event itself does: besides what it locks it makes at most the directions anew (L5)
+  own-done : done L s (event 4 r 0) ≡ ownLock (withLines s (firstDirections (s .direction) (routeIn L r)) (s .stage)) r
+  unfolding own rowOf rowWith setRow if_then_else_ routeIn
+  own-done = set-lines (L .route) s r
+
+  -- it puts the route to proceed
   own-set : phase (done L s (event 4 r 0)) r ≡ 1
-  unfolding own rowOf rowWith setRow ownSet withRoutes if_then_else_
-  own-set = put-here mostRoutes 0 (s .phase) r 1 r (omega (arith, S .ranges .routeCount)) refl
+  unfolding ownLock withRoutes withLines
+  own-set = rw own-done (put-here mostRoutes 0 (s .phase) r 1 r (omega (arith, S .ranges .routeCount)) refl)
 
   -- with no step done
   no-step : read mostTrainRoutes 0 (done L s (event 4 r 0) .steps) r ≡ 0
-  unfolding own rowOf rowWith setRow ownSet withRoutes if_then_else_
-  no-step = put-here mostTrainRoutes 0 (s .steps) r 0 r (omega (arith, S .ranges .routeCount)) refl
+  unfolding ownLock withRoutes withLines
+  no-step = rw own-done (put-here mostTrainRoutes 0 (s .steps) r 0 r (omega (arith, S .ranges .routeCount)) refl)
 
   -- its signal does not fall
   still-lit : phase (lit L s (event 4 r 0)) r ≡ 1
-  unfolding fallenAt fallen own rowOf rowWith setRow ownSet withRoutes if_then_else_ routeIn
+  unfolding fallenAt fallen ownLock withRoutes withLines routeIn
   still-lit =
-      phase-lit L (S .ranges .routeCount) s (event 4 r 0) r b ∙ chosen _ _ _ (eq-eqb _ 1 own-set) ∙ chosen _ _ _ (prepared-clear L S r b s P)
+      phase-lit L (S .ranges .routeCount) s (event 4 r 0) r b ∙ chosen _ _ _ (eq-eqb _ 1 own-set) ∙ chosen _ _ _ (rw own-done (prepared-clear L S r b s P))
 
   -- nor is it let go
   pub set-on : phase (end L s (event 4 r 0)) r ≡ 1
@@ -129,12 +137,12 @@ module _ (L : Layout) (S : Sound L) (r : ℕ) (b : r < L .routes) (s : State) (P
 
   -- the others stay idle
   others-idle : (q : ℕ) → q < L .routes → q ≢ r → phase (end L s (event 4 r 0)) q ≡ 0
-  unfolding own rowOf rowWith setRow ownSet withRoutes if_then_else_
+  unfolding ownLock withRoutes withLines
   others-idle q c d =
       ⊎-elim (λ z. z) (λ z. z ∙ idle) (phase-stays L (S .ranges .routeCount) s (event 4 r 0) q c (omega (arith, idle)))
     where
       idle : phase (done L s (event 4 r 0)) q ≡ 0
-      idle = put-elsewhere mostRoutes 0 (s .phase) r 1 q (omega (arith, S .ranges .routeCount)) d ∙ P .idle q c
+      idle = rw own-done (put-elsewhere mostRoutes 0 (s .phase) r 1 q (omega (arith, S .ranges .routeCount)) d ∙ P .idle q c)
 
   -- so its signal shows what the route says: it is the only one at proceed
   pub set-shows : mainShows (L .routes) (L .route) (end L s (event 4 r 0) .phase) (routeIn L r .entry) ≡ proceedShown (routeIn L r)

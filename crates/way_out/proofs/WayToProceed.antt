@@ -7,6 +7,7 @@ use mathlib.Core.List.{[], _∷_, _++_}
 use native.Mathlib.Omega.{arith}
 use borrow.Author.Tests.{eqb-true, eqb-false}
 use Rattle.laws.proofs.Choice.{if-both}
+use Rattle.track.specs.Codes.{leaving}
 use Rattle.passage.specs.Passage.{arrival}
 use Rattle.lamps.specs.Lamps.{lampOf}
 use Rattle.signals.specs.MainSignals.{proceedShown, mainShows}
@@ -14,22 +15,17 @@ use Rattle.layout.specs.declared.Layout.{Layout}
 use Rattle.layout.specs.Layout.{lineIn, routeIn, signalsIn}
 use Rattle.layout.specs.Sound.{sound}
 use Rattle.layout_facts.specs.Plain.{entranceSignal, path, overlap, routePosition, LineRanges, RouteRanges, Sound}
-use Rattle.layout_facts.proofs.Order.{one-of}
-use Rattle.layout_facts.proofs.Uses.{entered-block}
 use Rattle.interlocking.specs.declared.State.{State}
-use Rattle.step_facts.specs.Run.{Event, event}
+use Rattle.step_facts.specs.Run.{event}
 use Rattle.way_out.specs.Freeing.{CountsOf}
 use Rattle.way_out.specs.WayOut.{AtRest}
-use Rattle.way_out.specs.WayToProceed.{countsAfterPath, countsAfterOverlap, countsAfterPoints, clearing, securing, lineFor, PointsAgree}
+use Rattle.way_out.specs.WayToProceed.{countsAfterPath, countsAfterOverlap, countsAfterPoints, clearing, readying, lineFor, PointsAgree}
 use Rattle.step_facts.proofs.Entries.{phase}
-use Rattle.step_facts.proofs.Tells.{tells-no-order}
-use Rattle.step_facts.proofs.Within.{end}
-use Rattle.way_out.proofs.Calm.{idle-on}
 use Rattle.way_out.proofs.Goes.{Whole, Goes, stop, goes, after-that}
 use Rattle.track.proofs.SignalNumbers.{number-main}
 use Rattle.step_facts.proofs.Granted.{lamp-granted}
-use Rattle.way_out.proofs.OrdersGranted.{AllFree, LinePlaced, RoutePlaced, AllUnbarred, secure-granted, Prepared, set-granted}
-use Rattle.way_out.proofs.Resting.{open-stays, secure-else, stop-reported, Lasting, both-last, stop-onward, rest-lasts, free-lasts, bars-last, points-last, secured-on}
+use Rattle.way_out.proofs.OrdersGranted.{AllFree, LinePlaced, RoutePlaced, AllUnbarred, Prepared, set-granted}
+use Rattle.way_out.proofs.Resting.{stop-reported, Lasting, both-last, stop-onward, rest-lasts, free-lasts, bars-last, points-last}
 use Rattle.way_out.proofs.SetProceeds.{set-on, set-shows}
 use Rattle.way_out.proofs.Turns.{unbar-turn, free-turn, place-turn}
 
@@ -80,63 +76,55 @@ module _ (L : Layout) (ok : sound L ≡ true) (S : Sound L) (cs : CountsOf) (r :
     line-there : (l < L .lines) × (routeIn L r .end ≤ 1)
     line-there = own .line (inr exit)
 
+    -- the entrance signal at the arrival end
+    abbrev lamp : ℕ
+    lamp = entranceSignal L l (arrival (leaving (routeIn L r .end)))
+
     -- its points and entrance signals are there too
     lines : LineRanges L l
     lines = S .ranges .lines l (line-there .0)
 
-    -- the line secured, the route has all that it is set by
-    secured-prepared : (s : State) → Ready L r s → AllUnbarred l (lineIn L l .blocks) s → LinePlaced L l s → Prepared L r (end L s (event 6 l (routeIn L r .end + 1)))
-    secured-prepared s q bars placed =
-        let e : Event = event 6 l (routeIn L r .end + 1) in
+    -- at rest the route has all that it is set by, where its line has no bar, its points are in position and that lamp reports stop
+    line-prepared : (s : State) → Ready L r s → AllUnbarred l (lineIn L l .blocks) s → LinePlaced L l s → lampOf (s .lamp) lamp ≡ 1 → Prepared L r s
+    line-prepared s q bars placed lit =
         let rest : AtRest L s = q .0 .0 .0 in
-        let here = entered-block L S r b exit in
-        let same = secure-else L s l (routeIn L r .end + 1) in
         record {
-          idle = λ a c. idle-on L S s e a c (omega arith) (omega arith) (rest .routes a c);
-          path = rw (same .0) (q .0 .0 .1);
-          overlap = rw (same .0) (q .0 .1);
-          placed = rw (same .1) (q .1);
+          idle = rest .routes;
+          path = q .0 .0 .1;
+          overlap = q .0 .1;
+          placed = q .1;
           line = λ k. record {
-            secured = secured-on L S s l (line-there .0) rest (routeIn L r .end + 1);
-            opened = open-stays L S s e (λ g v xs told. absurd (tells-no-order told (omega arith))) (omega arith) l _ (line-there .0) here (rest .blocks l _ (line-there .0) here);
-            noBar = rw (same .2) (bars _ here);
-            placed = rw (same .1) placed;
+            isNeutral = rest .lines l (line-there .0);
+            opened = λ i h. rest .blocks l i (line-there .0) h;
+            noBar = bars;
+            placed = placed;
+            lit = lit;
           };
         }
 
-    -- the lamp of the entrance signal at the arrival end reports stop (L3), which takes nothing from the rest, and the line is secured
-    secure-lit : (s : State) → Whole s → Ready L r s → AllUnbarred l (lineIn L l .blocks) s → LinePlaced L l s
-        → Goes L s (event 15 (entranceSignal L l (arrival (routeIn L r .end + 1))) 1 ∷ event 6 l (routeIn L r .end + 1) ∷ []) (Prepared L r)
+    -- the lamp of the entrance signal at the arrival end reports stop (L3), which takes nothing from the rest
+    lamp-stops : (s : State) → Whole s → Ready L r s → AllUnbarred l (lineIn L l .blocks) s → LinePlaced L l s → Goes L s (event 15 lamp 1 ∷ []) (Prepared L r)
     unfolding arrival signalsIn
-    secure-lit s whole q bars placed =
+    lamp-stops s whole q bars placed =
         let told = stop-reported L s lamp in
         let on = stop-onward L S s (q .0 .0 .0) r lamp in
-        goes L _ s (event 15 lamp 1) _ (lamp-granted L s ok (whole .ranged) lamp 1 (number-main _ _ _ lamp there .0)) whole
-        (λ t at still. secure t still (rw at (both-last ready-lasts (bars-last L r l (line-there .0)) s _ on (q, bars))) (rw (at, told .0) placed)
-        (rw at (told .1 (omega (arith, there, S .ranges .signalCount)))))
+        goes L _ s (event 15 lamp 1) [] (lamp-granted L s ok (whole .ranged) lamp 1 (number-main _ _ _ lamp there .0)) whole
+        (λ t at still.
+        let ready : Ready L r t × AllUnbarred l (lineIn L l .blocks) t = rw at (both-last ready-lasts (bars-last L r l (line-there .0)) s _ on (q, bars)) in
+        stop L _ t still (line-prepared t (ready .0) (ready .1) (rw (at, told .0) placed) (rw at (told .1 (omega (arith, there, S .ranges .signalCount))))))
       where
-        lamp : ℕ
-        lamp = entranceSignal L l (arrival (routeIn L r .end + 1))
-
         there : lamp < L .signals
         there = lines .entrances _ (if-both (λ n. n ≤ 1) _ (λ t. omega arith) (λ f. omega arith))
 
-        secure : (t : State) → Whole t → Ready L r t × AllUnbarred l (lineIn L l .blocks) t → LinePlaced L l t → lampOf (t .lamp) lamp ≡ 1
-            → Goes L t (event 6 l (routeIn L r .end + 1) ∷ []) (Prepared L r)
-        secure t w ready placed lit =
-            goes L _ t (event 6 l (routeIn L r .end + 1)) []
-            (secure-granted L t ok (w .ranged) l _ (line-there .0) (one-of _ 1 2 (omega (arith, line-there .1))) (ready .0 .0 .0 .0) (ready .1) placed lit) w
-            (λ u at still. stop L _ u still (rw at (secured-prepared t (ready .0) (ready .1) placed)))
-
     -- line and route do not ask one point in two positions: the bars are cleared, the line's points come in position, those of the route stay, and the
-    -- line is secured
-    secure-all : PointsAgree L r → (s : State) → Whole s → Ready L r s → Goes L s (securing L (countsAfterPoints L cs r) l (routeIn L r .end + 1)) (Prepared L r)
-    unfolding securing
-    secure-all agree s whole q =
+    -- lamp reports stop
+    ready-all : PointsAgree L r → (s : State) → Whole s → Ready L r s → Goes L s (readying L (countsAfterPoints L cs r) l (leaving (routeIn L r .end))) (Prepared L r)
+    unfolding readying
+    ready-all agree s whole q =
         after-that (unbar-turn L ok S r b (Ready L r) ready-lasts (λ t q. q .0 .0 .0) l (line-there .0) s whole q)
         (λ t w q. after-that (place-turn L ok S r b _ (both-last ready-lasts (bars-last L r l (line-there .0))) (λ t q. q .0 .0 .0 .0) (countsAfterPoints L cs r) _ _ _ (lines .points) (lines .positions)
         (λ i j. S .rule3 .linePoints l i j (line-there .0)) (λ k d j c z. agree j k c d z) t w q)
-        (λ t w q. secure-lit t w (q .0 .0) (q .0 .1) (q .1)))
+        (λ t w q. lamp-stops t w (q .0 .0) (q .0 .1) (q .1)))
 
   -- ---- all of it
 
@@ -144,7 +132,7 @@ module _ (L : Layout) (ok : sound L ≡ true) (S : Sound L) (cs : CountsOf) (r :
   line-all : (routeIn L r .kind ≡ 2 → PointsAgree L r) → (s : State) → Whole s → Ready L r s → Goes L s (lineFor L (countsAfterPoints L cs r) r) (Prepared L r)
   unfolding lineFor
   line-all agree s whole q =
-      if-both (λ es. Goes L s es (Prepared L r)) _ (λ t. let exit = eqb-true _ 2 t in secure-all exit (agree exit) s whole q)
+      if-both (λ es. Goes L s es (Prepared L r)) _ (λ t. let exit = eqb-true _ 2 t in ready-all exit (agree exit) s whole q)
       (λ f. stop L _ s whole record {
         idle = q .0 .0 .0 .routes;
         path = q .0 .0 .1;
@@ -159,5 +147,5 @@ module _ (L : Layout) (ok : sound L ≡ true) (S : Sound L) (cs : CountsOf) (r :
   comes-to-proceed agree s whole rest =
       after-that (clear-all s whole rest)
       (λ t w q. after-that (line-all agree t w q)
-      (λ t w P. goes L _ t (event 4 r 0) [] (set-granted L t ok (w .ranged) r b P) w
+      (λ t w P. goes L _ t (event 4 r 0) [] (set-granted L t ok S (w .ranged) r b P) w
       (λ u at still. stop L _ u still (rw at (set-on L S r b t P, set-shows L S r b t P)))))

@@ -6,7 +6,7 @@ use lib.Dec.{eqb}
 use lib.ListN.{length}
 use Rattle.laws.specs.Choice.{if_then_else_}
 use Rattle.laws.specs.Tables.{table, join}
-use Rattle.track.specs.Codes.{exitRoute, leaving, readPoint, throwPoint, setRoute, secureLine, unbarBlock, reportLamp, lampStop}
+use Rattle.track.specs.Codes.{exitRoute, leaving, readPoint, throwPoint, setRoute, unbarBlock, reportLamp, lampStop}
 use Rattle.track.specs.Signal.{main}
 use Rattle.passage.specs.Passage.{arrival}
 use Rattle.signals.specs.MainSignals.{proceedShown}
@@ -76,17 +76,17 @@ clearing L cs r =
     ++ (allReadsFree L (countsAfterPath L cs r) (routeIn L r .overlaps) (overlap L r)
     ++ placing L (countsAfterOverlap L cs r) (routeIn L r .points) (routePoint L r) (routePosition L r))
 
--- line l is secured in direction w (section 3, secure: 11, 6, 31): no bar on it, its points in position, and (L3, one event more than before) the lamp of the
--- entrance signal at the arrival end reports stop
-unfoldable pub securing : Layout → CountsOf → ℕ → ℕ → List Event
-securing L cs l w =
+-- line l can be secured in direction w (section 3, secure: 11, 6, 31): no bar on it, its points in position, and (L3) the lamp of the entrance signal at the
+-- arrival end reports stop
+unfoldable pub readying : Layout → CountsOf → ℕ → ℕ → List Event
+readying L cs l w =
     unbars l (lineIn L l .blocks)
-    ++ (placing L cs (lineIn L l .points) (linePoint L l) (linePosition L l)
-    ++ (event reportLamp (entranceSignal L l (arrival w)) lampStop ∷ event secureLine l w ∷ []))
+    ++ (placing L cs (lineIn L l .points) (linePoint L l) (linePosition L l) ++ (event reportLamp (entranceSignal L l (arrival w)) lampStop ∷ []))
 
--- what an exit route asks besides (section 3, set route: 9, 6, 11, 10): its line secured its way; the other kinds ask nothing of a line
+-- what an exit route asks besides (section 3, set route: 9, 6, 11, 10): that its line can be secured its way, which setting it does first (L5); the other
+-- kinds ask nothing of a line
 unfoldable pub lineFor : Layout → CountsOf → ℕ → List Event
-lineFor L cs r = if eqb (routeIn L r .kind) exitRoute then securing L cs (routeIn L r .line) (leaving (routeIn L r .end)) else []
+lineFor L cs r = if eqb (routeIn L r .kind) exitRoute then readying L cs (routeIn L r .line) (leaving (routeIn L r .end)) else []
 
 -- the way out of the state, then what the route asks, then it is set; the way out frees blocks, whose counts are not asked again
 unfoldable pub wayToProceed : Layout → CountsOf → State → ℕ → List Event
@@ -115,11 +115,11 @@ fittedAsked L r =
     fittedAmong L (routeIn L r .paths) (path L r) + fittedAmong L (routeIn L r .overlaps) (overlap L r)
     + fittedAmong L (routeIn L r .points) (λ j. ownSection L (routePoint L r j)) + fittedForLine L r
 
--- the way is granted, no longer than the layout allows (161, where it was 160 before the lamp's report, L3), and ends with the route shown locked and its
--- signal at proceed: 21 (diverging) or 22
+-- the way is granted, no longer than the layout allows (160: a lamp's report more than before L3, an order to secure less since L5), and ends with the route
+-- shown locked and its signal at proceed: 21 (diverging) or 22
 pub record WayToProceed (L : Layout) (cs : CountsOf) (s : State) (r : ℕ) : Type 0 where
   pub granted : Granted L s (wayToProceed L cs s r)
-  pub short : length (wayToProceed L cs s r) ≤ L .routes + 9 * L .lines + 161 + 6 * (fittedBlocks L (L .lines) + fittedAsked L r)
+  pub short : length (wayToProceed L cs s r) ≤ L .routes + 9 * L .lines + 160 + 6 * (fittedBlocks L (L .lines) + fittedAsked L r)
   pub locks : shownAfter L s (wayToProceed L cs s r) .route r ≡ showsLocked
   pub shows : shownAfter L s (wayToProceed L cs s r) .signal (main (routeIn L r .entry)) ≡ proceedShown (routeIn L r)
 

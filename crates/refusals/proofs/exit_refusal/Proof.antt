@@ -1,4 +1,4 @@
--- Nothing for another kind; for an exit route 9, 6, 11, 10: the first that is given is the answer.
+-- Nothing for another kind; for an exit route what is refused of its line's way, then 6, 11, 10: the first that is given is the answer.
 use Rattle.laws.proofs.Choice.{if-eq, choices}
 use Rattle.reasons.proofs.Laws.{firsts}
 use Rattle.refusals.specs.Orders.{exitRefusal}

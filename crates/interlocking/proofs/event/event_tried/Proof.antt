@@ -4,7 +4,7 @@ use borrow.Author.Needs.{needs}
 use Rattle.laws.specs.Choice.{if_then_else_}
 use Rattle.interlocking.specs.Rows.{rowWith}
 use Rattle.interlocking.proofs.Rows.{row-at}
-use Rattle.interlocking.proofs.Trying.{point-dark, throw-dark, set-dark, cancel-dark, manual-dark, bar-dark, second-dark}
+use Rattle.interlocking.proofs.Trying.{point-dark, throw-dark, cancel-dark, manual-dark, bar-dark, second-dark}
 use Rattle.interlocking.proofs.event.event_tried.Statement.{statement}
 use Rattle.interlocking.proofs.event.event_tried.Tie as tie
 
@@ -48,7 +48,7 @@ event-tried-spec =
     (λ c. row-at _ _ _ _ _ _ _ _ _ _ 1 (c .before .match .keys1) (c .section-reading .ensures))
     (λ c. row-at _ _ _ _ _ _ _ _ _ _ 2 (c .before .match .keys2) (c .point-reading .ensures ∙ point-dark _ _ _ _ _ _))
     (λ c. row-at _ _ _ _ _ _ _ _ _ _ 3 (c .before .match .keys3) (c .throw .ensures ∙ throw-dark _ _ _ _ _ _))
-    (λ c. row-at _ _ _ _ _ _ _ _ _ _ 4 (c .before .match .keys4) (c .set .ensures ∙ set-dark _ _ _ _ _ _))
+    (λ c. row-at _ _ _ _ _ _ _ _ _ _ 4 (c .before .match .keys4) (c .set .ensures))
     (λ c. row-at _ _ _ _ _ _ _ _ _ _ 5 (c .before .match .keys5) (c .cancel .ensures ∙ cancel-dark _ _ _ _ _ _))
     (λ c. row-at _ _ _ _ _ _ _ _ _ _ 6 (c .before .match .keys6) (c .secure .ensures))
     (λ c. row-at _ _ _ _ _ _ _ _ _ _ 7 (c .before .match .keys7) (c .release-by-hand .ensures ∙ manual-dark _ _ _ _ _ _))
