@@ -374,7 +374,7 @@ fn heads(c: &mut Runs) {
         c.made_fitted(label, &BRANCH_T, &form(&[1]), &events(&format!("{waits}{text}")), last);
     };
     made("waits, held", "(4 0 0)(6 0 1)", &[(10, 1), (12, 1)]);
-    made("opens by the entrance route", "(1 3 2)(1 2 1)(4 0 0)(6 0 1)", &[(9, 0), DONE]);
+    made("opens by the entrance route", "(1 3 2)(1 2 1)(6 0 1)(4 0 0)", &[DONE, DONE]);
     made("an axle more: stage 1", "(11 2 5)(12 3 5)(1 3 2)(1 2 1)(4 0 0)", &[(10, 1)]);
     made("a silent head: stage 0", "(13 3 0)(11 3 0)(12 3 4)(1 3 2)(1 2 1)(4 0 0)", &[(10, 1)]);
     made("the same count again leaves it", "(12 3 4)(15 2 1)(12 3 4)(4 0 0)(1 3 2)(1 2 1)(6 0 2)", &[(10, 1), DONE, DONE, (31, 1)]);

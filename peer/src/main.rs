@@ -2,6 +2,8 @@ mod bench;
 mod beside;
 mod cases;
 mod commands;
+mod departure;
+mod departure_cases;
 mod distant_cases;
 mod examples;
 mod fuzz;

@@ -83,7 +83,7 @@ pub fn refusals(c: &mut Runs, t: &[u8], u: &[u8]) {
     on_t(format!("{free}(7 0 1)(6 0 1)"), (31, 2));
     let mut on_u = |text: String, last: (u32, u32)| c.made("on branch U", u, &events(&text), &[last]);
     on_u(format!("{U0}(8 0 1)(4 0 0)"), (0, 0));
-    on_u(format!("{U0}(7 0 2)(4 0 0)"), (9, 0));
+    on_u(format!("{U0}(7 0 2)(4 0 0)"), (0, 0));
     on_u(format!("{U0}(4 3 0)"), (9, 0));
     on_u(format!("{U0}(2 1 2)(4 0 0)"), (6, 1));
     on_u(format!("{U0}(7 0 3)(2 1 0)(6 0 1)"), (6, 1));

@@ -4,7 +4,7 @@ use crate::lbox::{self, Var};
 use crate::level::{ADDED, LEVEL};
 use crate::num;
 use crate::records::{change, heads_of, in_range, tables, with_readings, Change, Fields, Plan, HEADS, LAMP, READ};
-use crate::{distant_cases, hand_cases, head_cases, lamp_cases, lowest_cases, run_cases};
+use crate::{departure_cases, distant_cases, hand_cases, head_cases, lamp_cases, lowest_cases, run_cases};
 use std::collections::BTreeMap;
 
 pub type Event = [u32; 3];
@@ -255,6 +255,7 @@ pub fn all(seed: u64) -> Runs {
     lamp_cases::all(&mut runs);
     distant_cases::runs(&mut runs);
     lowest_cases::all(&mut runs);
+    departure_cases::all(&mut runs);
     runs
 }
 
