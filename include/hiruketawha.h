@@ -24,18 +24,19 @@ extern "C" {
 enum {
     HIRUKETAWHA_DONE = 0, /* detail 0 */
 
-    /* Of an event (section 3; requests L1 and L3), in this order: 18, 1, 2, 30 or 34, 3, then by its kind. */
+    /* Of an event (section 3; requests L1, L3 and L5), in this order: 18, 1, 2, 30 or 34, 3, then by its kind. A line is secured by its own order
+     * and, where it is neutral, by setting an exit route, which then is refused also as securing is: after 7 and 8 by 11, 6, 10, 31 of the line. */
     HIRUKETAWHA_UNKNOWN_KIND = 1,        /* detail 0 */
     HIRUKETAWHA_NO_SUCH_OBJECT = 2,      /* detail: the first number */
     HIRUKETAWHA_SECOND_WRONG = 3,        /* the second number is wrong (both, for kind 10); detail 0 */
     HIRUKETAWHA_ROUTE_LOCKED = 4,        /* the route is locked already; detail: the route */
     HIRUKETAWHA_CONFLICT_LOCKED = 5,     /* a conflicting route is locked; detail: that route */
-    HIRUKETAWHA_POINT_NOT_SET = 6,       /* a point is not read in position; detail: the point */
+    HIRUKETAWHA_POINT_NOT_SET = 6,       /* a point of the route or of the line is not read in position; detail: the point */
     HIRUKETAWHA_SECTION_OCCUPIED = 7,    /* detail: the section */
     HIRUKETAWHA_SECTION_NONE = 8,        /* a section reads none; detail: the section */
-    HIRUKETAWHA_LINE_NOT_SECURED = 9,    /* the line is not secured that way; detail: the line */
-    HIRUKETAWHA_BLOCK_HELD = 10,         /* detail: the block's section */
-    HIRUKETAWHA_BLOCK_BARRED = 11,       /* detail: the block's section */
+    HIRUKETAWHA_LINE_NOT_SECURED = 9,    /* the line of an exit route is secured the other way; detail: the line */
+    HIRUKETAWHA_BLOCK_HELD = 10,         /* securing: any block of the line; else the one that an exit route enters; detail: the block's section */
+    HIRUKETAWHA_BLOCK_BARRED = 11,       /* of the same blocks; detail: the block's section */
     HIRUKETAWHA_LINE_SECURED = 12,       /* the line is secured already; detail: its direction */
     HIRUKETAWHA_ROUTE_NOT_LOCKED = 13,   /* detail: the route */
     HIRUKETAWHA_CANCELLING = 14,         /* the route is being cancelled already; detail: the route */
@@ -72,7 +73,8 @@ enum {
     HIRUKETAWHA_READ_SECTION = 1,        /* section, code: 1 free, 2 occupied, every other none */
     HIRUKETAWHA_READ_POINT = 2,          /* point, code: 1 left, 2 right, every other none */
     HIRUKETAWHA_THROW = 3,               /* point, position: 1 left, 2 right */
-    HIRUKETAWHA_SET_ROUTE = 4,           /* route */
+    HIRUKETAWHA_SET_ROUTE = 4,           /* route; an exit route on a neutral line first secures it the route's way (request L5), in the same event.
+                                          * Cancelling the route leaves the line secured */
     HIRUKETAWHA_CANCEL_ROUTE = 5,        /* route */
     HIRUKETAWHA_SECURE_LINE = 6,         /* line, direction: 1 from A to B, 2 from B to A */
     HIRUKETAWHA_RELEASE_LINE = 7,        /* line, ground: 1 not left, 2 in siding, 3 returned */
@@ -242,7 +244,7 @@ struct hiruketawha_load_reply hiruketawha_load(struct hiruketawha_state *state, 
 struct hiruketawha_load_reply hiruketawha_fit(struct hiruketawha_state *state, struct hiruketawha_layout *layout, const uint8_t *bytes,
                                               size_t length);
 
-/* One event (sections 3 to 6; requests L1 and L3) on the state's record, on that layout; numbers of any size. 0 and 0, and the record is the next
+/* One event (sections 3 to 6; requests L1, L3 and L5) on the state's record, on that layout; numbers of any size. 0 and 0, and the record is the next
  * state; or a refusal, 1 to 18, 30, 31, 34 or 35, and the record is as it was. */
 struct hiruketawha_reply hiruketawha_event(struct hiruketawha_state *state, const struct hiruketawha_layout *layout, uint32_t kind,
                                            uint32_t first, uint32_t second);
