@@ -5,7 +5,6 @@ use mathlib.Core.Logic.{_≢_, inl, inr}
 use mathlib.Core.Bool.{true}
 use mathlib.Core.List.{List, _∷_}
 use native.Mathlib.Decide.{ℕ-discrete}
-use Rattle.laws.specs.Tests.{_and_}
 use Rattle.track.specs.Signal.{Signal, main}
 use Rattle.track.proofs.OnlySection.{in-only}
 use Rattle.layout.specs.declared.Layout.{Layout}
