@@ -9,7 +9,7 @@ use track::codes::{AXLES_IN, AXLES_OUT, FREE, HEAD_SILENT, NONE, OCCUPIED, RESET
 // A head: the axles that it told in and out, and for each count a flag, 1 where it has come since the cold start or the head's last silence. No value is
 // out of range: a flag that is not 1 says that the count has not come, and the head is silent.
 #[repr(C)]
-#[derive(Drop)]
+#[derive(Clone, Copy)]
 pub struct Head {
     pub inward: u16,
     pub outward: u16,
@@ -20,7 +20,7 @@ pub struct Head {
 // The heads of a section; all in less all out at the last reset, round 65,536; and whether there was a reset and it is proved. 16 bytes, each of them
 // of a field. No value is out of range: with a proof that is not PROVED the section reads none.
 #[repr(C)]
-#[derive(Drop)]
+#[derive(Clone, Copy)]
 pub struct Axles {
     pub head0: Head,
     pub head1: Head,
@@ -29,7 +29,7 @@ pub struct Axles {
 }
 
 // What an event says of a section's heads: its kind, AXLES_IN, AXLES_OUT, HEAD_SILENT or RESET_AXLES; the head, 0 or 1; the count.
-#[derive(Drop)]
+#[derive(Clone, Copy)]
 pub struct Said {
     pub kind: u32,
     pub head: u8,

@@ -11,7 +11,7 @@ pub use paper::speed_of;
 
 // The lengths in metres for one headway in seconds and one speed in km/h.
 #[repr(C)]
-#[derive(Drop)]
+#[derive(Clone, Copy)]
 pub struct BlockLengths {
     pub headway: u32,
     pub speed: u32,
@@ -23,7 +23,7 @@ pub struct BlockLengths {
 
 // 0 with the lengths, or the refusal's number with a record of zeros.
 #[repr(C)]
-#[derive(Drop)]
+#[derive(Clone, Copy)]
 pub struct LengthsAnswer {
     pub number: u8,
     pub lengths: BlockLengths,

@@ -13,7 +13,7 @@ use panel::Drawn;
 
 // What is told of an event: the answer's number and its detail.
 #[repr(C)]
-#[derive(Drop)]
+#[derive(Clone, Copy)]
 pub struct Reply {
     pub number: u8,
     pub detail: u32,
@@ -21,14 +21,14 @@ pub struct Reply {
 
 // What is told of a layout file, or of a file of fitted sections: the answer's number and its detail.
 #[repr(C)]
-#[derive(Drop)]
+#[derive(Clone, Copy)]
 pub struct LoadReply {
     pub number: u8,
     pub detail: usize,
 }
 
 // The answer to such a file, with what it leaves in both records.
-#[derive(Drop)]
+#[derive(Clone, Copy)]
 struct LoadedOver {
     number: u8,
     detail: usize,

@@ -11,7 +11,7 @@ use numbers::Number;
 pub use pieces::{Piece, bring_rest, run_piece};
 
 // What stands at a place of an event file.
-#[derive(Drop)]
+#[derive(Clone, Copy)]
 pub enum Next {
     // An event, and the place after it.
     Taken {

@@ -14,7 +14,7 @@ use track::codes::AXLES_IN;
 
 // How far a run came: the state, how many events there were, the place of the next one, how many bytes were written, and why it stopped.
 // 0 it did not; 1 no room for another line; 2 the next event lies past the piece's end; 3 the file's end; 21, 22 a fault, at its place.
-#[derive(Drop)]
+#[derive(Clone, Copy)]
 pub struct Piece {
     pub state: State,
     pub count: u64,

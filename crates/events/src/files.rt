@@ -1,7 +1,7 @@
 // Files, read a piece at a time.
 
 // What a buffer holds after a read: how many bytes, whether the file has ended, and whether it could be read.
-#[derive(Drop)]
+#[derive(Clone, Copy)]
 pub struct Held {
     pub have: usize,
     pub last: bool,

@@ -4,7 +4,7 @@ use fitted::Told;
 
 // How far the file was read: what was told until then, how many bytes in the buffer are left to read, the place in the file of the first of them, and
 // why it ended. 2 it did not; 3 the file's end; 21, 22 a fault, at that place; 0 it could not be read.
-#[derive(Drop)]
+#[derive(Clone, Copy)]
 pub struct Reading {
     pub told: Told,
     pub left: usize,

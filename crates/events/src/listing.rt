@@ -5,7 +5,7 @@ use layout::Layout;
 
 // Where a run stands: the state, how many events there were, the next one's place in the buffer, how many bytes the buffer holds, how many
 // the file had before them, whether the file has ended, and whether there is more to do.
-#[derive(Drop)]
+#[derive(Clone, Copy)]
 struct Walk {
     state: State,
     count: u64,

@@ -10,7 +10,7 @@ use track::sizes::{LISTED, MOST_LISTED};
 
 // Where a reading stands. With fault 0, `at` is the next number's place and `value` the number read last.
 // With a fault, `at` is the place that it is told of, and `value` is 0.
-#[derive(Drop)]
+#[derive(Clone, Copy)]
 pub struct Cursor {
     pub at: usize,
     pub fault: u8,
@@ -18,7 +18,7 @@ pub struct Cursor {
 }
 
 // A list of at most eight numbers of objects.
-#[derive(Drop)]
+#[derive(Clone, Copy)]
 pub struct Items {
     pub cur: Cursor,
     pub count: u8,
@@ -26,7 +26,7 @@ pub struct Items {
 }
 
 // At most eight points with positions.
-#[derive(Drop)]
+#[derive(Clone, Copy)]
 pub struct Points {
     pub cur: Cursor,
     pub count: u8,

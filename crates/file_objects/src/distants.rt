@@ -10,7 +10,7 @@ use track::sizes::{DISTANTS, MOST_DISTANTS};
 const DISTANTS_VERSION: u8 = 2;
 
 // The distants: of each its carrier, 0 if free-standing or the carrying signal plus 1, and the signal that it announces.
-#[derive(Drop)]
+#[derive(Clone, Copy)]
 pub struct Distants {
     pub cur: Cursor,
     pub count: u8,

@@ -17,7 +17,7 @@ use track::sizes::{
 use track::{Counts, Line, Route};
 
 // The points' own sections.
-#[derive(Drop)]
+#[derive(Clone, Copy)]
 pub struct Owned {
     pub cur: Cursor,
     pub count: u8,
@@ -25,14 +25,14 @@ pub struct Owned {
 }
 
 // A line that was read.
-#[derive(Drop)]
+#[derive(Clone, Copy)]
 pub struct OneLine {
     pub cur: Cursor,
     pub line: Line,
 }
 
 // The lines.
-#[derive(Drop)]
+#[derive(Clone, Copy)]
 pub struct Lines {
     pub cur: Cursor,
     pub count: u8,
@@ -40,7 +40,7 @@ pub struct Lines {
 }
 
 // The line and the end of a route.
-#[derive(Drop)]
+#[derive(Clone, Copy)]
 pub struct End {
     pub cur: Cursor,
     pub line: u8,
@@ -48,7 +48,7 @@ pub struct End {
 }
 
 // What a route begins with.
-#[derive(Drop)]
+#[derive(Clone, Copy)]
 pub struct Head {
     pub cur: Cursor,
     pub entry: u8,
@@ -59,14 +59,14 @@ pub struct Head {
 }
 
 // A route that was read.
-#[derive(Drop)]
+#[derive(Clone, Copy)]
 pub struct OneRoute {
     pub cur: Cursor,
     pub route: Route,
 }
 
 // The routes.
-#[derive(Drop)]
+#[derive(Clone, Copy)]
 pub struct Routes {
     pub cur: Cursor,
     pub count: u8,

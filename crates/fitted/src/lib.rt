@@ -9,7 +9,7 @@ use numbers::Number;
 use track::sizes::SECTIONS;
 
 // What was told so far: fitted has 1 where a section was told, else 0; lacking is 1 where one was told that there is not, else 0.
-#[derive(Drop)]
+#[derive(Clone, Copy)]
 pub struct Told {
     pub fitted: [u8; SECTIONS],
     pub lacking: u8,
@@ -17,7 +17,7 @@ pub struct Told {
 
 // How far a piece of the file was read: what was told until then, the place of the next number, and why it ended.
 // 2 the next number lies past the piece's end; 3 the file's end; 21, 22 a fault, at its place.
-#[derive(Drop)]
+#[derive(Clone, Copy)]
 pub struct Piece {
     pub told: Told,
     pub at: usize,
@@ -25,7 +25,7 @@ pub struct Piece {
 }
 
 // The answer to a file of fitted sections: 0, 0 and the layout with them; or a fault's number with its place, and the layout as it was.
-#[derive(Drop)]
+#[derive(Clone, Copy)]
 pub struct Fitting {
     pub number: u8,
     pub detail: usize,

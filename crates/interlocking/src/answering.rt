@@ -23,7 +23,7 @@ use track::sizes::{LAMPS, LINES, PLACES, ROUTES, TRAIN_ROUTES};
 use track::{Line, Route};
 
 // What the walk over the routes makes: the signal at which each starts, the phases after the signals, and then phase, steps and seconds.
-#[derive(Drop)]
+#[derive(Clone, Copy)]
 pub struct Walked {
     pub entry: [u8; TRAIN_ROUTES],
     pub fallen: [u8; ROUTES],

@@ -33,7 +33,7 @@ use track::sizes::{LAMPS, LINES, PLACES, POINTS, ROUTES, SECTIONS, TRAIN_ROUTES}
 // A code for each section, point, route, line and block, as `track::codes` has them: what sections and points read, the order of a point (0 none,
 // 1, 2), the phase, the steps done and the seconds counted of a route, the direction of a line, the stage and the bar of a block, at 8 * line + block.
 // These nine tables are a state but for its heads and its lamps.
-#[derive(Drop)]
+#[derive(Clone, Copy)]
 pub struct Core {
     pub section: [u8; SECTIONS],
     pub point: [u8; POINTS],
@@ -48,7 +48,7 @@ pub struct Core {
 
 // A state: the nine tables, the heads of each section (request L1), and what the lamp of each signal reports, at the signal's number (request L3).
 #[repr(C)]
-#[derive(Drop)]
+#[derive(Clone, Copy)]
 pub struct State {
     pub section: [u8; SECTIONS],
     pub point: [u8; POINTS],
@@ -64,7 +64,7 @@ pub struct State {
 }
 
 // The answer to an event: 0 and 0 with the next state, or a refusal's number and detail with the state as it was.
-#[derive(Drop)]
+#[derive(Clone, Copy)]
 pub struct Answer {
     pub number: u8,
     pub detail: u32,
@@ -72,7 +72,7 @@ pub struct Answer {
 }
 
 // The same of the nine tables and of the heads of the section that the event names.
-#[derive(Drop)]
+#[derive(Clone, Copy)]
 pub struct CoreAnswer {
     pub number: u8,
     pub detail: u32,
@@ -82,7 +82,7 @@ pub struct CoreAnswer {
 
 // An event tried, before signals, far sections, routes and lines follow: 0 and 0 with the tables that it makes itself and what it gives, or a
 // refusal's number and detail with the tables as they were.
-#[derive(Drop)]
+#[derive(Clone, Copy)]
 pub struct Tried {
     pub next: Core,
     pub gives: Gives,

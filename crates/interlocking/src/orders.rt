@@ -17,7 +17,7 @@ use track::{Line, Route, direction_from};
 
 // What a section reading needs of the layout: how many main signals and lines there are, and the lines. It is a record of its own because the table of
 // lines handed on alone is handed as a place within the layout, and that is then copied whole at each event.
-#[derive(Drop)]
+#[derive(Clone, Copy)]
 pub struct LineTable {
     pub signals: u8,
     pub lines: u8,

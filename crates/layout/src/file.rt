@@ -10,7 +10,7 @@ use track::sizes::{LAST_VERSION, LINES, MOST_SECTIONS, MOST_SIGNALS, POINTS};
 use track::{Counts, Line};
 
 // What the file begins with: version, sections, points, signals.
-#[derive(Drop)]
+#[derive(Clone, Copy)]
 pub struct Heading {
     pub cur: Cursor,
     pub version: u8,
@@ -21,7 +21,7 @@ pub struct Heading {
 }
 
 // The whole file, as far as it could be read.
-#[derive(Drop)]
+#[derive(Clone, Copy)]
 pub struct Whole {
     pub cur: Cursor,
     pub layout: Layout,

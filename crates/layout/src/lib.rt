@@ -24,7 +24,7 @@ use track::{Counts, Line, Route};
 // fitted: 1 where a section has heads, else 0. lacking: 1 where a section was told as fitted that there is not, else 0.
 // Entries past a count are not looked at; in a layout that was loaded they are 0.
 #[repr(C)]
-#[derive(Drop)]
+#[derive(Clone, Copy)]
 pub struct Layout {
     pub version: u8,
     pub sections: u8,
@@ -44,7 +44,7 @@ pub struct Layout {
 }
 
 // The answer to a layout file: 0, 0 and the layout; or a fault's number with its detail, and the layout with no objects.
-#[derive(Drop)]
+#[derive(Clone, Copy)]
 pub struct Loaded {
     pub number: u8,
     pub detail: usize,

@@ -11,7 +11,7 @@ const LARGEST: u64 = 65535;
 // Where the reading of a text stands: the line, from 1 on; what is being read; the number so far; and the word so far, its first 32 bytes.
 // 0 between words; 1 in a number; 2 in a word that is no number; 3 in a comment; and it stopped at 4 a word that is no number, 5 a number
 // above the largest.
-#[derive(Drop)]
+#[derive(Clone, Copy)]
 pub struct Reader {
     pub line: u64,
     pub doing: u8,
@@ -21,7 +21,7 @@ pub struct Reader {
 }
 
 // A piece of a text was read: where the reading stands, how many bytes of the piece it took, how many bytes of numbers were written.
-#[derive(Drop)]
+#[derive(Clone, Copy)]
 pub struct Packed {
     pub reader: Reader,
     pub read: usize,

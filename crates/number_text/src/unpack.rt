@@ -8,7 +8,7 @@ use numbers::Number;
 
 // A piece of a file was read: how many numbers stand in the last line, the next number's place, how many bytes of text were written, and the
 // fault at that place: 0 none, 21 the piece ends, 22 a bad number.
-#[derive(Drop)]
+#[derive(Clone, Copy)]
 pub struct Unpacked {
     pub column: u64,
     pub at: usize,

@@ -7,7 +7,7 @@ ghost use Rattle.number_text.specs.Word.{is_number, number_of, word_of};
 use crate::pack;
 
 // Whether a word is a number, and which.
-#[derive(Drop)]
+#[derive(Clone, Copy)]
 pub struct Word {
     pub good: bool,
     pub value: u64,

@@ -11,7 +11,7 @@ const BYTES: usize = 3;
 const LARGEST: u64 = 65535;
 
 // What stands at a place.
-#[derive(Drop)]
+#[derive(Clone, Copy)]
 pub enum Number {
     // A number, and the place after it.
     Value { value: u64, next: usize },

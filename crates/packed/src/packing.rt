@@ -4,7 +4,7 @@ use libc::STDERR_FILENO;
 use number_text::Reader;
 
 // Where the walk over a text stands: the reading, whether there is more to do, and whether all went well so far.
-#[derive(Drop)]
+#[derive(Clone, Copy)]
 struct Walk {
     reader: Reader,
     going: bool,

@@ -4,7 +4,7 @@ use libc::STDERR_FILENO;
 
 // Where the walk over a file stands: how many numbers stand in the last line, how many bytes are left over from the piece before and how many
 // the file had before them, whether there is more to do, and whether all went well so far.
-#[derive(Drop)]
+#[derive(Clone, Copy)]
 struct Walk {
     column: u64,
     at: usize,

@@ -9,28 +9,28 @@ use numbers::Number;
 use track::sizes::{MOST_CONFLICTS, MOST_TRAIN_ROUTES, PAIRS, ROUTES};
 
 // How many pairs there are, up to 1,128.
-#[derive(Drop)]
+#[derive(Clone, Copy)]
 pub struct Count {
     pub cur: Cursor,
     pub pairs: u64,
 }
 
 // A pair of routes, by their numbers.
-#[derive(Drop)]
+#[derive(Clone, Copy)]
 pub struct Pair {
     pub first: u8,
     pub second: u8,
 }
 
 // A pair that was read.
-#[derive(Drop)]
+#[derive(Clone, Copy)]
 pub struct PairRead {
     pub cur: Cursor,
     pub pair: Pair,
 }
 
 // The pairs: the last one, and 1 at both places of each.
-#[derive(Drop)]
+#[derive(Clone, Copy)]
 pub struct Pairs {
     pub cur: Cursor,
     pub last: Pair,

@@ -19,7 +19,7 @@ use track::sizes::{
 
 // The answer to a request for the image: 0 and how many bytes it has; 18 or 27 and 0.
 #[repr(C)]
-#[derive(Drop)]
+#[derive(Clone, Copy)]
 pub struct Drawn {
     pub number: u8,
     pub length: usize,

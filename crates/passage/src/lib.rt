@@ -9,7 +9,7 @@ use track::codes::{
 use track::{Line, inner_at, nearest_block};
 
 // What lies beyond a block in a direction: the next block, or the station at the arrival end.
-#[derive(Drop)]
+#[derive(Clone, Copy)]
 pub enum Beyond {
     Block(u8),
     Station(u8),

@@ -32,7 +32,7 @@ use track::sizes::{
 use track::{Line, Route, direction_from, entrance_at, line_at, nearest_block};
 
 // A refusal: its number and its detail; number 0 where there is none.
-#[derive(Drop)]
+#[derive(Clone, Copy)]
 pub struct Refusal {
     pub number: u8,
     pub detail: u32,

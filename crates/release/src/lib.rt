@@ -9,7 +9,7 @@ use track::sizes::{LINES, PLACES, POINTS, SECTIONS};
 use track::{Line, Route, line_at, nearest_block};
 
 // What the state holds of a route: its phase, the steps done, the seconds counted.
-#[derive(Drop)]
+#[derive(Clone, Copy)]
 pub struct Locking {
     pub phase: u8,
     pub steps: u8,
@@ -17,21 +17,21 @@ pub struct Locking {
 }
 
 // One of the watched pair, a section or a block: what the event gave it, 0 for nothing, and what it reads after the event.
-#[derive(Drop)]
+#[derive(Clone, Copy)]
 pub struct Watched {
     pub given: u8,
     pub reads: u8,
 }
 
 // The watched pair of a route.
-#[derive(Drop)]
+#[derive(Clone, Copy)]
 pub struct WatchedPair {
     pub first: Watched,
     pub second: Watched,
 }
 
 // What a locked route has after an event: the phase that its signal fell to, or stayed in, and then its phase, steps and seconds.
-#[derive(Drop)]
+#[derive(Clone, Copy)]
 pub struct Settled {
     pub fallen: u8,
     pub phase: u8,

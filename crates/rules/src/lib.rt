@@ -13,7 +13,7 @@ use track::sizes::{LINES, LISTED, MOST_LINES};
 use track::{Line, Route, all_differ, entrance_at, inner_at, line_at};
 
 // What rule 6 asks of a route: its entry signal, the set of its path sections, of its points to the left, of those to the right.
-#[derive(Drop)]
+#[derive(Clone, Copy)]
 pub struct Reach {
     pub entry: u8,
     pub path: u64,

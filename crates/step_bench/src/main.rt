@@ -15,14 +15,14 @@ use libc::{STDERR_FILENO, STDOUT_FILENO};
 use track::sizes::{LAMPS, SECTIONS};
 
 // A state and the sum over the answers that led to it.
-#[derive(Drop)]
+#[derive(Clone, Copy)]
 struct Played {
     state: State,
     sum: u64,
 }
 
 // An event: its kind and its two numbers.
-#[derive(Drop)]
+#[derive(Clone, Copy)]
 struct Event {
     kind: u32,
     first: u32,

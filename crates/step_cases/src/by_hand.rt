@@ -7,7 +7,7 @@ use track::sizes::{MOST_LINES, MOST_TRAIN_ROUTES};
 
 // A change: record 0 the layout, 1 the state, 2 a line, 3 a route; which line or route; which field, counted from 0 as the record declares them;
 // which place, where the field is a table; the byte. In the table of heads a place is a byte. A number, field or place that there is not changes nothing.
-#[derive(Drop)]
+#[derive(Clone, Copy)]
 pub struct Change {
     pub record: u8,
     pub number: u8,
@@ -17,7 +17,7 @@ pub struct Change {
 }
 
 // A layout and a state.
-#[derive(Drop)]
+#[derive(Clone, Copy)]
 pub struct Records {
     pub plan: Layout,
     pub state: State,

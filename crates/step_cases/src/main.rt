@@ -19,7 +19,7 @@ use libc::STDOUT_FILENO;
 use text::{put, put_number};
 
 // An event: its kind and its two numbers.
-#[derive(Drop)]
+#[derive(Clone, Copy)]
 struct Event {
     kind: u32,
     first: u32,
@@ -27,7 +27,7 @@ struct Event {
 }
 
 // A state, and how much of the line is used.
-#[derive(Drop)]
+#[derive(Clone, Copy)]
 struct Played {
     state: State,
     at: usize,

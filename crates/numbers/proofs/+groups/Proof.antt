@@ -35,12 +35,12 @@ module _ (t : ℕ) where
   -- the group is below 128, and the number after it can be multiplied
   join_requires : groups_lts.Need-join-requires claims groups_at groups.Post
   join_requires c κs =
-      let byte = c.before.before.before.shared_slice_known2.given in
-      let at = c.before.before.before.before.before.before.before.args.at in
-      (omega (arith, byte at), λ v next e. groups_small _ _ _ _ v next (λ i. (byte i).fits) (omega arith) (sym c.before.groups.ensures ∙ e))
+      let byte = c.shared_slice_known-2-1.given in
+      let at = c.args.at in
+      (omega (arith, byte at), λ v next e. groups_small _ _ _ _ v next (λ i. (byte i).fits) (omega arith) (sym c.groups-rest.ensures ∙ e))
 
-pub +groups-spec : {M : Type 1} → statement M
-+groups-spec =
+pub +groups_spec : {M : Type 1} → statement M
++groups_spec =
     close μ-groups λ t. groups_lts.spec (claims t) (groups_at t) groups.Post
     (λ c. search cases) (λ c. search cases) (λ c. search rules)
     (λ c κs. search rules) (λ c. search rules) (λ c. search cases) (λ c. search rules) (λ c. search rules) (λ c κs. (omega arith, omega arith))

@@ -6,12 +6,12 @@ use Rattle.numbers.proofs.join.Statement.{statement}
 use Rattle.numbers.proofs.join.Tie as tie
 
 -- the product fits
-mul_t10 : tie.Need-overflow-mul-t10
-mul_t10 c = omega (arith, c.before.before.before.before.requires.1 _ _ c.before.before.rest.given.1)
+mul_t10 : tie.Need-overflow_mul-result
+mul_t10 c = omega (arith, c.requires.1 _ _ c.in-Value.is)
 
 -- the sum fits
-add_t11 : tie.Need-overflow-add-t11
-add_t11 c = omega (arith, c.before.before.before.before.requires.1 _ _ c.before.before.rest.given.1)
+add_t11 : tie.Need-overflow_add-result
+add_t11 c = omega (arith, c.requires.1 _ _ c.in-Value.is)
 
 pub join_spec : {M : Type 1} → statement M
 join_spec =

@@ -23,8 +23,8 @@ module _ (t : ℕ) where
   abbrev write_digits_below : In 1 write_digits_kinds.ps
   write_digits_below = and 1 write_digits_kinds.ps (falls 1 write_digits_kinds.ps ◌<◌ μ-write-digits t) write_digits.Pre
 
-pub +write-digits-spec : {M : Type 1} → statement M
-+write-digits-spec =
+pub +write_digits_spec : {M : Type 1} → statement M
++write_digits_spec =
     close μ-write-digits λ t. write_digits_lts.spec (write_digits_below t, write_digits.Post) (write_digits_at t) write_digits.Post
     (λ c. search numerals)
     (λ c. search numerals)

@@ -24,8 +24,8 @@ module _ (t : ℕ) where
   abbrev put_places_below : In 1 put_places_kinds.ps
   put_places_below = and 1 put_places_kinds.ps (falls 1 put_places_kinds.ps ◌<◌ μ-put-places t) put_places.Pre
 
-pub +put-places-spec : {M : Type 1} → statement M
-+put-places-spec =
+pub +put_places_spec : {M : Type 1} → statement M
++put_places_spec =
     close μ-put-places λ t. put_places_lts.spec (put_places_below t, put_places.Post, place_of.Asked, place_of.Learnt) (put_places_at t) put_places.Post
     (λ c. search placing)
     (λ c. omega arith)

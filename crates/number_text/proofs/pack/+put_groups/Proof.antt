@@ -24,8 +24,8 @@ module _ (t : ℕ) where
   abbrev put_groups_below : In 1 put_groups_kinds.ps
   put_groups_below = and 1 put_groups_kinds.ps (falls 1 put_groups_kinds.ps ◌<◌ μ-put-groups t) put_groups.Pre
 
-pub +put-groups-spec : {M : Type 1} → statement M
-+put-groups-spec =
+pub +put_groups_spec : {M : Type 1} → statement M
++put_groups_spec =
     close μ-put-groups λ t. put_groups_lts.spec (put_groups_below t, put_groups.Post) (put_groups_at t) put_groups.Post
     (λ c. search groups)
     (λ c. search groups)

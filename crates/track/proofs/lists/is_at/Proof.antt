@@ -6,4 +6,4 @@ use Rattle.track.proofs.lists.is_at.Statement.{statement}
 use Rattle.track.proofs.lists.is_at.Tie as tie
 
 pub is_at_spec : {M : Type 1} → statement M
-is_at_spec = tie.close (tie.spec (λ c κs. search rules) (λ c. simp (lent_at _ _ most_listed _ c.lent8.ensures c.before.requires)))
+is_at_spec = tie.close (tie.spec (λ c κs. search rules) (λ c. simp (lent_at _ _ most_listed _ c.lent8.ensures c.requires)))

@@ -6,4 +6,4 @@ use Rattle.track.proofs.lists.position_at.Statement.{statement}
 use Rattle.track.proofs.lists.position_at.Tie as tie
 
 pub position_at_spec : {M : Type 1} → statement M
-position_at_spec = tie.close (tie.spec (λ c κs. search rules) (λ c κs. search rules) (λ c. simp (c.is_between.ensures, lent_at _ _ most_listed _ c.before.lent8.ensures c.before.before.requires)))
+position_at_spec = tie.close (tie.spec (λ c κs. search rules) (λ c κs. search rules) (λ c. simp (c.is_between.ensures, lent_at _ _ most_listed _ c.lent8.ensures c.requires)))

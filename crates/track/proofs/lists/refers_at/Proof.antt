@@ -6,4 +6,4 @@ use Rattle.track.proofs.lists.refers_at.Statement.{statement}
 use Rattle.track.proofs.lists.refers_at.Tie as tie
 
 pub refers_at_spec : {M : Type 1} → statement M
-refers_at_spec = tie.close (tie.spec (λ c κs. search rules) (λ c. simp (lent_at _ _ most_listed _ c.lent8.ensures c.before.requires)))
+refers_at_spec = tie.close (tie.spec (λ c κs. search rules) (λ c. simp (lent_at _ _ most_listed _ c.lent8.ensures c.requires)))
