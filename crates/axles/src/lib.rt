@@ -1,4 +1,6 @@
 // Axle counters (request L1): the two heads of a section, what an event makes of them, and what the section then reads.
+#![tactic(auto)]
+
 ghost use Rattle.std.specs.Prelude.{◌≡◌};
 ghost use Rattle.axles.specs.Rounds.{around, signed};
 ghost use Rattle.axles.specs.Heads.{silent_head, cold_heads, head_after, speaks, speaking, net, number, reading_of, occupies, resets, sum_after, proof_after, told, with_proof, proves, judged, axles_after, known, axles_reading};

@@ -1,4 +1,6 @@
 // How long two blocks one after the other may be (request L13): tables 7.1 and 7.2 of JD 550 chapter 7, and the straight line between their headways.
+#![tactic(auto)]
+
 mod metres;
 mod paper;
 

@@ -1,6 +1,8 @@
 // The records that live in the cabinet from power-on, and the entries of the static library that a controller links (sections 2, 3, 7, L1).
 // One thin entry lends the state's record to the event and changes it there; all else takes and returns states as values.
 // Each call's contract is the call's definition in specs/Calls.
+#![tactic(auto)]
+
 ghost use Rattle.std.specs.Prelude.{◌≡◌};
 ghost use Rattle.layout.specs.Load.{load};
 ghost use Rattle.fitted.specs.Fitted.{fit};

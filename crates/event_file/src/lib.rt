@@ -1,4 +1,6 @@
 // Events one after another in a file, and what is printed of a run over them (section 8).
+#![tactic(auto)]
+
 mod frame;
 mod lines;
 mod pieces;

@@ -1,4 +1,6 @@
 // Reading the layout file number by number, with a cursor that keeps the first fault met: after it each read changes nothing.
+#![tactic(auto)]
+
 ghost use Rattle.std.specs.Prelude.{◌≡◌, ◌≤◌, set};
 ghost use Rattle.laws.specs.Tables.{iter};
 ghost use Rattle.fields.specs.Fields.{failed, judge, field, code, reference, none_or_reference};

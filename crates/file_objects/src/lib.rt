@@ -1,4 +1,6 @@
 // The parts of the layout file in their order: the points' own sections, the lines, the distants, the routes (section 2, request L2).
+#![tactic(auto)]
+
 mod distants;
 
 ghost use Rattle.std.specs.Prelude.{◌≡◌, ◌<◌, ◌≤◌};

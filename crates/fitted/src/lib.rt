@@ -1,4 +1,6 @@
 // Which sections have heads (L1): the file beside the layout's in which they are told, section numbers in any order; no bytes where there are none.
+#![tactic(auto)]
+
 ghost use Rattle.std.specs.Prelude.{◌≡◌, set};
 ghost use Rattle.fitted.specs.Fitted.{with_told, none_told, lacking_with, tell, fit};
 ghost use Rattle.fitted.specs.Pieces.{stop_of, ended, piece_of, answer};

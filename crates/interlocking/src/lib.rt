@@ -1,4 +1,6 @@
 // The state of the box and what an event makes of it (sections 1, 3 to 6).
+#![tactic(auto)]
+
 mod answering;
 mod event;
 mod heads;

@@ -1,4 +1,6 @@
 // What the lamps of signals report (request L3), in a table by the signals' numbers that is lent.
+#![tactic(auto)]
+
 ghost use Rattle.std.specs.Prelude.{◌≡◌};
 ghost use Rattle.track.specs.Objects.{line};
 ghost use Rattle.track.specs.SignalNumbers.{number_of};

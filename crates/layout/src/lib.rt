@@ -1,4 +1,6 @@
 // A layout: its record, the layout file, and whether a record is sound (section 2).
+#![tactic(auto)]
+
 mod distants;
 mod file;
 mod pairs_of_routes;

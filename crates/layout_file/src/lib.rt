@@ -1,1 +1,2 @@
 // Theorems on layout files alone; there is no code here.
+#![tactic(auto)]

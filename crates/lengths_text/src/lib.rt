@@ -1,4 +1,6 @@
 // What `lengths` prints (request L13).
+#![tactic(auto)]
+
 mod answer;
 mod places;
 mod sheet;

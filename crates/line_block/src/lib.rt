@@ -1,4 +1,6 @@
 // The line block (section 5) over the tables of a state: own readings, far sections, blocks that wait (request L3), and the release of a line.
+#![tactic(auto)]
+
 pub mod far_sections;
 pub mod line_release;
 pub mod own_readings;

@@ -1,4 +1,6 @@
 // The loader, for a program in another language to time.
+#![tactic(auto)]
+
 ghost use Rattle.std.specs.Prelude.{◌≡◌, ◌+◌, ◌*◌, ◌%◌, get_or};
 ghost use Rattle.track.specs.Objects.{route};
 ghost use Rattle.layout.specs.Load.{load};

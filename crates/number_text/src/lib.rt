@@ -1,4 +1,6 @@
 // Numbers as a person writes them, in decimal with comments, turned into the number form of section 2 and back, a piece of a file at a time.
+#![tactic(auto)]
+
 mod pack;
 mod unpack;
 mod word;

@@ -1,4 +1,6 @@
 // Numbers of the layout file (section 2): groups of seven bits, lowest group first, top bit set on every byte but a number's last.
+#![tactic(auto)]
+
 ghost use Rattle.std.specs.Prelude.{◌≡◌, ℕ, ◌<◌, ◌≤◌, ◌^◌};
 ghost use Rattle.numbers.specs.Number.{with_group, groups_at, at_most, largest, number_at, number_told};
 

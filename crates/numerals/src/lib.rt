@@ -1,4 +1,6 @@
 // Text written into a lent buffer: numbers in decimal, and words.
+#![tactic(auto)]
+
 ghost use Rattle.std.specs.Prelude.{◌+◌, ◌≤◌, length};
 ghost use Rattle.numerals.specs.Digits.{decimal_digits, fitting};
 ghost use Rattle.numerals.specs.Writes.{Put};

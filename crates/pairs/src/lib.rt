@@ -1,4 +1,6 @@
 // The conflicts of the layout file: pairs of routes, smaller first, strictly ascending, kept as a table of both ways (section 2).
+#![tactic(auto)]
+
 ghost use Rattle.std.specs.Prelude.{◌≡◌, ◌+◌, ◌≤◌};
 ghost use Rattle.track.specs.Sizes.{most_train_routes, most_conflicts};
 ghost use Rattle.fields.specs.Fields.{failed, judge};

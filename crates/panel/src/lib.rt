@@ -1,4 +1,6 @@
 // The panel image into a lent buffer (section 7).
+#![tactic(auto)]
+
 mod distants;
 mod lines;
 mod objects;

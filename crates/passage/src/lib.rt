@@ -1,4 +1,6 @@
 // The stages of a block: its own reading, and its far section (section 5).
+#![tactic(auto)]
+
 ghost use Rattle.std.specs.Prelude.{◌≡◌};
 ghost use Rattle.passage.specs.Passage.{free_stage, own_stage, departure, arrival, beyond, section_at, from_arrival, far_section, far_stage};
 

@@ -1,5 +1,7 @@
 // What is refused, one reason at a time, over a layout and the tables of a state that are lent (section 3). The lowest number to which a
 // reason applies is the detail.
+#![tactic(auto)]
+
 pub mod events;
 pub mod searches;
 

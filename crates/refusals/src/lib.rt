@@ -1,4 +1,6 @@
 // What is refused of any event and of each order, in the paper's order, over a layout and the tables of a state that are lent (section 3).
+#![tactic(auto)]
+
 ghost use Rattle.std.specs.Prelude.{◌≡◌, eqb};
 ghost use Rattle.laws.specs.Choice.{if◌then◌else◌};
 ghost use Rattle.track.specs.Codes.{exit_route};

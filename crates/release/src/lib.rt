@@ -1,4 +1,6 @@
 // Letting a route go: the watched pair, the three steps, the ninety seconds (section 6).
+#![tactic(auto)]
+
 ghost use Rattle.std.specs.Prelude.{◌≡◌, ◌-◌, get_or};
 ghost use Rattle.release.specs.Release.{watched_section, watched_block, exit_pair, path_pair, watched_pair, steps_after, to_vacate, end_reading, vacated, seconds_after, goes, locking_after, settled};
 

@@ -1,4 +1,6 @@
 // The seven rules of section 2, as they bear on one line, on one route, on two routes and on one distant.
+#![tactic(auto)]
+
 ghost use Rattle.std.specs.Prelude.{◌≡◌, eqb, length};
 ghost use Rattle.laws.specs.Tests.{◌or◌};
 ghost use Rattle.track.specs.Sizes.{most_listed};

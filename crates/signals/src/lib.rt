@@ -1,4 +1,6 @@
 // What main signals, block signals and distants show, over the tables of a state that are lent (section 4).
+#![tactic(auto)]
+
 mod aspects;
 mod block_signals;
 mod distants;

@@ -9,7 +9,7 @@ use Rattle.block_lengths.specs.Lengths.{float, interpolated}
 use Rattle.block_lengths.proofs.interpolate.Statement.{statement}
 use Rattle.block_lengths.proofs.interpolate.Tie as tie
 
-mul_result : tie.Need-overflow-mul-result
+mul_result : tie.Need-overflow_mul-result
 mul_result c = record { fits = lt_of_le_of_lt (small_product _ _ (omega arith) (omega arith)) (lit< tt) }
 
 pub interpolate_spec : {M : Type 1} → statement M

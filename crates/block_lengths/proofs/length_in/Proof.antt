@@ -7,7 +7,7 @@ use Rattle.block_lengths.specs.Lengths.{float, length_in}
 use Rattle.block_lengths.proofs.length_in.Statement.{statement}
 use Rattle.block_lengths.proofs.length_in.Tie as tie
 
-returns : tie.Need-returns
+returns : tie.Need-returns-then-seconds-eq0
 unfolding entry row_of seconds_over float length_in
 returns c = search choices
 
@@ -15,7 +15,7 @@ interpolate_requires : tie.Need-interpolate-requires
 unfolding entry row_of seconds_over
 interpolate_requires c κs = search (rules, no_lower)
 
-returns_2 : tie.Need-returns-2
+returns_2 : tie.Need-returns
 unfolding entry row_of seconds_over
 returns_2 c = search (rules, between_rows)
 

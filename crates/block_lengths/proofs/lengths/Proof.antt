@@ -8,23 +8,23 @@ use Rattle.block_lengths.specs.Lengths.{answer}
 use Rattle.block_lengths.proofs.lengths.Statement.{statement}
 use Rattle.block_lengths.proofs.lengths.Tie as tie
 
-returns : tie.Need-returns
+returns : tie.Need-returns-then-headway
 unfolding answer ◌or◌
 returns c = search choices
 
-returns_2 : tie.Need-returns-2
+returns_2 : tie.Need-returns-then-column-ge6
 unfolding ◌or◌
 returns_2 c = search (rules, no_column)
 
-length_in_requires : tie.Need-length-in-requires
+length_in_requires : tie.Need-length_in-plain-requires
 unfolding ◌or◌
 length_in_requires c κs = search (rules, from_120, to_600, rises_too, rises71)
 
-length_in_requires_2 : tie.Need-length-in-requires-2
+length_in_requires_2 : tie.Need-length_in-stopping-requires
 unfolding ◌or◌
 length_in_requires_2 c κs = search (rules, from_120, to_600, rises_too, rises72)
 
-returns_3 : tie.Need-returns-3
+returns_3 : tie.Need-returns
 unfolding ◌or◌
 returns_3 c = search (rules, both_lengths)
 

@@ -6,12 +6,12 @@ use Rattle.fields.proofs.fill.Statement.{statement}
 use Rattle.fields.proofs.fill.Tie as tie
 
 -- i numbers are read
-abbrev invariant-loop : tie.invariant-loop
-invariant-loop s objects n u₀ i₀ u i = Turned n (item_turn s objects) u₀ u i
+abbrev invariant-loop-i : tie.invariant-loop-i
+invariant-loop-i s objects n u₀ i₀ u i = Turned n (item_turn s objects) u₀ u i
 
 -- the numbers left
-abbrev decreases-loop : tie.decreases-loop
-decreases-loop s objects n u₀ i₀ u i = n - i
+abbrev decreases-loop-i : tie.decreases-loop-i
+decreases-loop-i s objects n u₀ i₀ u i = n - i
 
 pub fill_spec : {M : Type 1} → statement M
-fill_spec = tie.close (tie.spec invariant-loop decreases-loop (λ c. search iters) (λ c κs. search iters) (λ c. search iters) (λ c. search iters) (λ c. search iters) (λ c. search iters))
+fill_spec = tie.close (tie.spec invariant-loop-i decreases-loop-i (λ c. search iters) (λ c κs. search iters) (λ c. search iters) (λ c. search iters) (λ c. search iters) (λ c. search iters))

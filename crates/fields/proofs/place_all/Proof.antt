@@ -6,12 +6,12 @@ use Rattle.fields.proofs.place_all.Statement.{statement}
 use Rattle.fields.proofs.place_all.Tie as tie
 
 -- i points are read
-abbrev invariant-loop : tie.invariant-loop
-invariant-loop s objects n u₀ i₀ u i = Turned n (point_turn s objects) u₀ u i
+abbrev invariant-loop-i : tie.invariant-loop-i
+invariant-loop-i s objects n u₀ i₀ u i = Turned n (point_turn s objects) u₀ u i
 
 -- the points left
-abbrev decreases-loop : tie.decreases-loop
-decreases-loop s objects n u₀ i₀ u i = n - i
+abbrev decreases-loop-i : tie.decreases-loop-i
+decreases-loop-i s objects n u₀ i₀ u i = n - i
 
 pub place_all_spec : {M : Type 1} → statement M
-place_all_spec = tie.close (tie.spec invariant-loop decreases-loop (λ c. search iters) (λ c κs. search iters) (λ c. search iters) (λ c. search iters) (λ c. search iters) (λ c. search iters))
+place_all_spec = tie.close (tie.spec invariant-loop-i decreases-loop-i (λ c. search iters) (λ c κs. search iters) (λ c. search iters) (λ c. search iters) (λ c. search iters) (λ c. search iters))

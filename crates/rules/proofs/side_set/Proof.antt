@@ -6,13 +6,13 @@ use Rattle.rules.proofs.side_set.Statement.{statement}
 use Rattle.rules.proofs.side_set.Tie as tie
 
 -- those of the first i points that lie that way are in the set
-abbrev invariant-loop : tie.invariant-loop
-invariant-loop way n point position set₀ i₀ set i = Turned n (side_with way point position) 0 set i
+abbrev invariant-loop-i : tie.invariant-loop-i
+invariant-loop-i way n point position set₀ i₀ set i = Turned n (side_with way point position) 0 set i
 
 -- the points left
-abbrev decreases-loop : tie.decreases-loop
-decreases-loop way n point position set₀ i₀ set i = n - i
+abbrev decreases-loop-i : tie.decreases-loop-i
+decreases-loop-i way n point position set₀ i₀ set i = n - i
 
 pub side_set_spec : {M : Type 1} → statement M
 unfolding side_set
-side_set_spec = tie.close (tie.spec invariant-loop decreases-loop (λ c. search iters) (λ c κs. search iters) (λ c. search iters) (λ c. search iters) (λ c. search iters) (λ c. search iters))
+side_set_spec = tie.close (tie.spec invariant-loop-i decreases-loop-i (λ c. search iters) (λ c κs. search iters) (λ c. search iters) (λ c. search iters) (λ c. search iters) (λ c. search iters))

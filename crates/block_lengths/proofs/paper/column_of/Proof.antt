@@ -8,16 +8,16 @@ use Rattle.block_lengths.proofs.paper.column_of.Statement.{statement}
 use Rattle.block_lengths.proofs.paper.column_of.Tie as tie
 
 -- the lowest such column is none of those before i
-abbrev invariant-loop : tie.invariant-loop
-invariant-loop speed i₀ i = Sought 6 (λ k. eqb speed (get_or speeds k 0)) i
+abbrev invariant-loop-i : tie.invariant-loop-i
+invariant-loop-i speed i₀ i = Sought 6 (λ k. eqb speed (get_or speeds k 0)) i
 
 -- the columns left
-abbrev decreases-loop : tie.decreases-loop
-decreases-loop speed i₀ i = 6 - i
+abbrev decreases-loop-i : tie.decreases-loop-i
+decreases-loop-i speed i₀ i = 6 - i
 
 pub column_of_spec : {M : Type 1} → statement M
 unfolding column_of
 column_of_spec =
     tie.close
-    (tie.spec invariant-loop decreases-loop (λ c. search seeks) (λ c κs. search seeks) (λ c. search seeks) (λ c. search seeks) (λ c. search seeks) (λ c. search seeks)
+    (tie.spec invariant-loop-i decreases-loop-i (λ c. search seeks) (λ c κs. search seeks) (λ c. search seeks) (λ c. search seeks) (λ c. search seeks) (λ c. search seeks)
     (λ c. search seeks))

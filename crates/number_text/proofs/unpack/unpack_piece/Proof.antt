@@ -11,33 +11,33 @@ use Rattle.number_text.proofs.unpack.unpack_piece.Statement.{statement}
 use Rattle.number_text.proofs.unpack.unpack_piece.Tie as tie
 
 -- the first i turns are done
-abbrev invariant-loop : tie.invariant-loop
-invariant-loop per column bytes at out₀ n p₀ i₀ out p i =
+abbrev invariant-loop-i : tie.invariant-loop-i
+invariant-loop-i per column bytes at out₀ n p₀ i₀ out p i =
     (i ≤ n) × (7 * n ≤ length out₀) × Went out₀ 0 (7 * i) out p (iter (λ k. turn_of per bytes) i (begun column at))
 
 -- the turns left
-abbrev decreases-loop : tie.decreases-loop
-decreases-loop per column bytes at out₀ n p₀ i₀ out p i = n - i
+abbrev decreases-loop-i : tie.decreases-loop-i
+decreases-loop-i per column bytes at out₀ n p₀ i₀ out p i = n - i
 
 -- before the first turn nothing is written
-loop-holds : tie.Need-loop-init invariant-loop decreases-loop
+loop-holds : tie.Need-loop-i-init invariant-loop-i decreases-loop-i
 loop-holds c = (omega arith, omega arith, search (rules, run_start))
 
 -- a number has seven bytes of text at most, for which there is room
-turn_requires : tie.Need-turn-requires invariant-loop decreases-loop
+turn_requires : tie.Need-turn-p-requires invariant-loop-i decreases-loop-i
 turn_requires c κs = omega arith
 
 -- one turn more writes after those before it
-loop-again : tie.Need-loop-preserved invariant-loop decreases-loop
+loop-again : tie.Need-loop-i-preserved invariant-loop-i decreases-loop-i
 loop-again c =
-    let here = c.before.before.before.before.before.loop in
-    (omega arith, omega arith, run_on _ _ _ _ _ _ _ _ _ here.i here.invariant.2 c.before.before.turn.ensures)
+    let here = c.loop-i in
+    (omega arith, omega arith, run_on _ _ _ _ _ _ _ _ _ here.i here.invariant.2 c.turn-p.ensures)
 
 -- all turns are done
-returns : tie.Need-returns invariant-loop decreases-loop
+returns : tie.Need-returns invariant-loop-i decreases-loop-i
 returns c = search (rules, run_done)
 
 pub unpack_piece_spec : {M : Type 1} → statement M
 unpack_piece_spec =
     tie.close
-    (tie.spec invariant-loop decreases-loop loop-holds turn_requires (λ c. search rules) (λ c. search rules) loop-again (λ c. search rules) returns)
+    (tie.spec invariant-loop-i decreases-loop-i loop-holds turn_requires (λ c. search rules) (λ c. search rules) loop-again (λ c. search rules) returns)

@@ -8,15 +8,15 @@ use Rattle.number_text.proofs.word.all_digits.Statement.{statement}
 use Rattle.number_text.proofs.word.all_digits.Tie as tie
 
 -- all before i are digits
-abbrev invariant-loop : tie.invariant-loop
-invariant-loop word n i₀ i = (n ≡ length word) × SoFar n (λ k. is_digit (get_or word k 0)) i
+abbrev invariant-loop-i : tie.invariant-loop-i
+invariant-loop-i word n i₀ i = (n ≡ length word) × SoFar n (λ k. is_digit (get_or word k 0)) i
 
 -- the bytes left
-abbrev decreases-loop : tie.decreases-loop
-decreases-loop word n i₀ i = n - i
+abbrev decreases-loop-i : tie.decreases-loop-i
+decreases-loop-i word n i₀ i = n - i
 
 pub all_digits_spec : {M : Type 1} → statement M
 all_digits_spec =
     tie.close
-    (tie.spec invariant-loop decreases-loop (λ c. search alls) (λ c. search alls) (λ c κs. search alls) (λ c. search alls) (λ c. search alls) (λ c. search alls)
+    (tie.spec invariant-loop-i decreases-loop-i (λ c. search alls) (λ c. search alls) (λ c κs. search alls) (λ c. search alls) (λ c. search alls) (λ c. search alls)
     (λ c. search alls) (λ c. search alls))

@@ -6,12 +6,12 @@ use Rattle.signals.proofs.numbers.line_signal_shown.Statement.{statement}
 use Rattle.signals.proofs.numbers.line_signal_shown.Tie as tie
 
 -- the line has two blocks or more
-sub_each : tie.Need-overflow-sub-each
+sub_each : tie.Need-overflow_sub-each
 unfolding between_blocks
 sub_each c = search rules
 
 -- a block of the line
-cast_block_shown_2 : tie.Need-overflow-cast-block-shown-2
+cast_block_shown_2 : tie.Need-overflow_cast-j-2
 unfolding between_blocks
 cast_block_shown_2 c = search rules
 

@@ -10,13 +10,13 @@ use Rattle.tables.proofs.in_the_way.taken_of.Statement.{statement}
 use Rattle.tables.proofs.in_the_way.taken_of.Tie as tie
 
 -- of the blocks before block i, the sections of those that are held or barred are in the set
-abbrev invariant-loop : tie.invariant-loop
-invariant-loop table b l set₀ i₀ set i = Turned b.blocks (λ k s. joined_if (not (untaken table l k)) s (block_detail b k)) 0 set i
+abbrev invariant-loop-i : tie.invariant-loop-i
+invariant-loop-i table b l set₀ i₀ set i = Turned b.blocks (λ k s. joined_if (not (untaken table l k)) s (block_detail b k)) 0 set i
 
 -- the blocks left
-abbrev decreases-loop : tie.decreases-loop
-decreases-loop table b l set₀ i₀ set i = b.blocks - i
+abbrev decreases-loop-i : tie.decreases-loop-i
+decreases-loop-i table b l set₀ i₀ set i = b.blocks - i
 
 pub taken_of_spec : {M : Type 1} → statement M
 unfolding taken_of set_where
-taken_of_spec = tie.close (tie.spec invariant-loop decreases-loop (λ c. search iters) (λ c κs. search iters) (λ c. search iters) (λ c. search iters) (λ c. search iters) (λ c. search iters))
+taken_of_spec = tie.close (tie.spec invariant-loop-i decreases-loop-i (λ c. search iters) (λ c κs. search iters) (λ c. search iters) (λ c. search iters) (λ c. search iters) (λ c. search iters))

@@ -9,13 +9,13 @@ use Rattle.tables.proofs.in_the_way.unfree_of.Statement.{statement}
 use Rattle.tables.proofs.in_the_way.unfree_of.Tie as tie
 
 -- of the sections before the i-th, those that do not read free are in the set
-abbrev invariant-loop : tie.invariant-loop
-invariant-loop sections n xs set₀ i₀ set i = Turned n (λ k s. with_unfree sections s (read most_listed 0 xs k)) 0 set i
+abbrev invariant-loop-i : tie.invariant-loop-i
+invariant-loop-i sections n xs set₀ i₀ set i = Turned n (λ k s. with_unfree sections s (read most_listed 0 xs k)) 0 set i
 
 -- the sections left
-abbrev decreases-loop : tie.decreases-loop
-decreases-loop sections n xs set₀ i₀ set i = n - i
+abbrev decreases-loop-i : tie.decreases-loop-i
+decreases-loop-i sections n xs set₀ i₀ set i = n - i
 
 pub unfree_of_spec : {M : Type 1} → statement M
 unfolding unfree_of set_where with_unfree
-unfree_of_spec = tie.close (tie.spec invariant-loop decreases-loop (λ c. search iters) (λ c κs. search iters) (λ c. search iters) (λ c. search iters) (λ c. search iters) (λ c. search iters))
+unfree_of_spec = tie.close (tie.spec invariant-loop-i decreases-loop-i (λ c. search iters) (λ c κs. search iters) (λ c. search iters) (λ c. search iters) (λ c. search iters) (λ c. search iters))
