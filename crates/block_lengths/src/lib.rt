@@ -99,9 +99,8 @@ pub fn lengths(headway: u32, speed: u32) -> LengthsAnswer
     }
 }
 
-// The same for a C program.
-#[unsafe(no_mangle)]
-pub extern "C" fn hiruketawha_lengths(headway: u32, speed: u32) -> LengthsAnswer
+// The same for a C program, which calls it through block_lengths_c.
+pub fn hiruketawha_lengths(headway: u32, speed: u32) -> LengthsAnswer
     ensures { result ≡ answer headway speed }
 {
     lengths(headway, speed)

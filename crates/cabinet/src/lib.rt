@@ -1,4 +1,4 @@
-// The records that live in the cabinet from power-on, and the entries of the static library that a controller links (sections 2, 3, 7, L1).
+// The records that live in the cabinet from power-on, and the entries that a controller calls, through the static library cabinet_c (sections 2, 3, 7, L1).
 // One thin entry lends the state's record to the event and changes it there; all else takes and returns states as values.
 // Each call's contract is the call's definition in specs/Calls.
 #![tactic(auto)]
@@ -93,8 +93,7 @@ fn fit_over(bytes: &[u8], layout: Layout, state: State) -> LoadedOver
 }
 
 // Both records at power-on: a layout with no objects, so that every event gets 18 until a file is loaded, and the cold start.
-#[unsafe(no_mangle)]
-pub extern "C" fn hiruketawha_power_on(state: &mut State, layout: &mut Layout)
+pub fn hiruketawha_power_on(state: &mut State, layout: &mut Layout)
     ensures { records layout.new state.new ≡ after_call (records layout.old state.old) power_on }
 {
     *layout = layout::no_layout();
@@ -102,8 +101,7 @@ pub extern "C" fn hiruketawha_power_on(state: &mut State, layout: &mut Layout)
 }
 
 // A layout file into the layout's record, with the state started anew. A refused file leaves every byte of both records as it was.
-#[unsafe(no_mangle)]
-pub extern "C" fn hiruketawha_load(
+pub fn hiruketawha_load(
     state: &mut State,
     layout: &mut Layout,
     bytes: &[u8],
@@ -124,8 +122,7 @@ pub extern "C" fn hiruketawha_load(
 
 // The sections that have heads (L1), told beside the layout: the layout's record is equipped with these and no others, and the state starts anew.
 // A refused file leaves every byte of both records as it was.
-#[unsafe(no_mangle)]
-pub extern "C" fn hiruketawha_fit(state: &mut State, layout: &mut Layout, bytes: &[u8]) -> LoadReply
+pub fn hiruketawha_fit(state: &mut State, layout: &mut Layout, bytes: &[u8]) -> LoadReply
     ensures { (result ≡ load_reply (tells (records layout.old state.old) (fit_sections bytes.now)))
         × (records layout.new state.new ≡ after_call (records layout.old state.old) (fit_sections bytes.now)) }
 {
@@ -141,8 +138,7 @@ pub extern "C" fn hiruketawha_fit(state: &mut State, layout: &mut Layout, bytes:
 }
 
 // One event on the state's record, on the layout of the layout's record.
-#[unsafe(no_mangle)]
-pub extern "C" fn hiruketawha_event(
+pub fn hiruketawha_event(
     state: &mut State,
     layout: &Layout,
     kind: u32,
@@ -157,8 +153,7 @@ pub extern "C" fn hiruketawha_event(
 }
 
 // The panel image into a lent buffer.
-#[unsafe(no_mangle)]
-pub extern "C" fn hiruketawha_panel(state: &State, layout: &Layout, image: &mut [u8]) -> Drawn
+pub fn hiruketawha_panel(state: &State, layout: &Layout, image: &mut [u8]) -> Drawn
     ensures { (result ≡ drawn_reply (tells (records layout.now state.now) (draw_panel image.old)))
         × (image.new ≡ (tells (records layout.now state.now) (draw_panel image.old)).buffer) }
 {

@@ -27,7 +27,7 @@ table_text stopping =
 -- the sheet
 unfoldable pub sheet : List ℕ
 sheet =
-    ascii "JD 550 chapter 7: greatest length in metres of two blocks one after the other\n\n_table 7.1: where there is no stopping place\n"
+    ascii "JD 550 chapter 7: greatest length in metres of two blocks one after the other\n\nTable 7.1: where there is no stopping place\n"
     ++ table_text false
     ++ ascii "\nTable 7.2: next to a stopping place and past it\n"
     ++ table_text true

@@ -6,12 +6,12 @@ use Rattle.file_objects.proofs.own_all.Statement.{statement}
 use Rattle.file_objects.proofs.own_all.Tie as tie
 
 -- i sections are read
-abbrev invariant-loop : tie.invariant-loop
-invariant-loop s objects n u₀ i₀ u i = Turned n (section_turn s objects) u₀ u i
+abbrev invariant-loop-i : tie.invariant-loop-i
+invariant-loop-i s objects n u₀ i₀ u i = Turned n (section_turn s objects) u₀ u i
 
 -- the points left
-abbrev decreases-loop : tie.decreases-loop
-decreases-loop s objects n u₀ i₀ u i = n - i
+abbrev decreases-loop-i : tie.decreases-loop-i
+decreases-loop-i s objects n u₀ i₀ u i = n - i
 
 pub own_all_spec : {M : Type 1} → statement M
-own_all_spec = tie.close (tie.spec invariant-loop decreases-loop (λ c. search iters) (λ c κs. search iters) (λ c. search iters) (λ c. search iters) (λ c. search iters) (λ c. search iters))
+own_all_spec = tie.close (tie.spec invariant-loop-i decreases-loop-i (λ c. search iters) (λ c κs. search iters) (λ c. search iters) (λ c. search iters) (λ c. search iters) (λ c. search iters))

@@ -9,22 +9,22 @@ use Rattle.layout.proofs.in_range.Statement.{statement}
 use Rattle.layout.proofs.in_range.Tie as tie
 
 -- what each call answers, from the last to the first
-made : tie.Need-returns-5
+made : tie.Need-returns
 unfolding fits counts
 made c =
-    let heads = c.before.before.before.before.before in
-    let distants = heads.before.before in
-    let signals = distants.before.before.before in
-    let sections = signals.before.before in
-    let few = sections.before.before.before.before.before.before.before.before in
-    fits_made _ _ _ _ _ _ _ _ _ _ sections.before.is_between.ensures sections.sections_fit.ensures signals.before.lines_keep.ensures
-    signals.signal_count.ensures distants.distants_keep.ensures heads.before.routes_keep.ensures heads.heads_fit.ensures
-    c.is_between2.ensures few.before.before.before.most_distants_of.ensures few.before.if3.false few.if4.false
+    let heads = c in
+    let distants = heads in
+    let signals = distants in
+    let sections = signals in
+    let few = sections in
+    fits_made _ _ _ _ _ _ _ _ _ _ sections.is_between-sections.ensures sections.sections_fit-points.ensures signals.lines_keep-lines.ensures
+    signals.signal_count-signals.ensures distants.distants_keep-distants.ensures heads.routes_keep-routes.ensures heads.heads_fit.ensures
+    c.is_between.ensures few.most_distants_of.ensures few.if-most_distants_of-l.false few.if-n-gt-MOST_TRAIN_ROUTES.false
 
 pub in_range_spec : {M : Type 1} → statement M
 unfolding fits counts
 in_range_spec =
     tie.close
-    (tie.spec (λ c. search sections_many) (λ c. every_fails _ 2 (lt-leb _ _ c.if2.true)) (λ c κs. search rules) (λ c. search (rules, distants_many))
-    (λ c. every_fails _ 9 (lt-leb _ _ c.if4.true)) (λ c κs. search rules) (λ c κs. search rules) (λ c κs. search rules) (λ c κs. search rules)
+    (tie.spec (λ c. search sections_many) (λ c. every_fails _ 2 (lt-leb _ _ c.if-l-gt-MOST_POINTS.true)) (λ c κs. search rules) (λ c. search (rules, distants_many))
+    (λ c. every_fails _ 9 (lt-leb _ _ c.if-n-gt-MOST_TRAIN_ROUTES.true)) (λ c κs. search rules) (λ c κs. search rules) (λ c κs. search rules) (λ c κs. search rules)
     (λ c κs. search (rules, few_distants)) (λ c κs. search rules) (λ c κs. search rules) (λ c κs. search rules) made)

@@ -11,4 +11,4 @@ unfolding distants
 read_distants_spec =
     tie.close
     (tie.spec (λ c κs. search choices) (λ c. search choices) (λ c κs. search choices) (λ c κs. search (choices, code_most))
-    (λ c. if_ge _ _ _ _ _ c.before.before.if1.false (c.distants_from.ensures ∙ ap (distants_from _ _) c.before.read_code.ensures)))
+    (λ c. if_ge _ _ _ _ _ c.if-version-lt-DISTANTS_VERSION.false (c.distants_from.ensures ∙ ap (distants_from _ _) c.read_code-d.ensures)))

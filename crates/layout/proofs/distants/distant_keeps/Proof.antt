@@ -11,4 +11,4 @@ unfolding distant_keeps
 distant_keeps_spec =
     tie.close
     (tie.spec (λ c. search choices) (λ c. search choices) (λ c κs. search choices) (λ c. search choices) (λ c κs. search choices)
-    (λ c. if_ne _ _ _ _ _ c.before.if1.false (ap not c.announces_carrier.ensures)))
+    (λ c. if_ne _ _ _ _ _ c.if-k-eq0.false (ap not c.announces_carrier.ensures)))

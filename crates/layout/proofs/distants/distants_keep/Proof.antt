@@ -6,12 +6,12 @@ use Rattle.layout.proofs.distants.distants_keep.Statement.{statement}
 use Rattle.layout.proofs.distants.distants_keep.Tie as tie
 
 -- each distant before d passes the test
-abbrev invariant-loop : tie.invariant-loop
-invariant-loop k signals n carriers announced d₀ d = SoFar n (distant_keeps k signals carriers announced) d
+abbrev invariant-loop-d : tie.invariant-loop-d
+invariant-loop-d k signals n carriers announced d₀ d = SoFar n (distant_keeps k signals carriers announced) d
 
 -- the distants left
-abbrev decreases-loop : tie.decreases-loop
-decreases-loop k signals n carriers announced d₀ d = n - d
+abbrev decreases-loop-d : tie.decreases-loop-d
+decreases-loop-d k signals n carriers announced d₀ d = n - d
 
 pub distants_keep_spec : {M : Type 1} → statement M
-distants_keep_spec = tie.close (tie.spec invariant-loop decreases-loop (λ c. search alls) (λ c κs. search alls) (λ c. search alls) (λ c. search alls) (λ c. search alls) (λ c. search alls) (λ c. search alls))
+distants_keep_spec = tie.close (tie.spec invariant-loop-d decreases-loop-d (λ c. search alls) (λ c κs. search alls) (λ c. search alls) (λ c. search alls) (λ c. search alls) (λ c. search alls) (λ c. search alls))

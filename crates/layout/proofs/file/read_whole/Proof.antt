@@ -7,13 +7,13 @@ use Rattle.layout.proofs.file.read_whole.Tie as tie
 -- what each call answers, from the last to the first
 returns : tie.Need-returns
 returns c =
-    let pairs = c.before.before.before.before.before.before.before in
-    let routes = pairs.before.before in
-    let distants = routes.before.before.before in
-    let lines = distants.before.before.before.before in
-    whole_made _ _ _ _ _ _ _ _ _ _ lines.before.before.before.read_heading.ensures lines.before.Counts-of.ensures lines.read_lines.ensures
-    distants.before.few_signals.ensures distants.read_distants.ensures routes.before.counts_of2.ensures routes.read_routes.ensures
-    pairs.read_pairs.ensures c.none_fitted.ensures
+    let pairs = c in
+    let routes = pairs in
+    let distants = routes in
+    let lines = distants in
+    whole_made _ _ _ _ _ _ _ _ _ _ lines.read_heading-h.ensures lines.counts_of.ensures lines.read_lines-l.ensures
+    distants.few_signals-signals.ensures distants.read_distants-d.ensures routes.counts_of-2.ensures routes.read_routes-r.ensures
+    pairs.read_pairs-p.ensures c.none_fitted-fitted.ensures
 
 pub read_whole_spec : {M : Type 1} → statement M
 read_whole_spec =

@@ -6,12 +6,12 @@ use Rattle.layout.proofs.pairs_of_routes.pairs_mirror.Statement.{statement}
 use Rattle.layout.proofs.pairs_of_routes.pairs_mirror.Tie as tie
 
 -- of r and each route before q the table says the same both ways, 0 or 1
-abbrev invariant-loop : tie.invariant-loop
-invariant-loop m r q₀ q = SoFar r (pair_mirrors m r) q
+abbrev invariant-loop-q : tie.invariant-loop-q
+invariant-loop-q m r q₀ q = SoFar r (pair_mirrors m r) q
 
 -- the routes left
-abbrev decreases-loop : tie.decreases-loop
-decreases-loop m r q₀ q = r - q
+abbrev decreases-loop-q : tie.decreases-loop-q
+decreases-loop-q m r q₀ q = r - q
 
 pub pairs_mirror_spec : {M : Type 1} → statement M
-pairs_mirror_spec = tie.close (tie.spec invariant-loop decreases-loop (λ c. search alls) (λ c κs. search alls) (λ c. search alls) (λ c. search alls) (λ c. search alls) (λ c. search alls) (λ c. search alls))
+pairs_mirror_spec = tie.close (tie.spec invariant-loop-q decreases-loop-q (λ c. search alls) (λ c κs. search alls) (λ c. search alls) (λ c. search alls) (λ c. search alls) (λ c. search alls) (λ c. search alls))

@@ -7,12 +7,12 @@ use Rattle.layout.proofs.walks.heads_fit.Statement.{statement}
 use Rattle.layout.proofs.walks.heads_fit.Tie as tie
 
 -- the table says 0 or 1 of each section before g
-abbrev invariant-loop : tie.invariant-loop
-invariant-loop fitted n g₀ g = SoFar n (λ k. leb (get_or fitted k 0) 1) g
+abbrev invariant-loop-g : tie.invariant-loop-g
+invariant-loop-g fitted n g₀ g = SoFar n (λ k. leb (get_or fitted k 0) 1) g
 
 -- the sections left
-abbrev decreases-loop : tie.decreases-loop
-decreases-loop fitted n g₀ g = n - g
+abbrev decreases-loop-g : tie.decreases-loop-g
+decreases-loop-g fitted n g₀ g = n - g
 
 pub heads_fit_spec : {M : Type 1} → statement M
-heads_fit_spec = tie.close (tie.spec invariant-loop decreases-loop (λ c. search alls) (λ c κs. search alls) (λ c. search alls) (λ c. search alls) (λ c. search alls) (λ c. search alls) (λ c. search alls))
+heads_fit_spec = tie.close (tie.spec invariant-loop-g decreases-loop-g (λ c. search alls) (λ c κs. search alls) (λ c. search alls) (λ c. search alls) (λ c. search alls) (λ c. search alls) (λ c. search alls))

@@ -9,12 +9,12 @@ use Rattle.layout.proofs.walks.routes_keep.Statement.{statement}
 use Rattle.layout.proofs.walks.routes_keep.Tie as tie
 
 -- each route before i keeps the rule
-abbrev invariant-loop : tie.invariant-loop
-invariant-loop k c ls blocks n rs i₀ i = SoFar n (λ j. route_keeps k c ls blocks (route rs j)) i
+abbrev invariant-loop-i : tie.invariant-loop-i
+invariant-loop-i k c ls blocks n rs i₀ i = SoFar n (λ j. route_keeps k c ls blocks (route rs j)) i
 
 -- the routes left
-abbrev decreases-loop : tie.decreases-loop
-decreases-loop k c ls blocks n rs i₀ i = n - i
+abbrev decreases-loop-i : tie.decreases-loop-i
+decreases-loop-i k c ls blocks n rs i₀ i = n - i
 
 pub routes_keep_spec : {M : Type 1} → statement M
-routes_keep_spec = tie.close (tie.spec invariant-loop decreases-loop (λ c. search (alls, length_mapped)) (λ c. search (alls, length_mapped)) (λ c. search (alls, length_mapped)) (λ c. search (alls, length_mapped)) (λ c κs. search (alls, length_mapped)) (λ c. search (alls, length_mapped, kept_at)) (λ c. search (alls, length_mapped)) (λ c. search (alls, length_mapped)) (λ c. search (alls, length_mapped, kept_at)) (λ c. search (alls, length_mapped)))
+routes_keep_spec = tie.close (tie.spec invariant-loop-i decreases-loop-i (λ c. search (alls, length_mapped)) (λ c. search (alls, length_mapped)) (λ c. search (alls, length_mapped)) (λ c. search (alls, length_mapped)) (λ c κs. search (alls, length_mapped)) (λ c. search (alls, length_mapped, kept_at)) (λ c. search (alls, length_mapped)) (λ c. search (alls, length_mapped)) (λ c. search (alls, length_mapped, kept_at)) (λ c. search (alls, length_mapped)))

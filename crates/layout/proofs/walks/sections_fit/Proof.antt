@@ -8,13 +8,13 @@ use Rattle.layout.proofs.walks.sections_fit.Statement.{statement}
 use Rattle.layout.proofs.walks.sections_fit.Tie as tie
 
 -- the own section of each point before i is there
-abbrev invariant-loop : tie.invariant-loop
-invariant-loop own n sections i₀ i = SoFar n (λ p. ltb (get_or own p 0) sections) i
+abbrev invariant-loop-i : tie.invariant-loop-i
+invariant-loop-i own n sections i₀ i = SoFar n (λ p. ltb (get_or own p 0) sections) i
 
 -- the points left
-abbrev decreases-loop : tie.decreases-loop
-decreases-loop own n sections i₀ i = n - i
+abbrev decreases-loop-i : tie.decreases-loop-i
+decreases-loop-i own n sections i₀ i = n - i
 
 pub sections_fit_spec : {M : Type 1} → statement M
 unfolding sections_fit
-sections_fit_spec = tie.close (tie.spec invariant-loop decreases-loop (λ c. search alls) (λ c κs. search alls) (λ c. search alls) (λ c. search alls) (λ c. search alls) (λ c. search alls) (λ c. search alls))
+sections_fit_spec = tie.close (tie.spec invariant-loop-i decreases-loop-i (λ c. search alls) (λ c κs. search alls) (λ c. search alls) (λ c. search alls) (λ c. search alls) (λ c. search alls) (λ c. search alls))

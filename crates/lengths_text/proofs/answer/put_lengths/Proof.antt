@@ -10,16 +10,22 @@ use Rattle.lengths_text.proofs.answer.put_lengths.Tie as tie
 returns : tie.Need-returns
 unfolding ascii lengths_text
 returns c =
-    let stopping = c.before.before in
-    let plain = stopping.before.before.before.before.before in
-    let rest = plain.before.before.before.before.before in
-    let speed = rest.before.before.before.before.before in
-    let headway = speed.before.before.before.before.before in
+    let stopping = c in
+    let plain = stopping in
+    let rest = plain in
+    let speed = rest in
+    let headway = speed in
     put_within most_answer (lit≤ tt)
-    (put_then (put_then (put_then (put_then headway.put_named.ensures speed.put_named2.ensures) rest.write_word.ensures) plain.put_length.ensures) stopping.put_length2.ensures)
+    (put_then (put_then (put_then (put_then headway.put_named-speed.ensures speed.put_named-rest.ensures) rest.write_word-plain.ensures) plain.put_length-stopping.ensures) stopping.put_length.ensures)
 
 pub put_lengths_spec : {M : Type 1} → statement M
 put_lengths_spec =
     tie.close
-    (tie.spec (λ c. search rules) (λ c κs. search rules) (λ c. search rules) (λ c κs. search rules) (λ c. search rules) (λ c κs. search rules)
-    (λ c. search rules) (λ c κs. search rules) (λ c. search rules) (λ c κs. search rules) (λ c. search rules) returns)
+    (tie.spec
+    (λ c κs. search rules)
+    (λ c κs. search rules)
+    (λ c κs. search rules)
+    (λ c κs. search rules)
+    (λ c κs. search rules)
+    (λ c. search rules)
+    returns)

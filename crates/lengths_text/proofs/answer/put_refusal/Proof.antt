@@ -9,5 +9,10 @@ pub put_refusal_spec : {M : Type 1} → statement M
 unfolding ascii
 put_refusal_spec =
     tie.close
-    (tie.spec (λ c. search rules) (λ c κs. search rules) (λ c. search rules) (λ c. search (rules, headway_told)) (λ c. search rules) (λ c κs. search rules)
-    (λ c. search rules) (λ c. search (rules, speed_told)))
+    (tie.spec
+    (λ c κs. search rules)
+    (λ c. search rules)
+    (λ c. search (rules, headway_told))
+    (λ c κs. search rules)
+    (λ c. search rules)
+    (λ c. search (rules, speed_told)))

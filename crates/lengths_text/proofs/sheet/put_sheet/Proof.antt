@@ -10,20 +10,27 @@ use Rattle.lengths_text.proofs.Texts.{sheet_none}
 use Rattle.lengths_text.proofs.sheet.put_sheet.Statement.{statement}
 use Rattle.lengths_text.proofs.sheet.put_sheet.Tie as tie
 
-returns_2 : tie.Need-returns-2
+returns_2 : tie.Need-returns
 unfolding ascii sheet
 returns_2 c =
-    let notes = c.before.before in
-    let stopping = notes.before.before.before.before.before in
-    let between = stopping.before.before.before.before in
-    let plain = between.before.before.before.before.before in
-    let title = plain.before.before.before.before in
+    let notes = c in
+    let stopping = notes in
+    let between = stopping in
+    let plain = between in
+    let title = plain in
     put_room _ 0 most_sheet sheet _ _ (omega arith)
     (put_within most_sheet (lit≤ tt)
-    (put_then (put_then (put_then (put_then title.write_word.ensures plain.put_table.ensures) between.write_word2.ensures) stopping.put_table2.ensures) notes.write_word3.ensures))
+    (put_then (put_then (put_then (put_then title.write_word-plain.ensures plain.put_table-between.ensures) between.write_word-stopping.ensures) stopping.put_table-notes.ensures) notes.write_word.ensures))
 
 pub put_sheet_spec : {M : Type 1} → statement M
 put_sheet_spec =
     tie.close
-    (tie.spec (λ c. search (rules, sheet_none)) (λ c. search rules) (λ c κs. search rules) (λ c κs. search rules) (λ c. search rules) (λ c κs. search rules)
-    (λ c κs. search rules) (λ c. search rules) (λ c κs. search rules) (λ c. search rules) returns_2)
+    (tie.spec
+    (λ c. search (rules, sheet_none))
+    (λ c κs. search rules)
+    (λ c κs. search rules)
+    (λ c κs. search rules)
+    (λ c κs. search rules)
+    (λ c κs. search rules)
+    (λ c. search rules)
+    returns_2)

@@ -8,15 +8,15 @@ use Rattle.lengths_text.proofs.Writing.{sides}
 use Rattle.lengths_text.proofs.sheet.put_speeds.Statement.{statement}
 use Rattle.lengths_text.proofs.sheet.put_speeds.Tie as tie
 
-abbrev invariant-loop : tie.invariant-loop
-invariant-loop out₀ at next₀ i₀ out next i = (i ≤ 6) × Put out₀ at (side_by_side i (λ k. get_or speeds k 0)) (8 * i) out next
+abbrev invariant-loop-i : tie.invariant-loop-i
+invariant-loop-i out₀ at next₀ i₀ out next i = (i ≤ 6) × Put out₀ at (side_by_side i (λ k. get_or speeds k 0)) (8 * i) out next
 
 -- the speeds left
-abbrev decreases-loop : tie.decreases-loop
-decreases-loop out₀ at next₀ i₀ out next i = 6 - i
+abbrev decreases-loop-i : tie.decreases-loop-i
+decreases-loop-i out₀ at next₀ i₀ out next i = 6 - i
 
 pub put_speeds_spec : {M : Type 1} → statement M
 put_speeds_spec =
     tie.close
-    (tie.spec invariant-loop decreases-loop (λ c. search sides) (λ c κs. search sides) (λ c. search sides) (λ c κs. search sides) (λ c. search sides) (λ c. search sides)
+    (tie.spec invariant-loop-i decreases-loop-i (λ c. search sides) (λ c κs. search sides) (λ c. search sides) (λ c κs. search sides) (λ c. search sides) (λ c. search sides)
     (λ c. search sides) (λ c. search sides) (λ c. search sides))
