@@ -1,7 +1,7 @@
 -- What a free reading needs, told from the log.
 use Rattle.std.proofs.Common.{◌≡◌, ℕ, Bool, true, false, eqb, leb, [], ◌∷◌, ℤ, pos, negsuc, sym, refl, ap, ◌∙◌, ⊎_elim, arith, eqb-true, leb-true}
 use borrow.Author.Tests.{eqb-false}
-use Rattle.laws.specs.Choice.{if◌then◌else◌}
+use Rattle.laws.specs.Choice.{when◌then◌else◌}
 use Rattle.laws.specs.Tests.{◌or◌, every}
 use Rattle.laws.proofs.Tests.{and_left, and_right, or_cases, not_both, every_at}
 use Rattle.track.specs.Codes.{free, occupied}
@@ -15,7 +15,7 @@ use Rattle.axles.proofs.HeadLog.{log_reads, reset_was}
 
 -- of the numbers from 0 on only 0 says free: 1 to 255 say occupied, the others none
 free_by : (n : ℕ) (s t : Bool) → eqb n 0 ≡ s → leb n 255 ≡ t → reading_of (pos n) ≡ free → n ≡ 0
-unfolding reading_of if◌then◌else◌
+unfolding reading_of when◌then◌else◌
 free_by n true t p q e = eqb-true n 0 p
 free_by n false true p q e = let z : ◌≡◌ {A = ℕ} 2 1 = rw (p, q) at e in absurd (omega arith)
 free_by n false false p q e = let z : ◌≡◌ {A = ℕ} 3 1 = rw (p, q) at e in absurd (omega arith)
@@ -28,7 +28,7 @@ says_free (negsuc n) e = absurd (let z : ◌≡◌ {A = ℕ} 3 1 = e in omega ar
 
 -- of the numbers from 0 on only 1 to 255 say occupied
 few_by : (n : ℕ) (s t : Bool) → eqb n 0 ≡ s → leb n 255 ≡ t → reading_of (pos n) ≡ occupied → Few (pos n)
-unfolding reading_of if◌then◌else◌
+unfolding reading_of when◌then◌else◌
 few_by n true t p q e = let z : ◌≡◌ {A = ℕ} 1 2 = rw p at e in absurd (omega arith)
 few_by n false true p q e = record { axles = n; some = let f = eqb-false n 0 p in omega arith; most = leb-true n 255 q; are = refl }
 few_by n false false p q e = let z : ◌≡◌ {A = ℕ} 3 2 = rw (p, q) at e in absurd (omega arith)
@@ -56,7 +56,7 @@ moment_now es o w = record {
 
 -- after an event more that is no reset it is the same moment
 moment_then : (e : Said) (es : HeadLog) → is_reset e es ≡ false → ProvedSince es → ProvedSince (e ∷ es)
-unfolding resets_in if◌then◌else◌
+unfolding resets_in when◌then◌else◌
 moment_then e es r m = record {
   since = e ∷ m.since;
   moment = m.moment;
@@ -70,7 +70,7 @@ moment_then e es r m = record {
 -- one event: a reset proves nothing; else the number now does, or what was before it
 proved_by : (e : Said) (es : HeadLog) (r : Bool) → is_reset e es ≡ r → (proved_told es ≡ true → was_reset es ≡ true → ProvedSince es)
     → proved_told (e ∷ es) ≡ true → was_reset (e ∷ es) ≡ true → ProvedSince (e ∷ es)
-unfolding proved_told if◌then◌else◌ ◌or◌
+unfolding proved_told when◌then◌else◌ ◌or◌
 proved_by e es true r earlier p w = not_both (rw r at p) refl
 proved_by e es false r earlier p w =
     ⊎_elim (λ o. moment_now (e ∷ es) o w) (λ v. moment_then e es r (earlier v (rw (reset_was e es, r) at w)))
@@ -86,7 +86,7 @@ proved_since (e ∷ es) p w = proved_by e es (is_reset e es) refl (proved_since 
 
 -- of the log: the three tests hold, since else it tells none, and the number says free
 free_from : (es : HeadLog) (t : Bool) → every (both_speak es ∷ was_reset es ∷ proved_told es ∷ []) ≡ t → reading_told es ≡ free → FreeFrom es
-unfolding reading_told if◌then◌else◌
+unfolding reading_told when◌then◌else◌
 free_from es true t e = record {
   speak = every_at _ t 0;
   proved_then = proved_since es (every_at _ t 2) (every_at _ t 1);

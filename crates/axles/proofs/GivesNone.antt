@@ -1,6 +1,6 @@
 -- What gives none, whatever the heads held before, and what changes nothing.
 use Rattle.std.proofs.Common.{◌≡◌, ℕ, Bool, true, false, eqb, ◌⊎◌, pos, refl, ap, ◌∙◌, inl, inr, eq-eqb}
-use Rattle.laws.specs.Choice.{if◌then◌else◌}
+use Rattle.laws.specs.Choice.{when◌then◌else◌}
 use Rattle.laws.specs.Tests.{◌and◌}
 use Rattle.laws.proofs.Choice.{chosen, passed_over}
 use Rattle.laws.proofs.Tests.{and_both, first_fails, second_fails}
@@ -32,7 +32,7 @@ after_speaks x e = let same = after_same x e in rw (same.head0, same.head1)
 
 -- a head that says it is silent has told nothing
 head_silenced : (h : Head) (k : ℕ) (e : Said) → e.kind ≡ 13 → e.head ≡ k → speaks (head_after h k e) ≡ false
-unfolding head_after speaks silent_head if◌then◌else◌ ◌and◌
+unfolding head_after speaks silent_head when◌then◌else◌ ◌and◌
 head_silenced h k e p q = rw (p, eq-eqb e.head k q)
 
 -- L1: a head that says it is silent gives none, whichever of the two it is
@@ -50,7 +50,7 @@ reset_speaks x e p = rw (reset_head x.head0 0 e p, reset_head x.head1 1 e p)
 
 -- where the stored sum is that of the counts the number is 0
 number_zero : (x y : Axles) → net y ≡ net x → y.sum ≡ around (net x) → number y ≡ pos 0
-unfolding number signed if◌then◌else◌
+unfolding number signed when◌then◌else◌
 number_zero x y p q = rw (p, q, around_back (net x) (net x), around_self (net x))
 
 module _ (x : Axles) (e : Said) (p : e.kind ≡ 14) (s : speaking x ≡ true) where
@@ -76,7 +76,7 @@ module _ (x : Axles) (e : Said) (p : e.kind ≡ 14) (s : speaking x ≡ true) wh
 
   -- and 0 proves nothing
   reset_proves_not : proves (told x e) ≡ false
-  unfolding proves occupies reading_of if◌then◌else◌
+  unfolding proves occupies reading_of when◌then◌else◌
   reset_proves_not = second_fails _ _ (second_fails _ _ (rw reset_number))
 
   -- so the section is unproved after the reset
@@ -103,7 +103,7 @@ module _ (x : Axles) (e : Said) (p : e.kind ≡ 14) (s : speaking x ≡ false) w
 
   -- it tells nothing
   refused_told : told x e ≡ x
-  unfolding told sum_after proof_after if◌then◌else◌
+  unfolding told sum_after proof_after when◌then◌else◌
   refused_told = rw (refused_resets_not, reset_head x.head0 0 e p, reset_head x.head1 1 e p)
 
   -- and with a head silent no number proves anything

@@ -1,7 +1,7 @@
 -- The heads after a log, event by event from the cold start, read what the log tells.
 use Rattle.std.proofs.Common.{◌≡◌, ℕ, suc, Bool, true, false, eqb, leb, [], ◌∷◌, ℤ, pos, ◌-ℤ◌, sym, refl, ap, ◌∙◌, arith, ne_eqb, eqb-true, le-leb}
 use native.Mathlib.Decide.{ℕ_discrete}
-use Rattle.laws.specs.Choice.{if◌then◌else◌}
+use Rattle.laws.specs.Choice.{when◌then◌else◌}
 use Rattle.laws.specs.Tests.{◌and◌, ◌or◌, every}
 use Rattle.laws.specs.Totals.{bit}
 use Rattle.laws.proofs.Choice.{if_under}
@@ -30,7 +30,7 @@ head_told h es = record {
 
 -- whether there was a reset and it is proved
 unfoldable proof_told : Bool → Bool → ℕ
-proof_told r p = if r then (if p then proved else unproved) else no_reset
+proof_told r p = when r then (when p then proved else unproved) else no_reset
 
 -- a record with a log's heads, whatever its sum and its proof
 abbrev heads : HeadLog → ℕ → ℕ → Axles
@@ -62,7 +62,7 @@ kind_of k = kind_by k (ℕ_discrete k 11) (ℕ_discrete k 12) (ℕ_discrete k 13
 
 -- what an event makes of a head, by its kind and by whether it is the head's own
 head_by : {k : ℕ} → Kind k → (g n h : ℕ) (es : HeadLog) (t : Bool) → eqb g h ≡ t → head_after (head_told h es) h (said k g n) ≡ head_told h (said k g n ∷ es)
-unfolding head_after head_told last_told has_told says bit silent_head if◌then◌else◌ ◌and◌
+unfolding head_after head_told last_told has_told says bit silent_head when◌then◌else◌ ◌and◌
 head_by count_in g n h es true e = rw e
 head_by count_in g n h es false e = rw e
 head_by count_out g n h es true e = rw e
@@ -117,13 +117,13 @@ sum_step e es p =
     rw (resets_told e es (around (net_at_reset es)) p, net_told_law es (around (net_at_reset es)) p) (if_under around (is_reset e es) (net_told es) (net_at_reset es))
 
 -- a reset of the log takes the proof away
-proof_step : (e : Said) (es : HeadLog) (s p : ℕ) → proof_after (heads es s p) e ≡ if is_reset e es then unproved else p
+proof_step : (e : Said) (es : HeadLog) (s p : ℕ) → proof_after (heads es s p) e ≡ when is_reset e es then unproved else p
 unfolding proof_after
 proof_step e es s p = rw (resets_told e es s p)
 
 -- the whole record before the number is judged: each field by its own step
 told_step : (e : Said) (es : HeadLog) (p : ℕ)
-    → told (heads es (around (net_at_reset es)) p) e ≡ heads (e ∷ es) (around (net_at_reset (e ∷ es))) (if is_reset e es then unproved else p)
+    → told (heads es (around (net_at_reset es)) p) e ≡ heads (e ∷ es) (around (net_at_reset (e ∷ es))) (when is_reset e es then unproved else p)
 unfolding told
 told_step e es p = rw (head_step e 0 es, head_step e 1 es, sum_step e es p, proof_step e es (around (net_at_reset es)) p)
 
@@ -138,13 +138,13 @@ number_at_reset e es r =
 
 -- so it is not in 1 to 255
 reset_not_occupies : (e : Said) (es : HeadLog) → is_reset e es ≡ true → occupies_told (e ∷ es) ≡ false
-unfolding occupies_told reading_of if◌then◌else◌
+unfolding occupies_told reading_of when◌then◌else◌
 reset_not_occupies e es r = rw (number_at_reset e es r) (second_fails (both_speak (e ∷ es)) false refl)
 
 -- the proof, by whether the event is a reset, there was one, it was proved, and the number now is in 1 to 255 with neither head silent
 proof_by : (r w v o : Bool) → (r ≡ true → o ≡ false) →
-    (if eqb (if r then 1 else proof_told w v) 1 and o then 2 else (if r then 1 else proof_told w v)) ≡ proof_told (r or w) (if r then false else (o or v))
-unfolding proof_told if◌then◌else◌ ◌and◌ ◌or◌
+    (when eqb (when r then 1 else proof_told w v) 1 and o then 2 else (when r then 1 else proof_told w v)) ≡ proof_told (r or w) (when r then false else (o or v))
+unfolding proof_told when◌then◌else◌ ◌and◌ ◌or◌
 proof_by true w v true h = not_both refl (h refl)
 proof_by true w v false h = refl
 proof_by false false v o h = refl
@@ -155,16 +155,16 @@ proof_by false true false false h = refl
 
 -- judging a record with a log's heads goes by the log's number
 judged_told : (es : HeadLog) (p : ℕ)
-    → judged (heads es (around (net_at_reset es)) p) ≡ heads es (around (net_at_reset es)) (if eqb p unproved and occupies_told es then proved else p)
+    → judged (heads es (around (net_at_reset es)) p) ≡ heads es (around (net_at_reset es)) (when eqb p unproved and occupies_told es then proved else p)
 unfolding judged proves with_proof
 judged_told es p = rw (occupies_told_law es p) (if_under (heads es (around (net_at_reset es))) (eqb p unproved and occupies_told es) proved p)
 
 -- there was a reset where the event is one or there was one before it
 pub reset_was : (e : Said) (es : HeadLog) → was_reset (e ∷ es) ≡ is_reset e es or was_reset es
-unfolding was_reset resets_in if◌then◌else◌ ◌or◌
+unfolding was_reset resets_in when◌then◌else◌ ◌or◌
 reset_was e es = by_test (is_reset e es) (resets_in es)
   where
-    by_test : (t : Bool) (n : ℕ) → leb 1 (if t then suc n else n) ≡ t or leb 1 n
+    by_test : (t : Bool) (n : ℕ) → leb 1 (when t then suc n else n) ≡ t or leb 1 n
     by_test true n = le-leb 1 (suc n) (omega arith)
     by_test false n = refl
 
@@ -173,7 +173,7 @@ after_step : (e : Said) (es : HeadLog) → axles_after (axles_told es) e ≡ axl
 unfolding axles_after axles_told proved_told
 after_step e es =
     ap judged (told_step e es (proof_told (was_reset es) (proved_told es)))
-    ∙ judged_told (e ∷ es) (if is_reset e es then unproved else proof_told (was_reset es) (proved_told es))
+    ∙ judged_told (e ∷ es) (when is_reset e es then unproved else proof_told (was_reset es) (proved_told es))
     ∙ ap (heads (e ∷ es) (around (net_at_reset (e ∷ es)))) (proof_by (is_reset e es) (was_reset es) (proved_told es) (occupies_told (e ∷ es)) (reset_not_occupies e es)
     ∙ ap (λ w. proof_told w (proved_told (e ∷ es))) (sym (reset_was e es)))
 
@@ -181,7 +181,7 @@ after_step e es =
 
 -- at the cold start nothing was said
 cold_told : cold_heads ≡ axles_told []
-unfolding cold_heads silent_head axles_told head_told last_told has_told bit net_at_reset was_reset resets_in proof_told around if◌then◌else◌
+unfolding cold_heads silent_head axles_told head_told last_told has_told bit net_at_reset was_reset resets_in proof_told around when◌then◌else◌
 cold_told = refl
 
 -- the heads after a log are what the log says: event by event
@@ -192,7 +192,7 @@ log_heads (e ∷ es) = ap (λ x. axles_after x e) (log_heads es) ∙ after_step 
 
 -- the three tests of a reading, by their values
 known_by : (b r p : Bool) → b and eqb (proof_told r p) proved ≡ every (b ∷ r ∷ p ∷ [])
-unfolding ◌and◌ proof_told every if◌then◌else◌
+unfolding ◌and◌ proof_told every when◌then◌else◌
 known_by false r p = refl
 known_by true false p = refl
 known_by true true false = refl

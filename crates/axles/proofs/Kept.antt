@@ -1,6 +1,6 @@
 -- What an event leaves of the heads.
 use Rattle.std.proofs.Common.{◌≡◌, ℕ, eqb, refl}
-use Rattle.laws.specs.Choice.{if◌then◌else◌}
+use Rattle.laws.specs.Choice.{when◌then◌else◌}
 use Rattle.laws.proofs.Choice.{if_both}
 use Rattle.track.specs.Codes.{reset_axles}
 use Rattle.axles.specs.Heads.{head_after, told, with_proof, judged, axles_after}
@@ -26,5 +26,5 @@ after_same x e = judged_same (told x e)
 
 -- a reset leaves each head
 pub reset_head : (h : Head) (which : ℕ) (e : Said) → e.kind ≡ reset_axles → head_after h which e ≡ h
-unfolding head_after if◌then◌else◌
+unfolding head_after when◌then◌else◌
 reset_head h which e p = rw p (if_both (λ (y : Head). y ≡ h) (eqb e.head which) (λ t. refl) (λ f. refl))

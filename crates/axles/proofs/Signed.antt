@@ -2,14 +2,14 @@
 use Rattle.std.proofs.Common.{◌≡◌, ℕ, suc, ◌+◌, ◌-◌, ◌*◌, ◌/◌, ◌%◌, ◌<◌, Bool, true, false, ltb, ℤ, pos, negsuc, ◌+ℤ◌, sym, refl, ap, ◌∙◌, arith, ltb-false, ltb-true, le-ltb}
 use lib.IntN.{+ℤ_assoc}
 use lib.Signed.{mag}
-use Rattle.laws.specs.Choice.{if◌then◌else◌}
+use Rattle.laws.specs.Choice.{when◌then◌else◌}
 use Rattle.laws.proofs.Choice.{if_lt, if_ge}
 use Rattle.axles.specs.Rounds.{around, signed, Rounded}
 use Rattle.axles.proofs.Rounds.{around_below, around_add, minus_round}
 
 -- one of 0 .. 65,535, signed, is in range: the lower half as it is, the upper half less a round
 signed_ranges : (a : ℕ) → a < 65536 → (t : Bool) → ltb a 32768 ≡ t → mag (signed a) < 32768
-unfolding signed if◌then◌else◌
+unfolding signed when◌then◌else◌
 signed_ranges a h true e = rw e (ltb-true a 32768 e)
 signed_ranges a h false e = rw (e, minus_round a h) (let g = ltb-false a 32768 e in omega arith)
 
@@ -20,7 +20,7 @@ halves false = 1
 
 -- with them back it is what it was
 signed_back : (a : ℕ) → a < 65536 → (t : Bool) → ltb a 32768 ≡ t → signed a +ℤ pos (halves t * 65536) ≡ pos a
-unfolding signed if◌then◌else◌ halves
+unfolding signed when◌then◌else◌ halves
 signed_back a h true e = rw e (ap pos (omega arith))
 signed_back a h false e =
     rw (e, minus_round a h, le-ltb 65536 (suc (65535 - a)) (omega arith)) (ap pos (let g = ltb-false a 32768 e in omega arith))

@@ -1,6 +1,6 @@
 -- The number depends on nothing but what was counted since the reset, however often a count has rolled over.
 use Rattle.std.proofs.Common.{◌≡◌, ℕ, ◌+◌, ◌*◌, ◌%◌, ◌<◌, Bool, true, false, eqb, pos, ◌-ℤ◌, sym, refl, ap, ◌∙◌, ap₂, arith, eqb-true}
-use Rattle.laws.specs.Choice.{if◌then◌else◌}
+use Rattle.laws.specs.Choice.{when◌then◌else◌}
 use Rattle.laws.specs.Tests.{◌and◌}
 use Rattle.laws.proofs.Choice.{if_lt, chosen}
 use Rattle.track.specs.Codes.{free}
@@ -35,7 +35,7 @@ number_small x a0 a1 b0 b1 i0 i1 o0 o1 n c e h =
 
 -- where as many are out as in since the reset, however many, a section with both heads speaking and its reset proved reads free: its number is 0
 pub even_reads_free : (x : Axles) (a0 a1 b0 b1 i0 i1 o0 o1 : ℕ) → Counted x a0 a1 b0 b1 i0 i1 o0 o1 → i0 + i1 ≡ o0 + o1 → known x ≡ true → axles_reading x ≡ free
-unfolding axles_reading reading_of if◌then◌else◌
+unfolding axles_reading reading_of when◌then◌else◌
 even_reads_free x a0 a1 b0 b1 i0 i1 o0 o1 c e k = rw (k, number_small x a0 a1 b0 b1 i0 i1 o0 o1 0 c (omega arith) (omega arith))
 
 -- L1: 65,536 axles in by one head and out by the other since the reset read free again
@@ -45,8 +45,8 @@ round_reads_free x a0 a1 b0 b1 c k = even_reads_free x a0 a1 b0 b1 65536 0 0 655
 -- ---- axles that come in and go out
 
 -- one of two counts goes on
-in_by : (n a b : ℕ) (t : Bool) → ((if t then more n a else a) + (if t then b else more n b)) % 65536 ≡ (a + b + n) % 65536
-unfolding if◌then◌else◌ more rolled
+in_by : (n a b : ℕ) (t : Bool) → ((when t then more n a else a) + (when t then b else more n b)) % 65536 ≡ (a + b + n) % 65536
+unfolding when◌then◌else◌ more rolled
 in_by n a b true = omega arith
 in_by n a b false = omega arith
 
@@ -81,20 +81,20 @@ own0 x g e = chosen _ x.head0 _ e
 
 -- and head 1
 own1 : (x : Axles) (g : ℕ) → eqb g 1 ≡ true → head_of x g ≡ x.head1
-unfolding head_of if◌then◌else◌
+unfolding head_of when◌then◌else◌
 own1 x g e = rw (eqb-true g 1 e)
 
 -- a head keeps its counts where its axles in are told again, and where another head is told of
 in_again : (h : Head) (k : ℕ) (e : Said) (t : Bool) → e.kind ≡ 11 → eqb e.head k ≡ t → (t ≡ true → e.count ≡ h.inward)
     → ((head_after h k e).inward ≡ h.inward) × ((head_after h k e).outward ≡ h.outward)
-unfolding head_after if◌then◌else◌
+unfolding head_after when◌then◌else◌
 in_again h k e true p q r = rw (q, p) (r refl, refl)
 in_again h k e false p q r = rw q (refl, refl)
 
 -- and where its axles out are
 out_again : (h : Head) (k : ℕ) (e : Said) (t : Bool) → e.kind ≡ 12 → eqb e.head k ≡ t → (t ≡ true → e.count ≡ h.outward)
     → ((head_after h k e).inward ≡ h.inward) × ((head_after h k e).outward ≡ h.outward)
-unfolding head_after if◌then◌else◌
+unfolding head_after when◌then◌else◌
 out_again h k e true p q r = rw (q, p) (refl, r refl)
 out_again h k e false p q r = rw q (refl, refl)
 
@@ -112,7 +112,7 @@ net_again x e (again_out p q) =
 
 -- a count is no reset: the sum at the last one stays
 sum_again : (x : Axles) (e : Said) → Repeats x e → (told x e).sum ≡ x.sum
-unfolding told sum_after resets ◌and◌ if◌then◌else◌
+unfolding told sum_after resets ◌and◌ when◌then◌else◌
 sum_again x e (again_in p q) = rw p
 sum_again x e (again_out p q) = rw p
 

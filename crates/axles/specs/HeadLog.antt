@@ -1,6 +1,6 @@
 -- L1: what a section with heads reads, told from what was said of its heads alone. No stored count, sum or code is asked.
 use Rattle.std.specs.Prelude.{ℕ, suc, ◌+◌, Bool, true, false, List, [], ◌∷◌, ℤ, pos, ◌-ℤ◌, nat_eq, nat_le}
-use Rattle.laws.specs.Choice.{if◌then◌else◌}
+use Rattle.laws.specs.Choice.{when◌then◌else◌}
 use Rattle.laws.specs.Tests.{◌and◌, ◌or◌, every}
 use Rattle.track.specs.Codes.{occupied, reads_none, axles_in, axles_out, head_silent, reset_axles}
 use Rattle.axles.specs.Rounds.{around, signed}
@@ -24,12 +24,12 @@ says e k h = nat_eq e.kind k and nat_eq e.head h
 -- L1: whether head h has told its count of kind k, in or out, since the cold start or its last silence
 unfoldable pub has_told : ℕ → ℕ → HeadLog → Bool
 has_told k h [] = false
-has_told k h (e ∷ es) = if says e k h then true else if says e head_silent h then false else has_told k h es
+has_told k h (e ∷ es) = when says e k h then true else when says e head_silent h then false else has_told k h es
 
 -- the latest such count, 0 where there is none
 unfoldable pub last_told : ℕ → ℕ → HeadLog → ℕ
 last_told k h [] = 0
-last_told k h (e ∷ es) = if says e k h then e.count else if says e head_silent h then 0 else last_told k h es
+last_told k h (e ∷ es) = when says e k h then e.count else when says e head_silent h then 0 else last_told k h es
 
 -- neither head is silent: each has told both its counts
 unfoldable pub both_speak : HeadLog → Bool
@@ -48,12 +48,12 @@ is_reset e es = nat_eq e.kind reset_axles and both_speak es
 -- how many resets there were
 unfoldable pub resets_in : HeadLog → ℕ
 resets_in [] = 0
-resets_in (e ∷ es) = if is_reset e es then suc (resets_in es) else resets_in es
+resets_in (e ∷ es) = when is_reset e es then suc (resets_in es) else resets_in es
 
 -- all in less all out at the last of them
 unfoldable pub net_at_reset : HeadLog → ℤ
 net_at_reset [] = pos 0
-net_at_reset (e ∷ es) = if is_reset e es then net_told es else net_at_reset es
+net_at_reset (e ∷ es) = when is_reset e es then net_told es else net_at_reset es
 
 -- L1: all in less all out, less that sum at the last reset, taken round 65,536 as a signed number
 unfoldable pub number_told : HeadLog → ℤ
@@ -72,9 +72,9 @@ was_reset es = nat_le 1 (resets_in es)
 -- after one of the events since the last reset the number was in 1 to 255 with neither head silent
 unfoldable pub proved_told : HeadLog → Bool
 proved_told [] = false
-proved_told (e ∷ es) = if is_reset e es then false else (occupies_told (e ∷ es) or proved_told es)
+proved_told (e ∷ es) = when is_reset e es then false else (occupies_told (e ∷ es) or proved_told es)
 
 -- L1: none while a head is silent, before the first reset, and after each reset until its number has since been in 1 to 255 with neither head silent;
 -- else what the number says
 unfoldable pub reading_told : HeadLog → ℕ
-reading_told es = if every (both_speak es ∷ was_reset es ∷ proved_told es ∷ []) then reading_of (number_told es) else reads_none
+reading_told es = when every (both_speak es ∷ was_reset es ∷ proved_told es ∷ []) then reading_of (number_told es) else reads_none

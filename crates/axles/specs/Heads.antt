@@ -1,6 +1,6 @@
 -- L1: the two heads of a section, what an event makes of them, and what the section reads.
 use Rattle.std.specs.Prelude.{ℕ, ◌+◌, Bool, List, [], ◌∷◌, ℤ, pos, negsuc, ◌-ℤ◌, ◌==◌, nat_eq, nat_le}
-use Rattle.laws.specs.Choice.{if◌then◌else◌}
+use Rattle.laws.specs.Choice.{when◌then◌else◌}
 use Rattle.laws.specs.Tests.{◌and◌}
 use Rattle.track.specs.Codes.{free, occupied, reads_none, axles_in, axles_out, head_silent, reset_axles}
 use Rattle.axles.specs.Rounds.{around, signed}
@@ -40,10 +40,10 @@ speaking x = speaks x.head0 and speaks x.head1
 -- L1: what an event makes of a head of its section, head 0 or head 1: 11 and 12 carry its axles in and out, 13 says that it is silent, which forgets both
 unfoldable pub head_after : Head → ℕ → Said → Head
 head_after h which e =
-    if nat_eq e.head which then
-    (if nat_eq e.kind axles_in then record { inward = e.count; outward = h.outward; hasin = 1; hasout = h.hasout }
-    else if e.kind == axles_out then record { inward = h.inward; outward = e.count; hasin = h.hasin; hasout = 1 }
-    else if e.kind == head_silent then silent_head
+    when nat_eq e.head which then
+    (when nat_eq e.kind axles_in then record { inward = e.count; outward = h.outward; hasin = 1; hasout = h.hasout }
+    else when e.kind == axles_out then record { inward = h.inward; outward = e.count; hasin = h.hasin; hasout = 1 }
+    else when e.kind == head_silent then silent_head
     else h)
     else h
 
@@ -59,7 +59,7 @@ number x = signed (around (net x -ℤ pos x.sum))
 
 -- L1: 0 is free, 1 to 255 occupied, anything else none
 unfoldable pub reading_of : ℤ → ℕ
-reading_of (pos n) = if n == 0 then free else if nat_le n 255 then occupied else reads_none
+reading_of (pos n) = when n == 0 then free else when nat_le n 255 then occupied else reads_none
 reading_of (negsuc n) = reads_none
 
 -- the number is in 1 to 255 with neither head silent
@@ -74,11 +74,11 @@ resets x e = nat_eq e.kind reset_axles and speaking x
 
 -- the sum at the last reset, after the event
 unfoldable pub sum_after : Axles → Said → ℕ
-sum_after x e = if resets x e then around (net x) else x.sum
+sum_after x e = when resets x e then around (net x) else x.sum
 
 -- whether that reset is proved, before the number is judged
 unfoldable pub proof_after : Axles → Said → ℕ
-proof_after x e = if resets x e then unproved else x.proof
+proof_after x e = when resets x e then unproved else x.proof
 
 -- the heads once an event is told and the number not yet judged: the counts, and at a reset their sum
 unfoldable pub told : Axles → Said → Axles
@@ -94,7 +94,7 @@ proves x = nat_eq x.proof unproved and occupies x
 
 -- the heads once their number is judged
 unfoldable pub judged : Axles → Axles
-judged x = if proves x then with_proof x proved else x
+judged x = when proves x then with_proof x proved else x
 
 -- the heads after an event: it is told, and then the number is judged
 unfoldable pub axles_after : Axles → Said → Axles
@@ -113,4 +113,4 @@ known x = speaking x and nat_eq x.proof proved
 
 -- L1: none while a head is silent, before the first reset, and after each reset until it is proved; else what the number says
 unfoldable pub axles_reading : Axles → ℕ
-axles_reading x = if known x then reading_of (number x) else reads_none
+axles_reading x = when known x then reading_of (number x) else reads_none

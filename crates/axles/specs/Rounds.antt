@@ -1,7 +1,7 @@
 -- L1: whole numbers taken round 65,536, as signed numbers from -32,768 to 32,767.
 use Rattle.std.specs.Prelude.{◌≡◌, ℕ, ◌-◌, ◌*◌, ◌%◌, ◌<◌, ℤ, pos, negsuc, ◌+ℤ◌, ◌-ℤ◌, nat_lt}
 use Rattle.std.specs.Int.Signed.{mag}
-use Rattle.laws.specs.Choice.{if◌then◌else◌}
+use Rattle.laws.specs.Choice.{when◌then◌else◌}
 
 -- z taken round 65,536: the one of 0 .. 65,535 that differs from z by a multiple of 65,536
 unfoldable pub around : ℤ → ℕ
@@ -10,7 +10,7 @@ around (negsuc n) = 65535 - n % 65536
 
 -- one of 0 .. 65,535 as a signed number from -32,768 to 32,767
 unfoldable pub signed : ℕ → ℤ
-signed n = if nat_lt n 32768 then pos n else (pos n -ℤ pos 65536)
+signed n = when nat_lt n 32768 then pos n else (pos n -ℤ pos 65536)
 
 -- the same as a plain statement: n is z, taken round 65,536 as a signed number
 pub record Rounded (z n : ℤ) : Type 0 where

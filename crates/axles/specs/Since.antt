@@ -1,6 +1,6 @@
 -- L1: what was counted since the reset, with counts that roll over, and what a free reading needs.
 use Rattle.std.specs.Prelude.{◌≡◌, ℕ, ◌+◌, ◌%◌, ◌≤◌, true, ◌++◌, ℤ, pos, ◌-ℤ◌, ◌==◌}
-use Rattle.laws.specs.Choice.{if◌then◌else◌}
+use Rattle.laws.specs.Choice.{when◌then◌else◌}
 use Rattle.track.specs.Codes.{axles_in, axles_out}
 use Rattle.axles.specs.Rounds.{around}
 use Rattle.axles.specs.HeadLog.{HeadLog, both_speak, resets_in, number_told, was_reset}
@@ -31,14 +31,14 @@ more n count = rolled (count + n)
 unfoldable pub passed : ℕ → ℕ → ℕ → Axles → Axles
 passed n i j x = record {
   head0 = record {
-    inward = if i == 0 then more n x.head0.inward else x.head0.inward;
-    outward = if j == 0 then more n x.head0.outward else x.head0.outward;
+    inward = when i == 0 then more n x.head0.inward else x.head0.inward;
+    outward = when j == 0 then more n x.head0.outward else x.head0.outward;
     hasin = x.head0.hasin;
     hasout = x.head0.hasout;
   };
   head1 = record {
-    inward = if i == 0 then x.head1.inward else more n x.head1.inward;
-    outward = if j == 0 then x.head1.outward else more n x.head1.outward;
+    inward = when i == 0 then x.head1.inward else more n x.head1.inward;
+    outward = when j == 0 then x.head1.outward else more n x.head1.outward;
     hasin = x.head1.hasin;
     hasout = x.head1.hasout;
   };
@@ -50,7 +50,7 @@ passed n i j x = record {
 
 -- head h of a section: 0 or else 1
 unfoldable pub head_of : Axles → ℕ → Head
-head_of x h = if h == 0 then x.head0 else x.head1
+head_of x h = when h == 0 then x.head0 else x.head1
 
 -- an event of kind 11 or 12 with the count that is held of its head
 pub data Repeats (x : Axles) (e : Said) : Type 0 where

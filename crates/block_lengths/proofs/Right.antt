@@ -10,7 +10,7 @@ use borrow.Author.Tests.{eqb-true, eqb-false, eq-eqb, lt-ltb, le-ltb, ne_eqb, lt
 use lib.Dec.{eqb, ltb, lit≤}
 use lib.ListN.{get_or}
 use lib.Ieee.{Float}
-use Rattle.laws.specs.Choice.{if◌then◌else◌}
+use Rattle.laws.specs.Choice.{when◌then◌else◌}
 use Rattle.laws.specs.Tests.{◌or◌, all_below, lowest, lowest_from}
 use Rattle.laws.proofs.Choice.{if_true, if_both, chosen, which, holds, fails}
 use Rattle.laws.proofs.Tests.{all_at, or_left, or_right}
@@ -155,7 +155,7 @@ found k = eqb (column_of (get_or speeds k 0)) k
 
 -- this holds of the six
 column_found : (k : ℕ) → k < 6 → column_of (get_or speeds k 0) ≡ k
-unfolding found all_below speeds column_of lowest lowest_from if◌then◌else◌
+unfolding found all_below speeds column_of lowest lowest_from when◌then◌else◌
 column_found k l = eqb-true (column_of (get_or speeds k 0)) k (all_at 6 found refl k l)
 
 -- the answer for a headway from 120 to 600 and the speed of a column is right

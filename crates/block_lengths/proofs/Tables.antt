@@ -9,7 +9,7 @@ use lib.Dec.{leb, ltb}
 use lib.ListN.{get_or, set}
 use lib.Seq.{get_or-set_other}
 use Rattle.laws.specs.Tests.{all_below, lowest, lowest_from}
-use Rattle.laws.specs.Choice.{if◌then◌else◌}
+use Rattle.laws.specs.Choice.{when◌then◌else◌}
 use Rattle.laws.proofs.Arrays.{set_keeps}
 use Rattle.laws.proofs.Tests.{all_at}
 use Rattle.block_lengths.specs.Paper.{speeds, row_of, column_of, entry, corrected, printed71, printed72, table71, table72}
@@ -52,7 +52,7 @@ Tested t = (passes 8 (no_higher t) ≡ true) × (passes 9 (short t) ≡ true)
 
 -- of both tables, and this is computed
 tested : Tested table71 × Tested table72
-unfolding no_higher short printed71 printed72 table71 table72 speeds row_of column_of lowest lowest_from if◌then◌else◌ corrected entry all_below passes
+unfolding no_higher short printed71 printed72 table71 table72 speeds row_of column_of lowest lowest_from when◌then◌else◌ corrected entry all_below passes
 tested = ((refl, refl), (refl, refl))
 
 -- so table 7.1 rises
@@ -98,5 +98,5 @@ as_printed72 row column = as_printed printed72 (row_of 180) (column_of 100) 2900
 
 -- and there are 3030 and 2900
 pub put_right : (entry table71 (row_of 180) (column_of 90) ≡ 3030) × (entry table72 (row_of 180) (column_of 100) ≡ 2900)
-unfolding printed71 printed72 table71 table72 speeds row_of column_of lowest lowest_from if◌then◌else◌ corrected entry
+unfolding printed71 printed72 table71 table72 speeds row_of column_of lowest lowest_from when◌then◌else◌ corrected entry
 put_right = (refl, refl)

@@ -2,7 +2,7 @@
 use Rattle.std.specs.Prelude.{ℕ, ◌+◌, ◌*◌, ◌/◌, ◌^◌, true, false, ltb, Float}
 use Rattle.std.specs.Float.{nan, inf, fin}
 use Rattle.std.specs.Float.Ieee.{up, down}
-use Rattle.laws.specs.Choice.{if◌then◌else◌}
+use Rattle.laws.specs.Choice.{when◌then◌else◌}
 
 -- the whole number of millimetres that is nearest to a fraction of metres, the upper of two that are as near
 unfoldable pub nearest_millimetre : ℕ → ℕ → ℕ
@@ -13,4 +13,4 @@ unfoldable pub millimetres : Float → ℕ
 millimetres nan = 0
 millimetres (inf s) = 0
 millimetres (fin true m e) = 0
-millimetres (fin false m e) = if ltb (m * up e) (2 ^ 53 * down e) then nearest_millimetre (m * up e) (down e) else 0
+millimetres (fin false m e) = when ltb (m * up e) (2 ^ 53 * down e) then nearest_millimetre (m * up e) (down e) else 0

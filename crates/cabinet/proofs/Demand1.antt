@@ -5,7 +5,7 @@ use mathlib.Core.Bool.{Bool, true, false}
 use mathlib.Core.Logic.{◌⊎◌, inl, inr}
 use mathlib.Core.List.{List}
 use lib.ListN.{length}
-use Rattle.laws.specs.Choice.{if◌then◌else◌}
+use Rattle.laws.specs.Choice.{when◌then◌else◌}
 use Rattle.laws.specs.Tests.{◌and◌}
 use Rattle.laws.proofs.Choice.{if_ne}
 use Rattle.laws.proofs.Tests.{and_left, and_right}
@@ -25,9 +25,9 @@ use Rattle.cabinet.specs.Calls.{Records, records, Call, power_on, load_file, fit
 use Rattle.cabinet.specs.Demand1.{Numbered, Demand1}
 
 -- one of three numbers, by two tests
-one_of_three : (t u : Bool) (n : ℕ) (r : Drawn) → r ≡ (if t then refused 18 else if u then refused 27 else record { number = 0; length = n })
+one_of_three : (t u : Bool) (n : ℕ) (r : Drawn) → r ≡ (when t then refused 18 else when u then refused 27 else record { number = 0; length = n })
     → (r.number ≡ 0) ⊎ ((r.number ≡ 18) ⊎ (r.number ≡ 27))
-unfolding refused if◌then◌else◌
+unfolding refused when◌then◌else◌
 one_of_three true u n r e = inr (inl (ap (λ (d : Drawn). d.number) e))
 one_of_three false true n r e = inr (inr (ap (λ (d : Drawn). d.number) e))
 one_of_three false false n r e = inl (ap (λ (d : Drawn). d.number) e)

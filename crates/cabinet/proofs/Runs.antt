@@ -10,7 +10,7 @@ use native.Mathlib.Decide.{dec_lt}
 use borrow.Author.Tests.{eqb-true}
 use lib.Dec.{eqb, ltb}
 use lib.ListN.{length}
-use Rattle.laws.specs.Choice.{if◌then◌else◌}
+use Rattle.laws.specs.Choice.{when◌then◌else◌}
 use Rattle.laws.specs.Tables.{table_from, table}
 use Rattle.laws.specs.Tests.{◌and◌, every}
 use Rattle.laws.specs.Totals.{bit}
@@ -49,20 +49,20 @@ one_more f s (d ∷ es) e = one_more f (f s d).next es e
 
 -- no section told leaves the layout with no objects as it is
 none_told : equipped [] no_layout ≡ no_layout
-unfolding equipped with_told told_by lacks is_told any_of bit table table_from no_layout none_fitted if◌then◌else◌
+unfolding equipped with_told told_by lacks is_told any_of bit table table_from no_layout none_fitted when◌then◌else◌
 none_told = refl
 
 -- a layout file: accepted, its layout with no section told; refused, what was there
 file_leaves : (bytes : List ℕ) (cs : List Call) → (records_after cs).layout ≡ layout_after cs → (t : Bool) → eqb (load bytes).number 0 ≡ t
     → (records_after (load_file bytes ∷ cs)).layout ≡ layout_after (load_file bytes ∷ cs)
-unfolding records_after after_call after_load after_file layout_after loaded_after told_after if◌then◌else◌
+unfolding records_after after_call after_load after_file layout_after loaded_after told_after when◌then◌else◌
 file_leaves bytes cs same true e = rw e (sym (equipped_none bytes))
 file_leaves bytes cs same false e = rw e same
 
 -- a file of fitted sections: accepted, these are told of the layout that was loaded, whatever was told before; refused, what was there
 fit_leaves : (bytes : List ℕ) (cs : List Call) → (records_after cs).layout ≡ layout_after cs → (t : Bool) → eqb (numbers_of bytes).fault 0 ≡ t
     → (records_after (fit_sections bytes ∷ cs)).layout ≡ layout_after (fit_sections bytes ∷ cs)
-unfolding records_after after_call after_fit after_file layout_after loaded_after told_after equipped with_told if◌then◌else◌
+unfolding records_after after_call after_fit after_file layout_after loaded_after told_after equipped with_told when◌then◌else◌
 fit_leaves bytes cs same true e =
     rw (fit_number (records_after cs).layout bytes, e) (fit_layout (records_after cs).layout bytes e ∙ ap (equipped (numbers_of bytes).list) same)
 fit_leaves bytes cs same false e = rw (fit_number (records_after cs).layout bytes, e) same
@@ -84,7 +84,7 @@ OfFile L = (file : List ℕ) × ((load file).number ≡ 0) × ((load file).layou
 -- by a layout file
 file_loads : (bytes : List ℕ) (cs : List Call) → (loaded_after cs ≡ no_layout) ⊎ OfFile (loaded_after cs) → (t : Bool) → eqb (load bytes).number 0 ≡ t
     → (loaded_after (load_file bytes ∷ cs) ≡ no_layout) ⊎ OfFile (loaded_after (load_file bytes ∷ cs))
-unfolding loaded_after if◌then◌else◌
+unfolding loaded_after when◌then◌else◌
 file_loads bytes cs before true e = rw e (inr (bytes, eqb-true _ 0 e, refl))
 file_loads bytes cs before false e = rw e before
 
@@ -126,14 +126,14 @@ used cs = ⊎_elim (λ e. inr (inl e)) (λ A. ⊎_elim (λ all. inl (in_use A al
 -- a layout file after which the records were in a run: accepted, it begins one; refused, it leaves them in theirs
 after_file_law : (bytes : List ℕ) (cs : List Call) → (records_after cs).state ≡ from_cold (records_after cs).layout (events_since cs) → (t : Bool) → eqb (load bytes).number 0 ≡ t
     → (records_after (load_file bytes ∷ cs)).state ≡ from_cold (records_after (load_file bytes ∷ cs)).layout (events_since (load_file bytes ∷ cs))
-unfolding records_after after_call after_load after_file events_since from_cold state_after if◌then◌else◌
+unfolding records_after after_call after_load after_file events_since from_cold state_after when◌then◌else◌
 after_file_law bytes cs same true e = rw e
 after_file_law bytes cs same false e = rw e same
 
 -- and so a file of fitted sections
 after_fit_law : (bytes : List ℕ) (cs : List Call) → (records_after cs).state ≡ from_cold (records_after cs).layout (events_since cs) → (t : Bool) → eqb (numbers_of bytes).fault 0 ≡ t
     → (records_after (fit_sections bytes ∷ cs)).state ≡ from_cold (records_after (fit_sections bytes ∷ cs)).layout (events_since (fit_sections bytes ∷ cs))
-unfolding records_after after_call after_fit after_file events_since from_cold state_after if◌then◌else◌
+unfolding records_after after_call after_fit after_file events_since from_cold state_after when◌then◌else◌
 after_fit_law bytes cs same true e = rw (fit_number (records_after cs).layout bytes, e)
 after_fit_law bytes cs same false e = rw (fit_number (records_after cs).layout bytes, e) same
 
@@ -181,14 +181,14 @@ lacking_unsound cs l = rw (layout_is cs) (⊎_elim none (λ m. ⊎_elim none (la
         fails_from _ (λ t. absurd (omega (arith, (equipped_sound (loaded_after cs) (told_after cs) ok).0 t g a, h)))
 
 -- 27 or 0 is not 18
-short_or_done : (t : Bool) (n : ℕ) → (if t then refused 27 else record { number = 0; length = n }).number ≡ 18 → ⊥
-unfolding refused if◌then◌else◌
+short_or_done : (t : Bool) (n : ℕ) → (when t then refused 27 else record { number = 0; length = n }).number ≡ 18 → ⊥
+unfolding refused when◌then◌else◌
 short_or_done true n p = omega (arith, p)
 short_or_done false n p = omega (arith, p)
 
 -- and sound records get no other answer for a panel image
 sound_panels : (L : Layout) (s : State) (room : ℕ) → sound L and in_range s ≡ true → (answer L s room).number ≡ 18 → ⊥
-unfolding answer answer_where if◌then◌else◌
+unfolding answer answer_where when◌then◌else◌
 sound_panels L s room e = rw e (short_or_done (ltb room (length (image L s))) (length (image L s)))
 
 -- a layout in use is sound, and the states of a run on it are in range

@@ -1,7 +1,7 @@
 -- The calls that a controller can make, what each of them leaves in the records that are lent to it, and what it tells (sections 2, 3, 7,
 -- L1).
 use Rattle.std.specs.Prelude.{ℕ, List, [], ◌∷◌, eqb, length}
-use Rattle.laws.specs.Choice.{if◌then◌else◌}
+use Rattle.laws.specs.Choice.{when◌then◌else◌}
 use Rattle.layout.specs.declared.Layout.{Layout}
 use Rattle.layout.specs.declared.Loaded.{Loaded}
 use Rattle.layout.specs.Layout.{no_layout}
@@ -44,7 +44,7 @@ at_power_on = records no_layout cold
 -- by the number of the answer to a file and the layout that it makes: accepted, the layout is stored, and the state starts anew, since a run is on one layout
 -- from the cold start; refused, records that are lent stay as they were (demand 1)
 unfoldable pub after_file : Records → ℕ → Layout → Records
-after_file before number made = if eqb number 0 then records made cold else before
+after_file before number made = when eqb number 0 then records made cold else before
 
 -- a layout file. Section 2 gives a refused one no objects
 unfoldable pub after_load : Records → Loaded → Records

@@ -1,6 +1,6 @@
 -- The run that the records are in: the events that were given since the state last started anew, on the layout that is in use.
 use Rattle.std.specs.Prelude.{ℕ, ◌≤◌, ◌≡◌, ◌⊎◌, List, [], ◌∷◌, ◌++◌, eqb}
-use Rattle.laws.specs.Choice.{if◌then◌else◌}
+use Rattle.laws.specs.Choice.{when◌then◌else◌}
 use Rattle.layout.specs.declared.Layout.{Layout}
 use Rattle.layout.specs.Layout.{no_layout}
 use Rattle.layout.specs.Load.{load}
@@ -15,8 +15,8 @@ use Rattle.cabinet.specs.Calls.{Records, Call, power_on, load_file, fit_sections
 unfoldable pub events_since : List Call → List Event
 events_since [] = []
 events_since (power_on ∷ cs) = []
-events_since (load_file bytes ∷ cs) = if eqb (load bytes).number 0 then [] else events_since cs
-events_since (fit_sections bytes ∷ cs) = if eqb (numbers_of bytes).fault 0 then [] else events_since cs
+events_since (load_file bytes ∷ cs) = when eqb (load bytes).number 0 then [] else events_since cs
+events_since (fit_sections bytes ∷ cs) = when eqb (numbers_of bytes).fault 0 then [] else events_since cs
 events_since (give_event k a b ∷ cs) = events_since cs ++ (event k a b ∷ [])
 events_since (draw_panel buffer ∷ cs) = events_since cs
 
@@ -26,7 +26,7 @@ events_since (draw_panel buffer ∷ cs) = events_since cs
 unfoldable pub loaded_after : List Call → Layout
 loaded_after [] = no_layout
 loaded_after (power_on ∷ cs) = no_layout
-loaded_after (load_file bytes ∷ cs) = if eqb (load bytes).number 0 then (load bytes).layout else loaded_after cs
+loaded_after (load_file bytes ∷ cs) = when eqb (load bytes).number 0 then (load bytes).layout else loaded_after cs
 loaded_after (fit_sections bytes ∷ cs) = loaded_after cs
 loaded_after (give_event k a b ∷ cs) = loaded_after cs
 loaded_after (draw_panel buffer ∷ cs) = loaded_after cs
@@ -35,8 +35,8 @@ loaded_after (draw_panel buffer ∷ cs) = loaded_after cs
 unfoldable pub told_after : List Call → List ℕ
 told_after [] = []
 told_after (power_on ∷ cs) = []
-told_after (load_file bytes ∷ cs) = if eqb (load bytes).number 0 then [] else told_after cs
-told_after (fit_sections bytes ∷ cs) = if eqb (numbers_of bytes).fault 0 then (numbers_of bytes).list else told_after cs
+told_after (load_file bytes ∷ cs) = when eqb (load bytes).number 0 then [] else told_after cs
+told_after (fit_sections bytes ∷ cs) = when eqb (numbers_of bytes).fault 0 then (numbers_of bytes).list else told_after cs
 told_after (give_event k a b ∷ cs) = told_after cs
 told_after (draw_panel buffer ∷ cs) = told_after cs
 

@@ -7,7 +7,7 @@ use mathlib.Core.List.{List}
 use native.Mathlib.Omega.{arith}
 use borrow.Author.Tests.{eqb-true}
 use lib.Dec.{eqb}
-use Rattle.laws.specs.Choice.{if◌then◌else◌}
+use Rattle.laws.specs.Choice.{when◌then◌else◌}
 use Rattle.laws.specs.Tests.{◌and◌}
 use Rattle.laws.specs.Totals.{bit}
 use Rattle.laws.proofs.Choice.{if_both}
@@ -65,7 +65,7 @@ module _ (L : Layout) (d : L.lacking ≡ 0 → ⊥) where
 
 -- a sound layout with any sections told stays sound, or lacks one
 equipped_once : (L : Layout) (ns : List ℕ) → sound L ≡ true → AskedOnce (equipped ns L)
-unfolding equipped with_told told_by bit if◌then◌else◌
+unfolding equipped with_told told_by bit when◌then◌else◌
 equipped_once L ns h = by_test (lacks L.sections ns) refl
   where
     by_test : (t : Bool) → lacks L.sections ns ≡ t → AskedOnce (equipped ns L)

@@ -9,7 +9,7 @@ use borrow.Author.Tests.{eqb-true}
 use lib.Dec.{eqb}
 use lib.ListN.{length, take, drop, length-append, length-drop, take-append-drop}
 use lib.Seq.{length-take-le}
-use Rattle.laws.specs.Choice.{if◌then◌else◌}
+use Rattle.laws.specs.Choice.{when◌then◌else◌}
 use Rattle.laws.proofs.Choice.{if_lt, if_ge, if_eq, if_ne}
 use Rattle.numerals.specs.Digits.{fitting}
 use Rattle.layout.specs.declared.Layout.{Layout}
@@ -146,8 +146,8 @@ module _ (panel : Bool) (L : Layout) (file : List ℕ) (o : AskedOnce L) where
 -- ---- all that is printed
 
 -- the same test chooses between equals
-choice_same : (t : Bool) (x y z w : List ℕ) → (t ≡ true → x ≡ z) → (t ≡ false → y ≡ w) → if t then x else y ≡ if t then z else w
-unfolding if◌then◌else◌
+choice_same : (t : Bool) (x y z w : List ℕ) → (t ≡ true → x ≡ z) → (t ≡ false → y ≡ w) → when t then x else y ≡ when t then z else w
+unfolding when◌then◌else◌
 choice_same true x y z w p q = p refl
 choice_same false x y z w p q = q refl
 
@@ -179,7 +179,7 @@ module _ (calls room : ℕ) (panel : Bool) (first : List ℕ) (reads : List (Lis
 
 -- the program's buffer has room for every line
 room_enough : (panel : Bool) → most_line panel ≤ room_for_lines
-unfolding most_line most_text if◌then◌else◌
+unfolding most_line most_text when◌then◌else◌
 room_enough true = omega arith
 room_enough false = omega arith
 

@@ -7,7 +7,7 @@ use borrow.Author.Tests.{lt-ltb}
 use lib.Dec.{ltb}
 use lib.ListN.{length, drop, drop_of_length-le, length-drop}
 use lib.Seq.{drop-drop, drop-append_seam}
-use Rattle.laws.specs.Choice.{if◌then◌else◌}
+use Rattle.laws.specs.Choice.{when◌then◌else◌}
 use Rattle.laws.proofs.Choice.{if_both}
 use Rattle.numbers.specs.declared.Number.{Number}
 use Rattle.numbers.specs.declared.Number.TheVariants.{Value, Fault}
@@ -154,7 +154,7 @@ module _ (file : List ℕ) where
   -- the form of an event, standing anywhere, is read as the event, to its end
   event_read : (at : ℕ) (e : Event) (post : List ℕ) → Writable e → drop at file ≡ event_form e ++ post
       → (next : ℕ) × (event_at file at ≡ Taken e.kind e.first e.second next) × (drop next file ≡ post)
-  unfolding event_form event_at with_kind with_first with_second if◌then◌else◌
+  unfolding event_form event_at with_kind with_first with_second when◌then◌else◌
   event_read at e post w d =
       let k : List ℕ = encode e.kind in
       let a : List ℕ = encode e.first in

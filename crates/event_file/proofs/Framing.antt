@@ -6,7 +6,7 @@ use mathlib.Core.List.{List}
 use native.Mathlib.Omega.{arith}
 use borrow.Author.Rules.{rules}
 use lib.ListN.{length, set, length-set}
-use Rattle.laws.specs.Choice.{if◌then◌else◌}
+use Rattle.laws.specs.Choice.{when◌then◌else◌}
 use Rattle.layout.specs.declared.Layout.{Layout}
 use Rattle.interlocking.specs.State.{cold}
 use Rattle.event_file.specs.Lines.{two_numbers, shown, line_of, most_line}
@@ -45,12 +45,12 @@ module _ (L : Layout) (a b : List ℕ) (m : ℕ) where
 
     -- room, with the panel: the cold start's line
     pub opening_cold : v ≤ length a → p ≡ true → Put a 0 (line_of true (shown L cold) 0 0 0) (most_line true) b m → Put a 0 (opening_in (length a) p L) (most_line p) b m
-    unfolding opening if◌then◌else◌
+    unfolding opening when◌then◌else◌
     opening_cold h t q = put_room a 0 (most_line p) (opening p L) b m (omega (arith, e)) (rw t q)
 
     -- room, without it: the header
     pub opening_header : v ≤ length a → p ≡ false → Put a 0 header 20 b m → Put a 0 (opening_in (length a) p L) (most_line p) b m
-    unfolding opening if◌then◌else◌
+    unfolding opening when◌then◌else◌
     opening_header h t q =
         put_room a 0 (most_line p) (opening p L) b m (omega (arith, e))
         (rw t (put_within (most_line false) (omega (arith, text_room false, line_room false)) q))

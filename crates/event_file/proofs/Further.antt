@@ -5,7 +5,7 @@ use mathlib.Core.Bool.{Bool, true, false}
 use mathlib.Core.List.{List, ◌++◌}
 use lib.Dec.{ltb}
 use lib.ListN.{length}
-use Rattle.laws.specs.Choice.{if◌then◌else◌}
+use Rattle.laws.specs.Choice.{when◌then◌else◌}
 use Rattle.numbers.specs.declared.Number.{Number}
 use Rattle.numbers.specs.declared.Number.TheVariants.{Value, Fault}
 use Rattle.numbers.specs.Number.{number_at}
@@ -21,8 +21,8 @@ further_next d (Bad number at) = Bad number (d + at)
 further_next d Nothing = Nothing
 
 -- before the end, or at it
-end_further : (d : ℕ) (t : Bool) (x : Next) → if t then further_next d x else Nothing ≡ further_next d (if t then x else Nothing)
-unfolding if◌then◌else◌
+end_further : (d : ℕ) (t : Bool) (x : Next) → when t then further_next d x else Nothing ≡ further_next d (when t then x else Nothing)
+unfolding when◌then◌else◌
 end_further d true x = refl
 end_further d false x = refl
 

@@ -8,7 +8,7 @@ use native.Mathlib.Omega.{arith}
 use borrow.Author.Tests.{ltb-true, ltb-false, eqb-true, eqb-false}
 use lib.Dec.{eqb, ltb}
 use lib.ListN.{length}
-use Rattle.laws.specs.Choice.{if◌then◌else◌}
+use Rattle.laws.specs.Choice.{when◌then◌else◌}
 use Rattle.laws.specs.Tests.{◌and◌}
 use Rattle.laws.specs.Tables.{iter}
 use Rattle.laws.proofs.Choice.{if_both, if_ge}
@@ -47,7 +47,7 @@ module _ (f : State → Event → Answer) (panel : Bool) (show : State → List 
     -- what stands at a place of the buffer and is read alike in the whole file, taken as in the last piece
     read_outcome : (x : Next) → Past bytes at x → event_at file (length gone + at) ≡ further_next (length gone) x
         → Outcome s n at (suc at) (next_of f panel show true s n at x)
-    unfolding next_of took stopped if◌then◌else◌
+    unfolding next_of took stopped when◌then◌else◌
     read_outcome (Taken kind first second next) p e =
         goes (omega arith) (omega (arith, p.0)) p.1 (from_taken file f panel show s n (length gone + at) kind first second (length gone + next) e)
     read_outcome (Bad number place) p e =
@@ -80,7 +80,7 @@ module _ (f : State → Event → Answer) (panel : Bool) (show : State → List 
 
       -- so an event or a bad number is taken, and what the bytes' end cuts off waits
       more_outcome : last ≡ false → (x : Next) → event_at bytes at ≡ x → Past bytes at x → Outcome s n at (suc at) (next_of f panel show false s n at x)
-      unfolding next_of ◌and◌ if◌then◌else◌
+      unfolding next_of ◌and◌ when◌then◌else◌
       more_outcome q (Taken kind first second next) e p =
           read_outcome (Taken kind first second next) p
           (kept _ e (λ z. let y : ◌≡◌ {A = ℕ} 0 1 = cc in omega arith) (λ place z. let y : ◌≡◌ {A = ℕ} 0 1 = cc in omega arith))
@@ -151,7 +151,7 @@ module _ (f : State → Event → Answer) (panel : Bool) (show : State → List 
     module _ (room : ℕ) (r : most_line panel ≤ room) (s : State) (n at : ℕ) (h : at ≤ length bytes) where
       -- the first turn has room for a line, and the others keep what it came to
       turns_outcome : (i : ℕ) → Outcome s n at (suc at) (iter (λ k. turn_run f panel show last bytes room) (suc i) (start s n at))
-      unfolding iter turn_run after start if◌then◌else◌
+      unfolding iter turn_run after start when◌then◌else◌
       turns_outcome zero = roomy_outcome (room - 0) s n at h (omega arith)
       turns_outcome (suc i) = turned_outcome s n at (suc at) (omega arith) room _ (turns_outcome i)
 

@@ -8,7 +8,7 @@ use borrow.Author.Rules.{rules}
 use borrow.Author.Tests.{ltb-false, eqb-true, eqb-false}
 use lib.Dec.{eqb}
 use lib.ListN.{length, drop, set, get_or-append}
-use Rattle.laws.specs.Choice.{if◌then◌else◌}
+use Rattle.laws.specs.Choice.{when◌then◌else◌}
 use Rattle.laws.proofs.Choice.{if_both}
 use Rattle.laws.specs.Tables.{join}
 use Rattle.laws.proofs.Joins.{join_same}
@@ -76,14 +76,14 @@ module _ (t : Bool) (L : Layout) (s : State) (d : Drawn) (before after : List �
 
   -- by the answer's number
   shown_as : (u : Bool) → eqb (answer_where t L s 512).number 0 ≡ u → spaced d.length after ≡ spaced (length bytes) bytes
-  unfolding drawn_where shown_by if◌then◌else◌
+  unfolding drawn_where shown_by when◌then◌else◌
   shown_as true q =
       rw (f, n, q, as_said.whole (ap (λ (r : Drawn). r.number) e ∙ eqb-true _ 0 q)) (spaced_front (image L s) (drop (length (image L s)) before))
   shown_as false q = rw q (spaced_none d.length after [] (as_said.none (λ z. eqb-false _ 0 q (sym (ap (λ (r : Drawn). r.number) e) ∙ z))))
 
   -- so the line of what was drawn is that of what is shown
   line_shown : (k x m : ℕ) → image_line d.length after k x m ≡ line_of true bytes k x m
-  unfolding image_line line_of line_text panel_text if◌then◌else◌
+  unfolding image_line line_of line_text panel_text when◌then◌else◌
   line_shown k x m =
       ap (λ xs. three_numbers k x m ++ ((space ∷ stroke ∷ []) ++ xs) ++ (line_end ∷ [])) (shown_as (eqb (answer_where t L s 512).number 0) refl)
 
@@ -104,7 +104,7 @@ module _ (L : Layout) (s : State) (d : Drawn) (before after : List ℕ) (n : len
 
 -- every line has room for its three numbers
 pub text_room : (p : Bool) → 62 ≤ most_text p
-unfolding most_text if◌then◌else◌
+unfolding most_text when◌then◌else◌
 text_room true = omega arith
 text_room false = omega arith
 
@@ -116,7 +116,7 @@ line_room p = refl
 module _ (p : Bool) (bytes : List ℕ) (n x d : ℕ) (a b c : List ℕ) (at m k : ℕ) where
   -- without the panel
   pub line_plain : p ≡ false → c ≡ b → k ≡ m → Put a at (three_numbers n x d ++ (line_end ∷ [])) 63 b m → Put a at (line_of p bytes n x d) (most_line p) c k
-  unfolding line_of line_text most_line most_text if◌then◌else◌
+  unfolding line_of line_text most_line most_text when◌then◌else◌
   line_plain e f g q = rw (e, f, g) q
 
   -- with it
@@ -138,17 +138,17 @@ image_made k image a c at m h p =
 -- the numbers, the panel and the end
 pub image_line_made : (k n x d : ℕ) (image a b c : List ℕ) (at m i : ℕ) → Put a at (three_numbers n x d) 62 b m
     → Put b m ((space ∷ stroke ∷ []) ++ spaced k image) 2050 c i → Put a at (image_line k image n x d) (most_line true) (set c i 10) (i + 1)
-unfolding image_line most_line most_text if◌then◌else◌
+unfolding image_line most_line most_text when◌then◌else◌
 image_line_made k n x d image a b c at m i q r = put_then (put_then q r) (put_one 10)
 
 -- the most bytes of a line with the panel
 pub most_panel : (p : Bool) → p ≡ true → 2113 ≡ most_line p
-unfolding most_line most_text if◌then◌else◌
+unfolding most_line most_text when◌then◌else◌
 most_panel p e = rw e
 
 -- without it
 pub most_plain : (p : Bool) → p ≡ false → 63 ≡ most_line p
-unfolding most_line most_text if◌then◌else◌
+unfolding most_line most_text when◌then◌else◌
 most_plain p e = rw e
 
 pub ruleset lines_most = (rules, most_panel, most_plain)

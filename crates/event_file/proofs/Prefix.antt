@@ -7,7 +7,7 @@ use mathlib.Core.Logic.{◌⊎◌, inl, inr}
 use borrow.Author.Tests.{lt-ltb}
 use lib.Dec.{ltb}
 use lib.ListN.{length}
-use Rattle.laws.specs.Choice.{if◌then◌else◌}
+use Rattle.laws.specs.Choice.{when◌then◌else◌}
 use Rattle.numbers.specs.declared.Number.{Number}
 use Rattle.numbers.specs.declared.Number.TheVariants.{Value, Fault}
 use Rattle.numbers.proofs.Prefix.{Kept, prefix_inside, number_kept}
@@ -42,7 +42,7 @@ module _ (xs ys : List ℕ) where
 
   -- so an event that begins in a prefix is cut off by its end, or read alike in the whole
   pub event_same : (at : ℕ) → at < length xs → Same (event_at xs at) (event_at (xs ++ ys) at)
-  unfolding event_at if◌then◌else◌
+  unfolding event_at when◌then◌else◌
   event_same at h =
       let e : ltb at (length xs) ≡ true = lt-ltb at (length xs) h in
       rw (e, prefix_inside xs ys at e) (kind_same _ _ (number_kept xs ys at))

@@ -8,7 +8,7 @@ use native.Mathlib.Omega.{arith}
 use native.Mathlib.Numerals.{add-one}
 use lib.Dec.{eqb}
 use lib.ListN.{length, get_or}
-use Rattle.laws.specs.Choice.{if◌then◌else◌}
+use Rattle.laws.specs.Choice.{when◌then◌else◌}
 use Rattle.laws.specs.Tests.{◌and◌}
 use Rattle.laws.proofs.Choice.{if_lt, if_eq, if_ne}
 use Rattle.laws.proofs.Tests.{fails_from}
@@ -108,7 +108,7 @@ unserved s e = record { number = 18; detail = 0; next = s }
 module _ (L : Layout) (h : sound L ≡ false) where
   -- the panel shows nothing
   shown_none : (s : State) → shown L s ≡ []
-  unfolding shown shown_by answer answer_where refused ◌and◌ if◌then◌else◌
+  unfolding shown shown_by answer answer_where refused ◌and◌ when◌then◌else◌
   shown_none s = rw h
 
   -- so it is of each line
@@ -163,8 +163,8 @@ refused_prints panel layout_file fitted_file file h = sym (if_ne _ 0 _ _ _ h ref
 -- where no section is told as fitted, the list is that on the layout of the file
 pub nothing_fitted_prints : (panel : Bool) (layout_file file : List ℕ)
     → printed panel layout_file [] file
-    ≡ if eqb (load layout_file).number 0 then list_on panel (load layout_file).layout file else fault_line layout_word (load layout_file).number (load layout_file).detail
-unfolding printed printed_by fit fit_by numbers_of from_place numbers_from no_numbers if◌then◌else◌
+    ≡ when eqb (load layout_file).number 0 then list_on panel (load layout_file).layout file else fault_line layout_word (load layout_file).number (load layout_file).detail
+unfolding printed printed_by fit fit_by numbers_of from_place numbers_from no_numbers when◌then◌else◌
 nothing_fitted_prints panel layout_file file = rw (equipped_none layout_file)
 
 module _ (layout_file fitted_file : List ℕ) (h : (load layout_file).number ≡ 0) where
@@ -208,7 +208,7 @@ module _ (panel : Bool) (layout_file fitted_file file : List ℕ) (h : (load lay
     used_sound = in_use_sound (fitted_in_use layout_file fitted_file h w)
 
     -- the opening with a panel shows the cold start's image, whole
-    pub opening_whole : opening panel L ≡ if panel then line_of panel (image L cold) 0 0 0 else header
+    pub opening_whole : opening panel L ≡ when panel then line_of panel (image L cold) 0 0 0 else header
     unfolding opening
     opening_whole = rw (shown_whole L cold used_sound cold_in_range)
 
@@ -230,10 +230,10 @@ module _ (panel : Bool) (layout_file fitted_file file : List ℕ) (h : (load lay
   -- L1, every event is refused by 18, and no panel has a byte
   pub lacking_prints : fitting.number ≡ 0 → (g : ℕ) → Among (numbers_of fitted_file).list g → (load layout_file).layout.sections ≤ g
       → printed panel layout_file fitted_file file
-      ≡ (if panel then line_of panel [] 0 0 0 else header) ++ (lines_of panel (told_of next_count (λ s. []) 0 (answers unserved cold (events_of file))) ++ ending_of file)
+      ≡ (when panel then line_of panel [] 0 0 0 else header) ++ (lines_of panel (told_of next_count (λ s. []) 0 (answers unserved cold (events_of file))) ++ ending_of file)
   unfolding opening
   lacking_prints k g a past =
       let unsound : sound L ≡ false = lacks_unsound layout_file fitted_file h k g a past in
       list_prints k
-      ∙ ap₂ (λ (xs : List ℕ) (ts : List ToldLine). (if panel then line_of panel xs 0 0 0 else header) ++ (lines_of panel ts ++ ending_of file))
+      ∙ ap₂ (λ (xs : List ℕ) (ts : List ToldLine). (when panel then line_of panel xs 0 0 0 else header) ++ (lines_of panel ts ++ ending_of file))
       (shown_none L unsound cold) (told_none L unsound next_count 0 cold (events_of file))

@@ -12,7 +12,7 @@ use borrow.Author.Tests.{eq-eqb, ne_eqb}
 use denote.Enum.Declared.{tag_of}
 use lib.Dec.{eqb}
 use lib.ListN.{length}
-use Rattle.laws.specs.Choice.{if◌then◌else◌}
+use Rattle.laws.specs.Choice.{when◌then◌else◌}
 use Rattle.laws.specs.Tests.{◌and◌}
 use Rattle.laws.specs.Tables.{iter}
 use Rattle.laws.proofs.Choice.{if_true, if_false, if_lt, if_ge}
@@ -42,27 +42,27 @@ both_fail false u z = refl
 module _ (last : Bool) (p r : Piece) (x : Next) where
   -- an event that the piece's end cuts off, where more is to come
   pub halts_past : {number place : ℕ} → x ≡ Bad number place → last ≡ false → number ≡ 21 → r ≡ halted p p.at 2 → r ≡ halted_by last p x
-  unfolding halted_by ◌and◌ if◌then◌else◌
+  unfolding halted_by ◌and◌ when◌then◌else◌
   halts_past e h f q = rw (e, f, h) q
 
   -- a fault in the last piece
   pub halts_cut : {number place : ℕ} → x ≡ Bad number place → last ≡ true → r ≡ halted p place number → r ≡ halted_by last p x
-  unfolding halted_by if◌then◌else◌
+  unfolding halted_by when◌then◌else◌
   halts_cut {number} {place} e h q = rw (e, both_fail (eqb number 21) (not last) (ap not h)) q
 
   -- a bad number in any piece
   pub halts_bad : {number place : ℕ} → x ≡ Bad number place → (number ≡ 21 → ⊥) → r ≡ halted p place number → r ≡ halted_by last p x
-  unfolding halted_by ◌and◌ if◌then◌else◌
+  unfolding halted_by ◌and◌ when◌then◌else◌
   halts_bad {number} {place} e h q = rw (e, ne_eqb number 21 h) q
 
   -- the file's end after the event before
   pub halts_end : x ≡ Nothing → last ≡ true → r ≡ halted p p.at 3 → r ≡ halted_by last p x
-  unfolding halted_by if◌then◌else◌
+  unfolding halted_by when◌then◌else◌
   halts_end e h q = rw (e, h) q
 
   -- the piece's end, where more is to come
   pub halts_none : x ≡ Nothing → last ≡ false → r ≡ halted p p.at 2 → r ≡ halted_by last p x
-  unfolding halted_by if◌then◌else◌
+  unfolding halted_by when◌then◌else◌
   halts_none e h q = rw (e, h) q
 
 -- an event ends no run
@@ -96,9 +96,9 @@ module _ (a : List ℕ) (p r : Piece) (most : ℕ) where
 
   -- with one of two such ends
   either_ended : (t : Bool) (at why place number : ℕ) → (why ≡ 0 → ⊥) → (number ≡ 0 → ⊥)
-      → r ≡ (if t then halted p at why else halted p place number)
-      → Ended a p.written most r (if t then stopped p.state p.count at why else stopped p.state p.count place number)
-  unfolding if◌then◌else◌
+      → r ≡ (when t then halted p at why else halted p place number)
+      → Ended a p.written most r (when t then stopped p.state p.count at why else stopped p.state p.count place number)
+  unfolding when◌then◌else◌
   either_ended true at why place number h k e = halted_ended at why h e
   either_ended false at why place number h k e = halted_ended place number k e
 

@@ -1,7 +1,7 @@
 -- How the event program goes through an event file of any length (section 8): it reads into one buffer, runs what lies there, brings what is
 -- left to the front, and reads on behind it. A read that gives nothing is the last.
 use Rattle.std.specs.Prelude.{ℕ, zero, suc, ◌+◌, Bool, true, false, List, [], ◌∷◌, ◌++◌, drop, eqb, ltb}
-use Rattle.laws.specs.Choice.{if◌then◌else◌}
+use Rattle.laws.specs.Choice.{when◌then◌else◌}
 use Rattle.layout.specs.declared.Layout.{Layout}
 use Rattle.layout.specs.declared.Loaded.{Loaded}
 use Rattle.layout.specs.Load.{load}
@@ -39,9 +39,9 @@ read_on on bytes (r ∷ reads) before g = on (drop g.at bytes ++ r) reads (befor
 -- after a call, by why it stopped: in the same bytes; with more of the file; the file's end; a fault, at its place in the file
 unfoldable pub go_on : ℕ → Onward → List ℕ → List (List ℕ) → ℕ → Run → List ℕ
 go_on room on bytes reads before g =
-    if ltb g.stop 2 then on bytes reads before g.state g.count g.at
-    else if eqb g.stop 2 then read_on on bytes reads before g
-    else if eqb g.stop 3 then []
+    when ltb g.stop 2 then on bytes reads before g.state g.count g.at
+    else when eqb g.stop 2 then read_on on bytes reads before g
+    else when eqb g.stop 3 then []
     else fault_in room events_word g.stop (before + g.at)
 
 -- the list from a place of the buffer on in so many calls at most, each with so much room
@@ -59,11 +59,11 @@ list_on_in_calls calls room panel L first reads =
 -- L1, by the answer to a file of fitted sections
 unfoldable pub printed_by_in_calls : ℕ → ℕ → Bool → Fitting → List ℕ → List (List ℕ) → List ℕ
 printed_by_in_calls calls room panel r first reads =
-    if eqb r.number 0 then list_on_in_calls calls room panel r.layout first reads else fault_in room fitted_word r.number r.detail
+    when eqb r.number 0 then list_on_in_calls calls room panel r.layout first reads else fault_in room fitted_word r.number r.detail
 
 -- all that the program prints of a layout file and the reads of the other two, of each the first and those after it
 unfoldable pub printed_in_calls : ℕ → ℕ → Bool → List ℕ → List ℕ → List (List ℕ) → List ℕ → List (List ℕ) → List ℕ
 printed_in_calls calls room panel layout_file told tells first reads =
     let loaded : Loaded = load layout_file in
-    if eqb loaded.number 0 then printed_by_in_calls calls room panel (fit_in_reads loaded.layout told tells) first reads
+    when eqb loaded.number 0 then printed_by_in_calls calls room panel (fit_in_reads loaded.layout told tells) first reads
     else fault_in room layout_word loaded.number loaded.detail

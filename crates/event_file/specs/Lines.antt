@@ -1,6 +1,6 @@
 -- What is printed of an event (section 8), in ASCII.
 use Rattle.std.specs.Prelude.{ℕ, ◌+◌, Bool, List, [], ◌∷◌, ◌++◌, length, get_or, eqb, ltb}
-use Rattle.laws.specs.Choice.{if◌then◌else◌}
+use Rattle.laws.specs.Choice.{when◌then◌else◌}
 use Rattle.laws.specs.Tables.{join}
 use Rattle.numerals.specs.Digits.{decimal_digits}
 use Rattle.layout.specs.declared.Layout.{Layout}
@@ -41,11 +41,11 @@ spaced n bytes = join n (λ i. after_space (get_or bytes i 0))
 
 -- the event's number: counted as far as 64 bits go, further than any file
 unfoldable pub next_count : ℕ → ℕ
-next_count n = if ltb n 18446744073709551615 then n + 1 else n
+next_count n = when ltb n 18446744073709551615 then n + 1 else n
 
 -- what is shown by a panel's answer: the image; nothing where the answer is not 0
 unfoldable pub shown_by : Drawn → List ℕ → List ℕ
-shown_by d bytes = if eqb d.number 0 then bytes else []
+shown_by d bytes = when eqb d.number 0 then bytes else []
 
 -- what is shown of a state: its panel image (section 7), by the panel's answer into 512 bytes; the same in a run that asked soundness before its
 -- first event
@@ -61,7 +61,7 @@ panel_text bytes = (space ∷ stroke ∷ []) ++ spaced (length bytes) bytes
 
 -- event number, answer and detail, and where that is asked for the panel's bytes then; the same with its line's end
 unfoldable pub line_text : Bool → List ℕ → ℕ → ℕ → ℕ → List ℕ
-line_text panel bytes n a d = if panel then three_numbers n a d ++ panel_text bytes else three_numbers n a d
+line_text panel bytes n a d = when panel then three_numbers n a d ++ panel_text bytes else three_numbers n a d
 
 unfoldable pub line_of : Bool → List ℕ → ℕ → ℕ → ℕ → List ℕ
 line_of panel bytes n a d = line_text panel bytes n a d ++ (line_end ∷ [])
@@ -69,7 +69,7 @@ line_of panel bytes n a d = line_text panel bytes n a d ++ (line_end ∷ [])
 -- the most bytes of that: three numbers of 20 digits and two spaces; with a panel also a space, a stroke and 512 bytes in four places each; with the
 -- line's end
 unfoldable pub most_text : Bool → ℕ
-most_text panel = if panel then 2112 else 62
+most_text panel = when panel then 2112 else 62
 
 unfoldable pub most_line : Bool → ℕ
 most_line panel = most_text panel + 1

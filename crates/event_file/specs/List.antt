@@ -1,6 +1,6 @@
 -- What the event program prints of a layout file, a file of fitted sections (L1) and an event file (section 8), as one list of bytes.
 use Rattle.std.specs.Prelude.{ℕ, zero, suc, ◌<◌, ◌≡◌, Bool, List, [], ◌∷◌, ◌++◌, length, eqb}
-use Rattle.laws.specs.Choice.{if◌then◌else◌}
+use Rattle.laws.specs.Choice.{when◌then◌else◌}
 use Rattle.numerals.specs.Digits.{fitting}
 use Rattle.numerals.specs.Words.{ascii}
 use Rattle.layout.specs.declared.Layout.{Layout}
@@ -62,7 +62,7 @@ list_from (suc most) f panel show file s n at =
 
 -- before the first event: the header, or the cold start's line with its panel
 unfoldable pub opening : Bool → Layout → List ℕ
-opening panel L = if panel then line_of panel (shown L cold) 0 0 0 else header
+opening panel L = when panel then line_of panel (shown L cold) 0 0 0 else header
 
 -- a fault's line and the opening in a buffer of so much room, and nothing where that may be too little
 abbrev pub fault_in : ℕ → List ℕ → ℕ → ℕ → List ℕ
@@ -77,13 +77,13 @@ list_on panel L file = opening panel L ++ list_from (suc (length file)) (box L) 
 
 -- L1, by the answer to a file of fitted sections: the list on the layout with them, or only the line of that file's fault
 unfoldable pub printed_by : Bool → Fitting → List ℕ → List ℕ
-printed_by panel r file = if eqb r.number 0 then list_on panel r.layout file else fault_line fitted_word r.number r.detail
+printed_by panel r file = when eqb r.number 0 then list_on panel r.layout file else fault_line fitted_word r.number r.detail
 
 -- all that is printed; the file of fitted sections has no bytes where none is told
 unfoldable pub printed : Bool → List ℕ → List ℕ → List ℕ → List ℕ
 printed panel layout_file fitted_file file =
     let loaded : Loaded = load layout_file in
-    if eqb loaded.number 0 then printed_by panel (fit loaded.layout fitted_file) file
+    when eqb loaded.number 0 then printed_by panel (fit loaded.layout fitted_file) file
     else fault_line layout_word loaded.number loaded.detail
 
 -- L1, a file of fitted sections is whole, and the layout has each section that it tells

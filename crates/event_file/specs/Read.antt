@@ -1,6 +1,6 @@
 -- Events in a file (sections 3 and 8): three numbers of the number form each, one event after another.
 use Rattle.std.specs.Prelude.{ℕ, ◌≤◌, ◌≡◌, List, [], ◌∷◌, length, ltb}
-use Rattle.laws.specs.Choice.{if◌then◌else◌}
+use Rattle.laws.specs.Choice.{when◌then◌else◌}
 use Rattle.numbers.specs.declared.Number.{Number}
 use Rattle.numbers.specs.declared.Number.TheVariants.{Value, Fault}
 use Rattle.numbers.specs.Number.{largest, number_at}
@@ -29,7 +29,7 @@ with_kind file (Fault number at) = Bad number at
 -- section 8, what stands at a place: an event with the place after it; 21 where the file ends inside the event or 22 for a bad number,
 -- with the place that section 2 tells of; or nothing, where the file ended after the event before
 unfoldable pub event_at : List ℕ → ℕ → Next
-event_at file at = if ltb at (length file) then with_kind file (number_at file at) else Nothing
+event_at file at = when ltb at (length file) then with_kind file (number_at file at) else Nothing
 
 -- section 8, the paper's number and values of each case: 0, the event's three numbers and the place after it; or 21 or 22 and the place that section 2
 -- tells of; nothing where the file ended after the event before

@@ -1,6 +1,6 @@
 -- A run over an event file, a piece of the file at a time (section 8).
 use Rattle.std.specs.Prelude.{ℕ, ◌-◌, ◌≡◌, Bool, not, List, [], ◌++◌, length, eqb, ltb}
-use Rattle.laws.specs.Choice.{if◌then◌else◌}
+use Rattle.laws.specs.Choice.{when◌then◌else◌}
 use Rattle.laws.specs.Tests.{◌and◌}
 use Rattle.laws.specs.Tables.{iter}
 use Rattle.interlocking.specs.declared.State.{State}
@@ -35,13 +35,13 @@ took panel show n next r = record { state = r.next; count = n; at = next; stop =
 unfoldable pub next_of : (State → Event → Answer) → Bool → (State → List ℕ) → Bool → State → ℕ → ℕ → Next → Run
 next_of f panel show last s n at (Taken kind first second next) =
     took panel show (next_count n) next (f s (record { kind = kind; first = first; second = second }))
-next_of f panel show last s n at (Bad number place) = if eqb number 21 and not last then stopped s n at 2 else stopped s n place number
-next_of f panel show last s n at Nothing = if last then stopped s n at 3 else stopped s n at 2
+next_of f panel show last s n at (Bad number place) = when eqb number 21 and not last then stopped s n at 2 else stopped s n place number
+next_of f panel show last s n at Nothing = when last then stopped s n at 3 else stopped s n at 2
 
 -- one turn, with so much room for its line
 unfoldable pub turn_of : (State → Event → Answer) → Bool → (State → List ℕ) → Bool → List ℕ → ℕ → State → ℕ → ℕ → Run
 turn_of f panel show last bytes room s n at =
-    if ltb room (most_line panel) then stopped s n at 1 else next_of f panel show last s n at (event_at bytes at)
+    when ltb room (most_line panel) then stopped s n at 1 else next_of f panel show last s n at (event_at bytes at)
 
 -- what is printed after what was printed
 unfoldable pub after : Run → Run → Run
@@ -50,7 +50,7 @@ after g t = record { state = t.state; count = t.count; at = t.at; stop = t.stop;
 -- a turn of a run that did not stop
 unfoldable pub turn_run : (State → Event → Answer) → Bool → (State → List ℕ) → Bool → List ℕ → ℕ → Run → Run
 turn_run f panel show last bytes room g =
-    if eqb g.stop 0 then after g (turn_of f panel show last bytes (room - length g.text) g.state g.count g.at) else g
+    when eqb g.stop 0 then after g (turn_of f panel show last bytes (room - length g.text) g.state g.count g.at) else g
 
 -- before the first turn
 unfoldable pub start : State → ℕ → ℕ → Run
@@ -73,8 +73,8 @@ halted p at why = record { state = p.state; count = p.count; at = at; written = 
 -- and with the end that what stands at the next place makes; an event makes none
 unfoldable pub halted_by : Bool → Piece → Next → Piece
 halted_by last p (Taken kind first second next) = p
-halted_by last p (Bad number place) = if eqb number 21 and not last then halted p p.at 2 else halted p place number
-halted_by last p Nothing = if last then halted p p.at 3 else halted p p.at 2
+halted_by last p (Bad number place) = when eqb number 21 and not last then halted p p.at 2 else halted p place number
+halted_by last p Nothing = when last then halted p p.at 3 else halted p p.at 2
 
 -- a run that did not stop
 unfoldable pub so_far : State → ℕ → ℕ → ℕ → Piece

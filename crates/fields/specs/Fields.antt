@@ -1,6 +1,6 @@
 -- One number of the layout file, with the fault that it may bring (section 2).
 use Rattle.std.specs.Prelude.{ℕ, ◌+◌, List, ltb, eqb}
-use Rattle.laws.specs.Choice.{if◌then◌else◌}
+use Rattle.laws.specs.Choice.{when◌then◌else◌}
 use Rattle.numbers.specs.declared.Number.{Number}
 use Rattle.numbers.specs.declared.Number.TheVariants.{Value, Fault}
 use Rattle.numbers.specs.Number.{number_at}
@@ -13,12 +13,12 @@ failed at fault = record { at = at; fault = fault; value = 0 }
 -- what was read at a place: a number from low to just below limit, else the fault given there; or the number form's own fault
 unfoldable pub judge : Number → ℕ → ℕ → ℕ → ℕ → Cursor
 judge (Value v next) at low limit fault =
-    if ltb v low then failed at fault else if ltb v limit then record { at = next; fault = 0; value = v } else failed at fault
+    when ltb v low then failed at fault else when ltb v limit then record { at = next; fault = 0; value = v } else failed at fault
 judge (Fault number place) at low limit fault = failed place number
 
 -- the next number is read, unless a fault was met before: the first fault met stays
 unfoldable pub field : List ℕ → Cursor → ℕ → ℕ → ℕ → Cursor
-field s c low limit fault = if eqb c.fault 0 then judge (number_at s c.at) c.at low limit fault else failed c.at c.fault
+field s c low limit fault = when eqb c.fault 0 then judge (number_at s c.at) c.at low limit fault else failed c.at c.fault
 
 -- a version, count or code, low to high: 23 outside its range
 unfoldable pub code : List ℕ → Cursor → ℕ → ℕ → Cursor

@@ -7,7 +7,7 @@ use native.Mathlib.Nat.{not-suc-le-zero}
 use native.Mathlib.Omega.{arith}
 use borrow.Author.Tests.{lt-ltb, le-leb}
 use lib.ListN.{get_or, length-replicate}
-use Rattle.laws.specs.Choice.{if◌then◌else◌}
+use Rattle.laws.specs.Choice.{when◌then◌else◌}
 use Rattle.laws.proofs.Choice.{if_both}
 use Rattle.laws.proofs.Tests.{and_both}
 use Rattle.laws.proofs.Loops.{iter_keeps, iter_same}
@@ -75,10 +75,10 @@ module _ (s : List ℕ) (version signals : ℕ) (c : Cursor) where
 
   -- there are no more than the version has
   pub distants_few : (distants s version signals c).count ≤ most_distants_of version
-  unfolding distants most_distants_of without_distants if◌then◌else◌
+  unfolding distants most_distants_of without_distants when◌then◌else◌
   distants_few = few (lists_none version)
     where
-      few : (b : Bool) → (if b then without_distants c else distants_from s signals (code s c 0 most_distants)).count ≤ (if b then 0 else most_distants)
+      few : (b : Bool) → (when b then without_distants c else distants_from s signals (code s c 0 most_distants)).count ≤ (when b then 0 else most_distants)
       few true = omega arith
       few false = rw (from_count s signals (code s c 0 most_distants)) (code_most s c 0 most_distants refl)
 

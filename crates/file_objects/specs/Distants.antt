@@ -1,6 +1,6 @@
 -- The distants of the layout file (L2).
 use Rattle.std.specs.Prelude.{ℕ, Bool, List, ltb, set, replicate}
-use Rattle.laws.specs.Choice.{if◌then◌else◌}
+use Rattle.laws.specs.Choice.{when◌then◌else◌}
 use Rattle.laws.specs.Tables.{iter}
 use Rattle.fields.specs.declared.Cursor.{Cursor}
 use Rattle.fields.specs.Fields.{code, reference, none_or_reference}
@@ -17,7 +17,7 @@ lists_none version = ltb version distants_version
 
 -- the most distants of a version: version 1 has none
 unfoldable pub most_distants_of : ℕ → ℕ
-most_distants_of version = if lists_none version then 0 else most_distants
+most_distants_of version = when lists_none version then 0 else most_distants
 
 -- no distants
 unfoldable pub no_distants : List ℕ
@@ -50,4 +50,4 @@ distants_from s signals c = iter (distant_turn s signals) c.value (record { cur 
 
 -- version 2 lists up to 32 distants; version 1 reads as having none
 unfoldable pub distants : List ℕ → ℕ → ℕ → Cursor → Distants
-distants s version signals c = if lists_none version then without_distants c else distants_from s signals (code s c 0 most_distants)
+distants s version signals c = when lists_none version then without_distants c else distants_from s signals (code s c 0 most_distants)

@@ -1,6 +1,6 @@
 -- The routes of the layout file (section 2).
 use Rattle.std.specs.Prelude.{ℕ, List, eqb, set, replicate}
-use Rattle.laws.specs.Choice.{if◌then◌else◌}
+use Rattle.laws.specs.Choice.{when◌then◌else◌}
 use Rattle.laws.specs.Tables.{iter}
 use Rattle.fields.specs.declared.Cursor.{Cursor}
 use Rattle.fields.specs.declared.Items.{Items}
@@ -26,7 +26,7 @@ an_end s c lines =
 
 -- then for kinds 1 and 2 the line and the end; the kind is the number read last
 unfoldable pub line_and_end : List ℕ → Cursor → ℕ → End
-line_and_end s c lines = if eqb c.value inner_route then record { cur = c; line = 0; end = end_a } else an_end s c lines
+line_and_end s c lines = when eqb c.value inner_route then record { cur = c; line = 0; end = end_a } else an_end s c lines
 
 -- entry signal, kind (0 inner, 1 entrance, 2 exit), line and end, diverging 0 or 1
 unfoldable pub route_head : List ℕ → Counts → Cursor → Head

@@ -5,7 +5,7 @@ use mathlib.Core.Bool.{Bool, true, false}
 use mathlib.Core.List.{List}
 use borrow.Author.Tests.{eq-eqb, eqb-true}
 use lib.Dec.{eqb}
-use Rattle.laws.specs.Choice.{if◌then◌else◌}
+use Rattle.laws.specs.Choice.{when◌then◌else◌}
 use Rattle.layout.specs.declared.Layout.{Layout}
 use Rattle.fitted.specs.Numbers.{Numbers, numbers_of}
 use Rattle.fitted.specs.Fitted.{equipped, fit_by, fit}
@@ -13,7 +13,7 @@ use Rattle.fitted.proofs.Whole.{Known, from_known}
 
 -- the answer's number is the numbers' fault
 by_number : (L : Layout) (r : Numbers) (t : Bool) → eqb r.fault 0 ≡ t → (fit_by L r).number ≡ r.fault
-unfolding fit_by if◌then◌else◌
+unfolding fit_by when◌then◌else◌
 by_number L r true e = rw e (sym (eqb-true _ 0 e))
 by_number L r false e = rw e
 
@@ -23,7 +23,7 @@ fit_number L bytes = by_number L (numbers_of bytes) (eqb (numbers_of bytes).faul
 
 -- where there is none the layout is equipped with them
 pub fit_layout : (L : Layout) (bytes : List ℕ) → eqb (numbers_of bytes).fault 0 ≡ true → (fit L bytes).layout ≡ equipped (numbers_of bytes).list L
-unfolding fit fit_by if◌then◌else◌
+unfolding fit fit_by when◌then◌else◌
 fit_layout L bytes e = rw e
 
 -- which is where the answer is 0

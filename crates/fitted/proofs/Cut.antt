@@ -10,7 +10,7 @@ use borrow.Author.Tests.{ltb-true}
 use lib.Dec.{eqb, ltb}
 use lib.ListN.{length, take, drop, length-append, take-append-drop}
 use lib.Seq.{length-take-le}
-use Rattle.laws.specs.Choice.{if◌then◌else◌}
+use Rattle.laws.specs.Choice.{when◌then◌else◌}
 use Rattle.laws.proofs.Choice.{if_eq, if_ne, if_both, if_under}
 use Rattle.numbers.specs.declared.Number.{Number}
 use Rattle.numbers.specs.declared.Number.TheVariants.{Value, Fault}
@@ -132,12 +132,12 @@ tell_after sections t (n ∷ ns) ms = tell_after sections _ ns ms
 
 -- 22 ends every piece, the last or not
 stop_bad : (last : Bool) (fault : ℕ) → fault ≡ 22 → stop_of last fault ≡ 22
-unfolding stop_of if◌then◌else◌
+unfolding stop_of when◌then◌else◌
 stop_bad last fault e = rw e
 
 -- else a piece that is not the last ends where more is to be read
 stop_wait : (fault : ℕ) → (fault ≡ 22 → ⊥) → stop_of false fault ≡ 2
-unfolding stop_of if◌then◌else◌
+unfolding stop_of when◌then◌else◌
 stop_wait fault d = sym (if_ne fault 22 22 2 2 d refl)
 
 module _ (sections : ℕ) where
@@ -157,7 +157,7 @@ module _ (sections : ℕ) where
     abbrev step : Numbers → Piece
     step q =
         let p : Piece = ended false (tell_all sections t q.list) q.place q.fault in
-        if eqb p.stop 2 then on (drop p.at bytes) (gone + p.at) p.told else in_file gone p
+        when eqb p.stop 2 then on (drop p.at bytes) (gone + p.at) p.told else in_file gone p
 
     -- where what follows tells the rest, both tell the whole: at a bad number nothing follows, else the rest is read from there on
     step_tells : ((k : ℕ) (u : Told) → on (drop k bytes) (gone + k) u ≡ last_by (gone + k) u (from_place (drop k bytes ++ more) 0))

@@ -11,7 +11,7 @@ use borrow.Author.Tests.{eqb-true, eq-eqb, leb-true, le-leb}
 use lib.Dec.{eqb, leb}
 use lib.ListN.{get_or}
 use lib.Seq.{ext_get_or}
-use Rattle.laws.specs.Choice.{if◌then◌else◌}
+use Rattle.laws.specs.Choice.{when◌then◌else◌}
 use Rattle.laws.specs.Totals.{bit}
 use Rattle.laws.proofs.Choice.{if_both}
 use Rattle.laws.proofs.Tests.{and_right, or_cases, or_left, or_right, not_both, fails_from, alike, every_at, every_one, every_more, all_from}
@@ -115,7 +115,7 @@ equipped_none s = none_equips (load s).layout (loaded_none_told s)
 module _ (L : Layout) (ns : List ℕ) where
   -- the table of heads says 0 or 1 of each section
   heads_fit : (g : ℕ) → g < most_sections → leb (get_or (equipped ns L).fitted g 0) 1 ≡ true
-  unfolding equipped with_told told_by bit if◌then◌else◌
+  unfolding equipped with_told told_by bit when◌then◌else◌
   heads_fit g h = rw (table_at most_sections (λ k. bit (is_told ns k)) 0 g h) (if_both (λ x. leb x 1 ≡ true) (is_told ns g) (λ t. refl) (λ t. refl))
 
   -- there are no more sections than there may be
@@ -125,7 +125,7 @@ module _ (L : Layout) (ns : List ℕ) where
 
   -- every number is in its range where the layout's are and none is lacking
   equipped_fits : fits L ≡ true → lacks L.sections ns ≡ false → fits (equipped ns L) ≡ true
-  unfolding fits counts line_in signals_in carrier_of announced_by route_in equipped with_told told_by bit if◌then◌else◌
+  unfolding fits counts line_in signals_in carrier_of announced_by route_in equipped with_told told_by bit when◌then◌else◌
   equipped_fits e f =
       let at = every_at _ e in
       every_more _ _ _ (at 0) (every_more _ _ _ (at 1) (every_more _ _ _ (at 2) (every_more _ _ _ (at 3) (every_more _ _ _ (at 4) (every_more _ _ _ (at 5)

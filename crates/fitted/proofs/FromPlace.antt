@@ -7,7 +7,7 @@ use native.Mathlib.Omega.{arith}
 use borrow.Author.Tests.{le-ltb}
 use lib.Dec.{ltb}
 use lib.ListN.{length}
-use Rattle.laws.specs.Choice.{if◌then◌else◌}
+use Rattle.laws.specs.Choice.{when◌then◌else◌}
 use Rattle.laws.proofs.Choice.{if_lt, if_ge, passed_over}
 use Rattle.numbers.specs.declared.Number.{Number}
 use Rattle.numbers.specs.declared.Number.TheVariants.{Value, Fault}
@@ -27,7 +27,7 @@ module _ (file : List ℕ) where
   one_more : (m at : ℕ) → length file ≤ m + at → numbers_from (suc m) file at ≡ numbers_from m file at
   unfolding numbers_from
   one_more zero at h = passed_over (ltb at (length file)) _ _ (le-ltb at (length file) (omega arith))
-  one_more (suc m) at h = ap (λ r. if ltb at (length file) then r else no_numbers 0 at) (next_more m at (one_more m) (number_at file at) refl h)
+  one_more (suc m) at h = ap (λ r. when ltb at (length file) then r else no_numbers 0 at) (next_more m at (one_more m) (number_at file at) refl h)
 
   -- so any more numbers may be allowed
   pub more_same : (k m at : ℕ) → length file ≤ m + at → numbers_from (k + m) file at ≡ numbers_from m file at

@@ -7,7 +7,7 @@ use mathlib.Core.Logic.{◌⊎◌, inl, inr, ⊎_elim}
 use native.Mathlib.Omega.{arith}
 use lib.Dec.{ltb}
 use lib.ListN.{length}
-use Rattle.laws.specs.Choice.{if◌then◌else◌}
+use Rattle.laws.specs.Choice.{when◌then◌else◌}
 use Rattle.laws.proofs.Choice.{if_eq, if_ne, if_both}
 use Rattle.numbers.specs.declared.Number.{Number}
 use Rattle.numbers.specs.declared.Number.TheVariants.{Value, Fault}
@@ -51,12 +51,12 @@ read_as L r = ended true (tell_all L.sections none_told r.list) r.place r.fault
 
 -- the last piece ends by 3 at the file's end
 stop_end : (fault : ℕ) → fault ≡ 0 → stop_of true fault ≡ 3
-unfolding stop_of if◌then◌else◌
+unfolding stop_of when◌then◌else◌
 stop_end fault e = rw e
 
 -- and by the fault at a fault
 stop_fault : (fault : ℕ) → (fault ≡ 21) ⊎ (fault ≡ 22) → stop_of true fault ≡ fault
-unfolding stop_of if◌then◌else◌
+unfolding stop_of when◌then◌else◌
 stop_fault fault (inl e) = rw e
 stop_fault fault (inr e) = rw e
 

@@ -1,6 +1,6 @@
 -- The sections that have heads, told beside the layout (L1).
 use Rattle.std.specs.Prelude.{ℕ, ◌<◌, ◌≡◌, Bool, false, List, [], ◌∷◌, length, get_or, set, eqb, leb}
-use Rattle.laws.specs.Choice.{if◌then◌else◌}
+use Rattle.laws.specs.Choice.{when◌then◌else◌}
 use Rattle.laws.specs.Tests.{◌or◌}
 use Rattle.laws.specs.Tables.{table}
 use Rattle.laws.specs.Totals.{bit}
@@ -63,7 +63,7 @@ equipped ns L = with_told L (told_by L.sections ns)
 -- L1, by the numbers of a file: 0 and 0 with the layout so equipped; or the first fault and its offset, with the layout as it was
 unfoldable pub fit_by : Layout → Numbers → Fitting
 fit_by L r =
-    if eqb r.fault 0 then record { number = 0; detail = 0; layout = equipped r.list L } else record { number = r.fault; detail = r.place; layout = L }
+    when eqb r.fault 0 then record { number = 0; detail = 0; layout = equipped r.list L } else record { number = r.fault; detail = r.place; layout = L }
 
 -- L1, the answer to a file of fitted sections
 unfoldable pub fit : Layout → List ℕ → Fitting
@@ -77,7 +77,7 @@ none_told = record { fitted = none_fitted; lacking = 0 }
 
 -- whether a section is lacking, when n is told too
 unfoldable pub lacking_with : ℕ → ℕ → ℕ → ℕ
-lacking_with sections lacking n = if leb sections n then 1 else lacking
+lacking_with sections lacking n = when leb sections n then 1 else lacking
 
 -- what was told, and n
 unfoldable pub tell : ℕ → Told → ℕ → Told

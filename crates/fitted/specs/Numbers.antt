@@ -1,6 +1,6 @@
 -- The numbers of a file, one after another in the number form (section 2).
 use Rattle.std.specs.Prelude.{ℕ, zero, suc, List, [], ◌∷◌, length, ltb}
-use Rattle.laws.specs.Choice.{if◌then◌else◌}
+use Rattle.laws.specs.Choice.{when◌then◌else◌}
 use Rattle.numbers.specs.declared.Number.{Number}
 use Rattle.numbers.specs.declared.Number.TheVariants.{Value, Fault}
 use Rattle.numbers.specs.Number.{number_at}
@@ -27,7 +27,7 @@ numbers_next rest (Fault number place) = no_numbers number place
 -- the numbers from a place of the file on, so many at most
 unfoldable pub numbers_from : ℕ → List ℕ → ℕ → Numbers
 numbers_from zero file at = no_numbers 0 at
-numbers_from (suc most) file at = if ltb at (length file) then numbers_next (numbers_from most file) (number_at file at) else no_numbers 0 at
+numbers_from (suc most) file at = when ltb at (length file) then numbers_next (numbers_from most file) (number_at file at) else no_numbers 0 at
 
 -- all of them: a file has no more numbers than bytes, and one more place to end at
 unfoldable pub from_place : List ℕ → ℕ → Numbers

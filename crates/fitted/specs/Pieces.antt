@@ -1,6 +1,6 @@
 -- The file of fitted sections, a piece at a time (L1).
 use Rattle.std.specs.Prelude.{ℕ, ◌+◌, Bool, true, false, List, [], ◌∷◌, ◌++◌, drop, eqb}
-use Rattle.laws.specs.Choice.{if◌then◌else◌}
+use Rattle.laws.specs.Choice.{when◌then◌else◌}
 use Rattle.layout.specs.declared.Layout.{Layout}
 use Rattle.fitted.specs.declared.Told.{Told}
 use Rattle.fitted.specs.declared.Piece.{Piece}
@@ -11,7 +11,7 @@ use Rattle.fitted.specs.Fitted.{with_told, none_told, tell_all}
 -- why reading ended, by the fault that was met, 0 where the bytes ended: 22 a bad number; 2 the next number lies past the end of a piece that is not the
 -- file's last; 3 the file's end; 21 it ends inside a number
 unfoldable pub stop_of : Bool → ℕ → ℕ
-stop_of last fault = if eqb fault 22 then 22 else if last then (if eqb fault 0 then 3 else fault) else 2
+stop_of last fault = when eqb fault 22 then 22 else when last then (when eqb fault 0 then 3 else fault) else 2
 
 -- a piece that was read as far as a place
 unfoldable pub ended : Bool → Told → ℕ → ℕ → Piece
@@ -26,7 +26,7 @@ piece_of sections last bytes t at =
 -- the answer to a file that was read to its end or to a fault
 unfoldable pub answer : Layout → Piece → Fitting
 answer L p =
-    if eqb p.stop 3 then record { number = 0; detail = 0; layout = with_told L p.told } else record { number = p.stop; detail = p.at; layout = L }
+    when eqb p.stop 3 then record { number = 0; detail = 0; layout = with_told L p.told } else record { number = p.stop; detail = p.at; layout = L }
 
 -- ---- a file of any length: what lies in the buffer is read, what is left of it is brought to the front, and the next read put behind it
 
@@ -39,7 +39,7 @@ unfoldable pub told_in_reads : ℕ → List ℕ → List (List ℕ) → ℕ → 
 told_in_reads sections bytes [] gone t = in_file gone (piece_of sections true bytes t 0)
 told_in_reads sections bytes (r ∷ reads) gone t =
     let p : Piece = piece_of sections false bytes t 0 in
-    if eqb p.stop 2 then told_in_reads sections (drop p.at bytes ++ r) reads (gone + p.at) p.told else in_file gone p
+    when eqb p.stop 2 then told_in_reads sections (drop p.at bytes ++ r) reads (gone + p.at) p.told else in_file gone p
 
 -- the answer to a file by its reads, the first and those after it
 unfoldable pub fit_in_reads : Layout → List ℕ → List (List ℕ) → Fitting

@@ -7,7 +7,7 @@ use mathlib.Core.List.{List, [], ◌∷◌, ◌++◌}
 use native.Mathlib.Omega.{arith}
 use lib.Dec.{eqb}
 use lib.ListN.{length, take}
-use Rattle.laws.specs.Choice.{if◌then◌else◌}
+use Rattle.laws.specs.Choice.{when◌then◌else◌}
 use Rattle.laws.specs.Tests.{◌and◌}
 use Rattle.layout.specs.declared.Layout.{Layout}
 use Rattle.layout.specs.Layout.{no_layout}
@@ -60,14 +60,14 @@ module _ (buffer : List ℕ) where
   -- a layout file: accepted, the log begins anew; refused, it goes on
   file_waits : (bytes : List ℕ) (cs : List Call) → (Lacking cs → Throughout Unserved (log_of buffer cs))
       → (t : Bool) → eqb (load bytes).number 0 ≡ t → Lacking (load_file bytes ∷ cs) → Throughout Unserved (log_of buffer (load_file bytes ∷ cs))
-  unfolding Throughout log_of Lacking loaded_after told_after if◌then◌else◌
+  unfolding Throughout log_of Lacking loaded_after told_after when◌then◌else◌
   file_waits bytes cs rest true q l = rw q tt
   file_waits bytes cs rest false q l = rw q (rest (rw q at l))
 
   -- so does a file of fitted sections
   fit_waits : (bytes : List ℕ) (cs : List Call) → (Lacking cs → Throughout Unserved (log_of buffer cs))
       → (t : Bool) → eqb (numbers_of bytes).fault 0 ≡ t → Lacking (fit_sections bytes ∷ cs) → Throughout Unserved (log_of buffer (fit_sections bytes ∷ cs))
-  unfolding Throughout log_of Lacking loaded_after told_after if◌then◌else◌
+  unfolding Throughout log_of Lacking loaded_after told_after when◌then◌else◌
   fit_waits bytes cs rest true q l = rw q tt
   fit_waits bytes cs rest false q l = rw q (rest (rw q at l))
 
@@ -89,7 +89,7 @@ module _ (buffer : List ℕ) where
 
   -- the image that is drawn then is the state's, whole
   drawn_then_law : (L : Layout) (s : State) → Served L → in_range s ≡ true → drawn_then buffer (records L s) ≡ image L s
-  unfolding drawn_then tells of_panel drawn drawn_where answer if◌then◌else◌
+  unfolding drawn_then tells of_panel drawn drawn_where answer when◌then◌else◌
   drawn_then_law L s (ok, enough) ranged = rw (← drawn_whole L s ok ranged (length buffer) enough) (take_first (image L s) _)
 
   -- what a call for an event tells, and the image that is drawn then, are the moment
@@ -108,7 +108,7 @@ module _ (buffer : List ℕ) where
       → (Served (records_after cs).layout → log_of buffer cs ≡ history (records_after cs).layout (events_since cs))
       → (t : Bool) → eqb (load bytes).number 0 ≡ t → Served (records_after (load_file bytes ∷ cs)).layout
       → log_of buffer (load_file bytes ∷ cs) ≡ history (records_after (load_file bytes ∷ cs)).layout (events_since (load_file bytes ∷ cs))
-  unfolding records_after after_call after_load after_file log_of events_since history goes_on if◌then◌else◌
+  unfolding records_after after_call after_load after_file log_of events_since history goes_on when◌then◌else◌
   file_told bytes cs rest true q ok = rw q
   file_told bytes cs rest false q ok = rw q (rest (rw q at ok))
 
@@ -117,7 +117,7 @@ module _ (buffer : List ℕ) where
       → (Served (records_after cs).layout → log_of buffer cs ≡ history (records_after cs).layout (events_since cs))
       → (t : Bool) → eqb (numbers_of bytes).fault 0 ≡ t → Served (records_after (fit_sections bytes ∷ cs)).layout
       → log_of buffer (fit_sections bytes ∷ cs) ≡ history (records_after (fit_sections bytes ∷ cs)).layout (events_since (fit_sections bytes ∷ cs))
-  unfolding records_after after_call after_fit after_file log_of events_since history goes_on if◌then◌else◌
+  unfolding records_after after_call after_fit after_file log_of events_since history goes_on when◌then◌else◌
   fit_told bytes cs rest true q ok = rw q
   fit_told bytes cs rest false q ok =
       let z : eqb (fit (records_after cs).layout bytes).number 0 ≡ false = ap (λ n. eqb n 0) (fit_number (records_after cs).layout bytes) ∙ q in

@@ -1,7 +1,7 @@
 -- Every call that a controller can make (cabinet/specs/Calls): what is demanded holds after any sequence of them, with any arguments, from power-on, told from
 -- what the calls told.
 use Rattle.std.specs.Prelude.{ℕ, ◌≤◌, ◌≡◌, ◌⊎◌, List, [], ◌∷◌, eqb, length, take}
-use Rattle.laws.specs.Choice.{if◌then◌else◌}
+use Rattle.laws.specs.Choice.{when◌then◌else◌}
 use Rattle.layout.specs.Layout.{no_layout}
 use Rattle.layout.specs.Load.{load}
 use Rattle.fitted.specs.Numbers.{numbers_of}
@@ -23,8 +23,8 @@ drawn_then buffer r = let t : Told = tells r (draw_panel buffer) in take t.detai
 unfoldable pub log_of : List ℕ → List Call → History
 log_of buffer [] = []
 log_of buffer (power_on ∷ cs) = []
-log_of buffer (load_file bytes ∷ cs) = if eqb (load bytes).number 0 then [] else log_of buffer cs
-log_of buffer (fit_sections bytes ∷ cs) = if eqb (numbers_of bytes).fault 0 then [] else log_of buffer cs
+log_of buffer (load_file bytes ∷ cs) = when eqb (load bytes).number 0 then [] else log_of buffer cs
+log_of buffer (fit_sections bytes ∷ cs) = when eqb (numbers_of bytes).fault 0 then [] else log_of buffer cs
 log_of buffer (give_event k a b ∷ cs) =
     let t : Told = tells (records_after cs) (give_event k a b) in
     record { event = event k a b; number = t.number; detail = t.detail; image = drawn_then buffer (records_after (give_event k a b ∷ cs)) } ∷ log_of buffer cs

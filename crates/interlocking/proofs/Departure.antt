@@ -4,7 +4,7 @@ use Prim.Native.Nat.{ℕ}
 use mathlib.Core.Path.{◌≡◌, refl, sym, ap, ◌∙◌}
 use mathlib.Core.Bool.{Bool, true, false}
 use mathlib.Core.List.{List}
-use Rattle.laws.specs.Choice.{if◌then◌else◌}
+use Rattle.laws.specs.Choice.{when◌then◌else◌}
 use Rattle.laws.specs.Tables.{put}
 use Rattle.laws.proofs.Choice.{chosen, passed_over}
 use Rattle.track.specs.declared.Route.{Route}
@@ -20,15 +20,15 @@ use Rattle.interlocking.specs.Parts.{core_of, headless, bare}
 
 -- the directions in which route a locks
 abbrev pub first_directions : List ℕ → Route → List ℕ
-first_directions directions a = if departs directions a then put most_lines directions a.line (leaving a.end) else directions
+first_directions directions a = when departs directions a then put most_lines directions a.line (leaving a.end) else directions
 
 -- the state with these
 pub first_lines : (s : State) (a : Route) → secure_first s a ≡ with_lines s (first_directions s.direction a) s.stage
-unfolding secure_first own_secure with_lines if◌then◌else◌
+unfolding secure_first own_secure with_lines when◌then◌else◌
 first_lines s a = go (departs s.direction a)
   where
-    go : (t : Bool) → (if t then own_secure s a.line (leaving a.end) else s)
-        ≡ with_lines s (if t then put most_lines s.direction a.line (leaving a.end) else s.direction) s.stage
+    go : (t : Bool) → (when t then own_secure s a.line (leaving a.end) else s)
+        ≡ with_lines s (when t then put most_lines s.direction a.line (leaving a.end) else s.direction) s.stage
     go true = refl
     go false = refl
 

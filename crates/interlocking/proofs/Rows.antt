@@ -6,7 +6,7 @@ use mathlib.Core.Logic.{◌≢◌, ◌⊎◌, inl, inr}
 use native.Mathlib.Omega.{arith}
 use borrow.Author.Tests.{eqb-true, eqb-false, eq-eqb, ne_eqb, le-leb, leb-true}
 use lib.Dec.{eqb}
-use Rattle.laws.specs.Choice.{if◌then◌else◌}
+use Rattle.laws.specs.Choice.{when◌then◌else◌}
 use Rattle.laws.specs.Tests.{◌or◌}
 use Rattle.laws.proofs.Tests.{and_both, and_left, and_right, not_both}
 use Rattle.laws.proofs.Choice.{if_both, if_ne, chosen, passed_over}
@@ -127,7 +127,7 @@ kind_of_no_heads p q r s h = omega arith
 -- the four rows are one: of a count and of a head's silence the event names a head, of a reset a section
 pub row_of_heads : {L : Layout} {s : State} {x y : Axles} {a b k : ℕ} {row : Row} → RowKind L s x y a b k row → (axles_in ≤ k) × (k ≤ reset_axles)
     → heads_row L s x y k a b ≡ row
-unfolding heads_row numbers_named wrong_count silence head_section count_row silent_row reset_row if◌then◌else◌ ◌or◌
+unfolding heads_row numbers_named wrong_count silence head_section count_row silent_row reset_row when◌then◌else◌ ◌or◌
 row_of_heads (count_row_kind (inl q)) h = rw q refl
 row_of_heads (count_row_kind (inr q)) h = rw q refl
 row_of_heads (silent_row_kind q) h = rw q refl

@@ -8,7 +8,7 @@ use native.Mathlib.Decide.{ℕ_discrete}
 use native.Mathlib.Omega.{arith}
 use lib.Dec.{eqb}
 use lib.ListN.{length, get_or}
-use Rattle.laws.specs.Choice.{if◌then◌else◌}
+use Rattle.laws.specs.Choice.{when◌then◌else◌}
 use Rattle.laws.specs.Tests.{◌and◌}
 use Rattle.laws.specs.Tables.{each, read}
 use Rattle.laws.proofs.Choice.{if_eq, if_ne, if_both}
@@ -172,10 +172,10 @@ module _ (L : Layout) (before s : State) (e : Gives) (few_lines_law : L.lines �
       fallen_to k = get_or (each L.routes (fallen_at L.line L.route s) s.phase) k 0
 
       go : (k : ℕ) → k < L.routes → Dec (get_or s.phase k 0 ≡ 0)
-          → (if eqb (read most_routes idle (each L.routes (fallen_at L.line L.route s) s.phase) k) 0 then get_or s.phase k 0 else x k)
-          ≡ (if eqb (read most_routes idle (each L.routes (fallen_at L.line L.route s) s.phase) k) 0 then fallen_to k else x k)
+          → (when eqb (read most_routes idle (each L.routes (fallen_at L.line L.route s) s.phase) k) 0 then get_or s.phase k 0 else x k)
+          ≡ (when eqb (read most_routes idle (each L.routes (fallen_at L.line L.route s) s.phase) k) 0 then fallen_to k else x k)
       go k b (yes z) =
-          ap (λ m. if eqb (read most_routes idle (each L.routes (fallen_at L.line L.route s) s.phase) k) 0 then m else x k)
+          ap (λ m. when eqb (read most_routes idle (each L.routes (fallen_at L.line L.route s) s.phase) k) 0 then m else x k)
           (fallen_idle L.line s.section s.point s.stage s.bar (route L.route k) (get_or s.phase k 0) z
           ∙ sym (each_at L.routes (fallen_at L.line L.route s) s.phase k b))
       go k b (no z) =

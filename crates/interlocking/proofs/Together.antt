@@ -10,7 +10,7 @@ use native.Mathlib.Omega.{arith}
 use borrow.Author.Tests.{eq-eqb, ne_eqb, lt-ltb, le-leb}
 use lib.Dec.{eqb, leb}
 use lib.ListN.{length, get_or, set}
-use Rattle.laws.specs.Choice.{if◌then◌else◌}
+use Rattle.laws.specs.Choice.{when◌then◌else◌}
 use Rattle.laws.specs.Tests.{◌and◌}
 use Rattle.laws.proofs.Choice.{chosen}
 use Rattle.laws.proofs.Tests.{and_both, not_both}
@@ -50,7 +50,7 @@ module _ (t : Bool) (L : Layout) (s : State) (k a b p : ℕ) (x y : Axles) (back
   -- a refusal leaves the state as it was, since the heads are stored back as they were, and no report is
   stays_whole : (of_parts of_whole : Row) → row_refusal t a of_parts ≡ row_refusal t a of_whole → (row_refusal t a of_whole).number ≢ 0
       → together s.axles p s.lamp k a b (followed L (core_of s) x y (tried t (core_of s) a of_parts)) ≡ answered_by t L s a of_whole
-  unfolding together followed tried moves stays answered_by if◌then◌else◌ core_of lamps_then ◌and◌
+  unfolding together followed tried moves stays answered_by when◌then◌else◌ core_of lamps_then ◌and◌
   stays_whole of_parts of_whole e d =
       let z : eqb (row_refusal t a of_whole).number 0 ≡ false = ne_eqb _ 0 d in
       rw (e, z, z, z, back)
@@ -58,7 +58,7 @@ module _ (t : Bool) (L : Layout) (s : State) (k a b p : ℕ) (x y : Axles) (back
   -- so the answer is the whole's
   answers_whole : {of_parts of_whole : Row} → Alike t k a b s p y of_parts of_whole
       → together s.axles p s.lamp k a b (followed L (core_of s) x y (tried t (core_of s) a of_parts)) ≡ answered_by t L s a of_whole
-  unfolding together followed tried moves stays answered_by if◌then◌else◌
+  unfolding together followed tried moves stays answered_by when◌then◌else◌
   answers_whole {of_parts} {of_whole} (refused_both e d) = stays_whole of_parts of_whole e d
   answers_whole {of_parts = u} {of_whole = v} (same e c g h i) = go (ℕ_discrete (row_refusal t a v).number 0)
     where
@@ -70,7 +70,7 @@ module _ (t : Bool) (L : Layout) (s : State) (k a b p : ℕ) (x y : Axles) (back
 
 -- an event of another kind reports no lamp
 no_report : (lamps : List ℕ) (k a b : ℕ) → k ≢ report_lamp → lamps_then lamps 0 k a b ≡ lamps
-unfolding lamps_then ◌and◌ if◌then◌else◌
+unfolding lamps_then ◌and◌ when◌then◌else◌
 no_report lamps k a b d = rw (ne_eqb k report_lamp d)
 
 -- ---- an event of no heads
@@ -78,7 +78,7 @@ no_report lamps k a b d = rw (ne_eqb k report_lamp d)
 module _ (t : Bool) (L : Layout) (s : State) (k a b : ℕ) (x : Axles) (back : set s.axles (head_place k a) x ≡ s.axles) where
   -- it leaves them, and its row is made of the nine tables
   plain : is_of_heads k ≡ false → {v : Row} → OfKind L s a b k v → Alike t k a b s (head_place k a) (heads_then x k a b) (row_with L (headless (core_of s) s.lamp) x (heads_then x k a b) k a b) v
-  unfolding core_of row_with heads_then if◌then◌else◌ row_refusal section_row point_row throw_row set_row cancel_row secure_row manual_row bar_row second_row lamp_row no_row
+  unfolding core_of row_with heads_then when◌then◌else◌ row_refusal section_row point_row throw_row set_row cancel_row secure_row manual_row bar_row second_row lamp_row no_row
       own_section own_point own_throw own_lock own_cancel own_secure own_manual own_bar own_lamp with_sections with_points with_routes with_lines with_bars with_lamps lamps_then ◌and◌
       throw_refusal set_refusal cancel_refusal manual_refusal route_refusal exit_refusal way_refusal secure_refusal
   plain n (section_row_kind q) = rw (n, q) (same refl refl refl (rw q at back) refl)
@@ -104,14 +104,14 @@ module _ (t : Bool) (L : Layout) (s : State) (k a b : ℕ) (x : Axles) (back : s
 -- where the numbers refuse, they are what is refused
 numbers_first : (t : Bool) (a : ℕ) (u v : Row) → u.missing ≡ v.missing → u.misfit ≡ v.misfit → u.wrong ≡ v.wrong
     → (numbers_refusal t v.missing a v.misfit v.wrong).number ≢ 0 → (row_refusal t a u ≡ row_refusal t a v) × ((row_refusal t a v).number ≢ 0)
-unfolding row_refusal first_of if◌then◌else◌
+unfolding row_refusal first_of when◌then◌else◌
 numbers_first t a u v m f w d =
     let z : eqb (numbers_refusal t v.missing a v.misfit v.wrong).number 0 ≡ false = ne_eqb _ 0 d in
     (rw (m, f, w, z), rw z d)
 
 -- where soundness was not found, or there is no such object, they do
 numbers_refuse : (t missing wrong : Bool) (a : ℕ) (f : Refusal) → (t ≡ true → missing ≡ true) → (numbers_refusal t missing a f wrong).number ≢ 0
-unfolding numbers_refusal first_of refused_if refused no_refusal if◌then◌else◌
+unfolding numbers_refusal first_of refused_if refused no_refusal when◌then◌else◌
 numbers_refuse true missing wrong a f h = rw (h refl) (λ z. omega arith)
 numbers_refuse false missing wrong a f h = λ z. omega arith
 
@@ -132,7 +132,7 @@ module _ (t : Bool) (L : Layout) (s : State) (k a b : ℕ) (x : Axles) (of : is_
   alike_rows : (missing wrong : Bool) (f h : Refusal) → (most_sections ≤ head_section k a → t ≡ true → missing ≡ true) → (x ≡ heads_of s k a → f ≡ h)
       → Alike t k a b s (head_place k a) (heads_then x k a b) (head_row L (headless (core_of s) s.lamp) (heads_then x k a b) (head_section k a) missing wrong f)
       (head_row L s (heads_by (heads_of s k a) k a b) (head_section k a) missing wrong h)
-  unfolding head_row heads_then if◌then◌else◌ row_refusal own_heads own_section with_sections with_axles core_of
+  unfolding head_row heads_then when◌then◌else◌ row_refusal own_heads own_section with_sections with_axles core_of
   alike_rows missing wrong f h past besides = go (dec_lt (head_section k a) most_sections)
     where
       go : Dec (head_section k a < most_sections)
@@ -174,7 +174,7 @@ module _ (t : Bool) (L : Layout) (s : State) (k a b : ℕ) (x : Axles) (of : is_
 
   -- its row, kind by kind
   of_its_heads : {v : Row} → OfKind L s a b k v → Alike t k a b s (head_place k a) (heads_then x k a b) (row_with L (headless (core_of s) s.lamp) x (heads_then x k a b) k a b) v
-  unfolding row_with if◌then◌else◌
+  unfolding row_with when◌then◌else◌
   of_its_heads (count_row_kind (inl q)) = count_alike (omega arith) (rw q)
   of_its_heads (count_row_kind (inr q)) = count_alike (omega arith) (rw q)
   of_its_heads (silent_row_kind q) = silent_alike q (rw q)

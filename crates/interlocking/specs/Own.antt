@@ -1,6 +1,6 @@
 -- What an accepted event itself does (sections 1, 3, 5), before signals, far sections, routes and lines follow.
 use Rattle.std.specs.Prelude.{ℕ, ◌*◌, ◌/◌, ◌%◌, List, eqb, ltb, set}
-use Rattle.laws.specs.Choice.{if◌then◌else◌}
+use Rattle.laws.specs.Choice.{when◌then◌else◌}
 use Rattle.laws.specs.Tests.{◌and◌}
 use Rattle.laws.specs.Tables.{each, put}
 use Rattle.track.specs.declared.Line.{Line}
@@ -29,7 +29,7 @@ own_point s p v = with_points s (put most_points s.point p v) s.order
 
 -- 3: a throw stores the order; the point reads none afterwards unless it already read that position
 unfoldable pub throw_reading : List ℕ → ℕ → ℕ → ℕ
-throw_reading points p w = if eqb (point_reading points p) w then w else reads_none
+throw_reading points p w = when eqb (point_reading points p) w then w else reads_none
 
 unfoldable pub own_throw : State → ℕ → ℕ → State
 own_throw s p w = with_points s (put most_points s.point p (throw_reading s.point p w)) (put most_points s.order p w)
@@ -44,7 +44,7 @@ own_lock s r = with_routes s (put most_routes s.phase r at_proceed) (put most_tr
 
 -- L5: an exit route on a neutral line first secures it the route's way
 unfoldable pub secure_first : State → Route → State
-secure_first s a = if departs s.direction a then own_secure s a.line (leaving a.end) else s
+secure_first s a = when departs s.direction a then own_secure s a.line (leaving a.end) else s
 
 -- 4: to set route r of rs: this first, then it locks
 unfoldable pub own_set : List Route → State → ℕ → State
@@ -56,7 +56,7 @@ own_cancel s r = with_routes s (put most_routes s.phase r cancelling) s.steps (p
 
 -- 7: manual release makes every block of line l open and the line neutral; bars stay
 unfoldable pub open_at : List Line → ℕ → ℕ → ℕ → ℕ
-open_at ls l k was = if eqb (k / most_blocks) l and ltb (k % most_blocks) (line ls l).blocks then open_block else was
+open_at ls l k was = when eqb (k / most_blocks) l and ltb (k % most_blocks) (line ls l).blocks then open_block else was
 
 unfoldable pub own_manual : List Line → ℕ → State → ℕ → State
 own_manual ls n s l = with_lines s (put most_lines s.direction l neutral) (each (most_blocks * n) (open_at ls l) s.stage)
@@ -69,7 +69,7 @@ own_bar s l i bar = with_bars s (put most_places s.bar (place l i) bar)
 
 -- the section that an event of kind k names: kinds 11 to 13 by twice the section plus 0 or 1 for the head, kind 14 by the section itself
 unfoldable pub head_section : ℕ → ℕ → ℕ
-head_section k a = if eqb k reset_axles then a else a / 2
+head_section k a = when eqb k reset_axles then a else a / 2
 
 -- the heads of that section as they were, and what becomes of them; a count has 16 bits, and 3 refuses a larger number
 unfoldable pub heads_of : State → ℕ → ℕ → Axles

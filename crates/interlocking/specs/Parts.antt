@@ -1,7 +1,7 @@
 -- The state in parts, as the code hands it through a step: the nine tables go by value, of the heads only those of the section that the event names, and
 -- the lamps are lent. What a step is stands in Step.
 use Rattle.std.specs.Prelude.{ℕ, ◌*◌, Bool, not, ◌≢◌, List, [], eqb, ltb, leb, set}
-use Rattle.laws.specs.Choice.{if◌then◌else◌}
+use Rattle.laws.specs.Choice.{when◌then◌else◌}
 use Rattle.laws.specs.Tests.{◌and◌, ◌or◌}
 use Rattle.laws.specs.Tables.{put}
 use Rattle.track.specs.Codes.{read_section, read_point, throw_point, set_route, cancel_route, secure_line, release_line, bar_block, unbar_block, one_second, axles_in, axles_out, reset_axles, report_lamp}
@@ -75,21 +75,21 @@ stays f c = record { next = c; gives = nothing; number = f.number; detail = f.de
 
 -- one of the two
 unfoldable pub tried : Bool → Core → ℕ → Row → Tried
-tried is_sound c a row = if eqb (row_refusal is_sound a row).number 0 then moves (core_of row.does) row.gives else stays (row_refusal is_sound a row) c
+tried is_sound c a row = when eqb (row_refusal is_sound a row).number 0 then moves (core_of row.does) row.gives else stays (row_refusal is_sound a row) c
 
 -- ---- the four rows of heads as one, as the code has them: kinds 11 to 14 by one function, asked for after all others
 
 -- the first number lies below: twice the sections where it names a head, the sections where it is a reset
 unfoldable pub numbers_named : ℕ → ℕ → ℕ
-numbers_named k sections = if eqb k reset_axles then sections else 2 * sections
+numbers_named k sections = when eqb k reset_axles then sections else 2 * sections
 
 -- the second number is wrong: a count above 65,535, or where it is unused anything but 0
 unfoldable pub wrong_count : ℕ → ℕ → Bool
-wrong_count k b = if eqb k axles_in or eqb k axles_out then ltb 65535 b else not (eqb b 0)
+wrong_count k b = when eqb k axles_in or eqb k axles_out then ltb 65535 b else not (eqb b 0)
 
 -- 35, of a reset: one of the heads x of section g is silent
 unfoldable pub silence : Axles → ℕ → ℕ → Refusal
-silence x k g = if eqb k reset_axles then still_silent x g else no_refusal
+silence x k g = when eqb k reset_axles then still_silent x g else no_refusal
 
 -- the row
 unfoldable pub heads_row : Layout → State → Axles → Axles → ℕ → ℕ → ℕ → Row
@@ -117,16 +117,16 @@ is_of_heads k = between axles_in reset_axles k
 
 -- what becomes of the heads x of the section that the event names: of an event that is of no heads nothing
 unfoldable pub heads_then : Axles → ℕ → ℕ → ℕ → Axles
-heads_then x k a b = if is_of_heads k then heads_by x k a b else x
+heads_then x k a b = when is_of_heads k then heads_by x k a b else x
 
 -- the place of those heads in the table: 0 for an event that names none
 unfoldable pub head_place : ℕ → ℕ → ℕ
-head_place k a = if is_of_heads k and ltb (head_section k a) most_sections then head_section k a else 0
+head_place k a = when is_of_heads k and ltb (head_section k a) most_sections then head_section k a else 0
 
 -- the refusal, or what follows every event
 unfoldable pub followed : Layout → Core → Axles → Axles → Tried → CoreAnswer
 followed L c x y t =
-    if eqb t.number 0 then record { number = 0; detail = 0; next = core_of (settle L (bare c) (bare t.next) t.gives); heads = y }
+    when eqb t.number 0 then record { number = 0; detail = 0; next = core_of (settle L (bare c) (bare t.next) t.gives); heads = y }
     else record { number = t.number; detail = t.detail; next = c; heads = x }
 
 -- one step of the parts
@@ -140,7 +140,7 @@ core_step_in_run L c x lamps k a b = core_step (asked_in_run L) L c x lamps k a 
 
 -- what becomes of the lamps: an event that was answered by a number, 0 where it was accepted, reports one (L3)
 unfoldable pub lamps_then : List ℕ → ℕ → ℕ → ℕ → ℕ → List ℕ
-lamps_then lamps number k a b = if eqb number 0 and eqb k report_lamp then put most_lamps lamps a (recorded b) else lamps
+lamps_then lamps number k a b = when eqb number 0 and eqb k report_lamp then put most_lamps lamps a (recorded b) else lamps
 
 -- the answer of the whole state, from that of its parts: the heads are stored back at their place, and the lamp that the event reports
 unfoldable pub together : List Axles → ℕ → List ℕ → ℕ → ℕ → ℕ → CoreAnswer → Answer

@@ -1,6 +1,6 @@
 -- Section 3's table of events: a row for each kind. A row is filled for a layout, a state and the event's two numbers, a and b.
 use Rattle.std.specs.Prelude.{ℕ, ◌*◌, ◌/◌, Bool, false, not, eqb, ltb, leb}
-use Rattle.laws.specs.Choice.{if◌then◌else◌}
+use Rattle.laws.specs.Choice.{when◌then◌else◌}
 use Rattle.laws.specs.Tests.{◌and◌}
 use Rattle.track.specs.Codes.{left, right, a_to_b, b_to_a, read_section, read_point, throw_point, set_route, cancel_route, secure_line, release_line, bar_block, unbar_block, one_second, axles_in, axles_out, head_silent, reset_axles, report_lamp}
 use Rattle.track.specs.Sizes.{most_sections}
@@ -195,21 +195,21 @@ no_row s = record { missing = false; misfit = no_refusal; wrong = false; besides
 -- them through a step apart (Parts)
 unfoldable pub row_with : Layout → State → Axles → Axles → ℕ → ℕ → ℕ → Row
 row_with L s x y k a b =
-    if eqb k read_section then section_row L s a b
-    else if eqb k read_point then point_row L s a b
-    else if eqb k throw_point then throw_row L s a b
-    else if eqb k set_route then set_row L s a b
-    else if eqb k cancel_route then cancel_row L s a b
-    else if eqb k secure_line then secure_row L s a b
-    else if eqb k release_line then manual_row L s a b
-    else if eqb k bar_block then bar_row 1 L s a b
-    else if eqb k unbar_block then bar_row 0 L s a b
-    else if eqb k one_second then second_row s a b
-    else if eqb k axles_in then count_row L s y a b
-    else if eqb k axles_out then count_row L s y a b
-    else if eqb k head_silent then silent_row L s y a b
-    else if eqb k reset_axles then reset_row L s x y a b
-    else if eqb k report_lamp then lamp_row L s a b
+    when eqb k read_section then section_row L s a b
+    else when eqb k read_point then point_row L s a b
+    else when eqb k throw_point then throw_row L s a b
+    else when eqb k set_route then set_row L s a b
+    else when eqb k cancel_route then cancel_row L s a b
+    else when eqb k secure_line then secure_row L s a b
+    else when eqb k release_line then manual_row L s a b
+    else when eqb k bar_block then bar_row 1 L s a b
+    else when eqb k unbar_block then bar_row 0 L s a b
+    else when eqb k one_second then second_row s a b
+    else when eqb k axles_in then count_row L s y a b
+    else when eqb k axles_out then count_row L s y a b
+    else when eqb k head_silent then silent_row L s y a b
+    else when eqb k reset_axles then reset_row L s x y a b
+    else when eqb k report_lamp then lamp_row L s a b
     else no_row s
 
 -- the row of kind k in a state

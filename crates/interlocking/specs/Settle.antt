@@ -1,6 +1,6 @@
 -- What follows an event: signals, far sections, routes, blocks that waited for an entrance route (L3), line release, in that order (sections 4 to 6).
 use Rattle.std.specs.Prelude.{ℕ, Bool, List, eqb}
-use Rattle.laws.specs.Choice.{if◌then◌else◌}
+use Rattle.laws.specs.Choice.{when◌then◌else◌}
 use Rattle.laws.specs.Tables.{each, read}
 use Rattle.track.specs.declared.Line.{Line}
 use Rattle.track.specs.declared.Route.{Route}
@@ -54,7 +54,7 @@ route_after ls rs s e r = locking_after ls s.section (route rs r) e (locking_of 
 
 -- a route that is not idle takes what becomes of it; an idle one stays as it is
 unfoldable pub unless_idle : State → ℕ → ℕ → ℕ → ℕ
-unless_idle s r was x = if eqb (phase s.phase r) idle then was else x
+unless_idle s r was x = when eqb (phase s.phase r) idle then was else x
 
 -- n routes: phase, step and seconds
 unfoldable pub routes_by : List Line → List Route → ℕ → State → Gives → State

@@ -1,6 +1,6 @@
 -- One step of the box (section 3): the event of its row is done, and what follows from it, or it is refused.
 use Rattle.std.specs.Prelude.{ℕ, Bool, [], ◌∷◌, eqb, leb}
-use Rattle.laws.specs.Choice.{if◌then◌else◌}
+use Rattle.laws.specs.Choice.{when◌then◌else◌}
 use Rattle.laws.specs.Tests.{◌and◌}
 use Rattle.track.specs.Sizes.{most_sections, most_lines, most_train_routes}
 use Rattle.track.specs.Lists.{between}
@@ -25,7 +25,7 @@ row_refusal is_sound a row = first_of (numbers_refusal is_sound row.missing a ro
 -- the answer, where is_sound answers the question of 18: what follows from what the event does and gives, or the refusal, with the state as it was
 unfoldable pub answered_by : Bool → Layout → State → ℕ → Row → Answer
 answered_by is_sound L s a row =
-    if eqb (row_refusal is_sound a row).number 0 then record { number = 0; detail = 0; next = settle L s row.does row.gives }
+    when eqb (row_refusal is_sound a row).number 0 then record { number = 0; detail = 0; next = settle L s row.does row.gives }
     else record { number = (row_refusal is_sound a row).number; detail = (row_refusal is_sound a row).detail; next = s }
 
 -- ---- the step

@@ -1,6 +1,6 @@
 -- What lamps report (L3): a table that has, at the number of each main and block signal (L2), 1 stop lit, 2 another light lit, 3 none.
 use Rattle.std.specs.Prelude.{ℕ, Bool, false, not, List, eqb}
-use Rattle.laws.specs.Choice.{if◌then◌else◌}
+use Rattle.laws.specs.Choice.{when◌then◌else◌}
 use Rattle.laws.specs.Tables.{read}
 use Rattle.track.specs.declared.Line.{Line}
 use Rattle.track.specs.Codes.{neutral, lamp_stop, lamp_other, lamp_none}
@@ -24,4 +24,4 @@ far_lamp m ls lamps l i w = lamp_of lamps (number_of m ls (far_signal (line ls l
 
 -- it reports stop; in neutral there is no far signal, and so no lamp
 unfoldable pub far_stop_lit : ℕ → List Line → List ℕ → ℕ → ℕ → ℕ → Bool
-far_stop_lit m ls lamps l i w = if eqb w neutral then false else eqb (far_lamp m ls lamps l i w) lamp_stop
+far_stop_lit m ls lamps l i w = when eqb w neutral then false else eqb (far_lamp m ls lamps l i w) lamp_stop

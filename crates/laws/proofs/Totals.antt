@@ -9,7 +9,7 @@ use native.Mathlib.Omega.{arith}
 use borrow.Author.Tests.{eq-eqb, ne_eqb, lt-ltb, le-ltb}
 use lib.Dec.{eqb, ltb}
 use lib.ListN.{length}
-use Rattle.laws.specs.Choice.{if◌then◌else◌}
+use Rattle.laws.specs.Choice.{when◌then◌else◌}
 use Rattle.laws.specs.Tests.{◌and◌, ◌or◌, any_below}
 use Rattle.laws.specs.Tables.{join}
 use Rattle.laws.specs.Totals.{total, bit, count}
@@ -73,19 +73,19 @@ module _ {A : Type 0} (of : List A → ℕ) (a : Adds of) where
 
 -- 1 stands just where a test holds
 pub bit_one : (t : Bool) → eqb (bit t) 1 ≡ t
-unfolding bit if◌then◌else◌
+unfolding bit when◌then◌else◌
 bit_one true = refl
 bit_one false = refl
 
 -- and 0 just where it fails
 pub bit_none : (t : Bool) → eqb (bit t) 0 ≡ true → t ≡ false
-unfolding bit if◌then◌else◌
+unfolding bit when◌then◌else◌
 bit_none true q = absurd (false≢true q)
 bit_none false q = refl
 
 -- both of two tests count for no more than the first
 pub bit_both : (a b : Bool) → bit (a and b) ≤ bit a
-unfolding bit if◌then◌else◌ ◌and◌
+unfolding bit when◌then◌else◌ ◌and◌
 bit_both true true = omega arith
 bit_both true false = omega arith
 bit_both false b = omega arith
@@ -97,14 +97,14 @@ bit_all true b f = ap bit (f refl)
 bit_all false b f = refl
 
 -- a list of one entry where a test holds, else of none
-pub bit_list : {A : Type 0} (t : Bool) (x : A) → length (if t then x ∷ [] else []) ≡ bit t
-unfolding bit if◌then◌else◌
+pub bit_list : {A : Type 0} (t : Bool) (x : A) → length (when t then x ∷ [] else []) ≡ bit t
+unfolding bit when◌then◌else◌
 bit_list true x = refl
 bit_list false x = refl
 
 -- a test counts for at most 1
 pub bit_most : (t : Bool) → bit t ≤ 1
-unfolding bit if◌then◌else◌
+unfolding bit when◌then◌else◌
 bit_most true = omega arith
 bit_most false = omega arith
 
@@ -115,12 +115,12 @@ count_most n p = omega (arith, total_below n (λ g. bit (p g)) (λ g. 1) (λ g l
 
 -- none passes
 pub count_none : (n : ℕ) (p : ℕ → Bool) → ((g : ℕ) → g < n → p g ≡ false) → count n p ≡ 0
-unfolding count bit if◌then◌else◌
+unfolding count bit when◌then◌else◌
 count_none n p h = total_same n (λ g. bit (p g)) (λ g. 0) (λ g l. rw (h g l)) ∙ omega (arith, total_each n 0)
 
 -- one number is x
 pub count_one : (n x : ℕ) → x < n → count n (eqb x) ≡ 1
-unfolding count total bit if◌then◌else◌
+unfolding count total bit when◌then◌else◌
 count_one zero x l = absurd (omega arith)
 count_one (suc n) x l = one (count_one n x) (ℕ_discrete x n)
   where
@@ -130,7 +130,7 @@ count_one (suc n) x l = one (count_one n x) (ℕ_discrete x n)
 
 -- those above r
 pub count_above : (n r : ℕ) → count n (ltb r) ≡ n - suc r
-unfolding count total bit if◌then◌else◌
+unfolding count total bit when◌then◌else◌
 count_above zero r = omega arith
 count_above (suc n) r = one (count_above n r) (dec_lt r n)
   where
@@ -140,7 +140,7 @@ count_above (suc n) r = one (count_above n r) (dec_lt r n)
 
 -- one of two tests that do not both hold
 bit_or : (a b : Bool) → (a ≡ true → b ≡ true → ⊥) → bit (a or b) ≡ bit a + bit b
-unfolding bit if◌then◌else◌ ◌or◌
+unfolding bit when◌then◌else◌ ◌or◌
 bit_or true true apart = absurd (apart refl refl)
 bit_or true false apart = refl
 bit_or false b apart = omega arith

@@ -7,7 +7,7 @@ use native.Mathlib.Omega.{arith}
 use borrow.Author.Rules.{rules}
 use borrow.Author.Tests.{not-false, leb-true}
 use lib.Dec.{eqb}
-use Rattle.laws.specs.Choice.{if◌then◌else◌}
+use Rattle.laws.specs.Choice.{when◌then◌else◌}
 use Rattle.laws.proofs.Choice.{if_eq, if_ne}
 use Rattle.laws.specs.Tests.{all_below}
 use Rattle.laws.proofs.Tests.{every_at, every_stops, every_passes, every_last}
@@ -89,7 +89,7 @@ fits_distants L v e q =
 
 -- one of the first three fails: the first of all that fails is the first of those
 early : (a b c : Bool) (rest : List Bool) (k : ℕ) → k ≡ first_failed 1 (a ∷ b ∷ c ∷ []) → (k ≡ 0 → ⊥) → k ≡ first_failed 1 (a ∷ b ∷ c ∷ rest)
-unfolding first_failed if◌then◌else◌
+unfolding first_failed when◌then◌else◌
 early false b c rest k p q = p
 early true false c rest k p q = p
 early true true false rest k p q = p
@@ -97,7 +97,7 @@ early true true true rest k p q = absurd (q p)
 
 -- none of them fails: it is the first of the rest
 late : (a b c : Bool) (rest : List Bool) (k r : ℕ) → k ≡ first_failed 1 (a ∷ b ∷ c ∷ []) → k ≡ 0 → r ≡ first_failed 4 rest → r ≡ first_failed 1 (a ∷ b ∷ c ∷ rest)
-unfolding first_failed if◌then◌else◌
+unfolding first_failed when◌then◌else◌
 late false b c rest k r p q s = absurd (omega arith)
 late true false c rest k r p q s = absurd (omega arith)
 late true true false rest k r p q s = absurd (omega arith)

@@ -7,7 +7,7 @@ use native.Mathlib.Omega.{arith}
 use borrow.Author.Tests.{eq-eqb, ne_eqb, lt-leb, le-leb}
 use lib.Dec.{eqb, leb}
 use lib.ListN.{length, get_or}
-use Rattle.laws.specs.Choice.{if◌then◌else◌}
+use Rattle.laws.specs.Choice.{when◌then◌else◌}
 use Rattle.laws.specs.Tests.{◌and◌, implies, every, all_below}
 use Rattle.laws.proofs.Tests.{and_right, implies_from, not_both, fails_from, every_fails, all_same}
 use Rattle.laws.proofs.Loops.{SoFar, held_on, all_stops, all_done}
@@ -88,13 +88,13 @@ module _ (m : List ℕ) (t : List Reach) (n r q : ℕ) (h : SoFar n (λ k. all_b
 module _ (L : Layout) where
   -- the walk of rule 1 over the lines asks of each line just what the rule does
   once_is : all_below L.lines (line_keeps 1 (counts L) L.line) ≡ all_below L.lines (once L.line)
-  unfolding line_keeps if◌then◌else◌
+  unfolding line_keeps when◌then◌else◌
   once_is = all_same _ _ _ (λ l h. refl)
 
   -- its walk over the routes asks the same by the set of all blocks: no path section is a block
   paths_is : all_below L.routes (λ r. route_keeps 1 (counts L) L.line (block_set L.lines L.line) (route_in L r))
       ≡ all_below L.routes (λ r. not (share (is_block L.lines L.line) (in_path (route_in L r))))
-  unfolding route_keeps if◌then◌else◌
+  unfolding route_keeps when◌then◌else◌
   paths_is = all_same _ _ _ (λ r h. off_blocks_is L.lines L.line (route_in L r))
 
   -- rule 1: the lines, the routes and the inner sections
@@ -104,22 +104,22 @@ module _ (L : Layout) where
 
   -- rule 2: the lines
   rule2_is : all_below L.lines (line_keeps 2 (counts L) L.line) ≡ rule2 L
-  unfolding rule2 line_keeps if◌then◌else◌
+  unfolding rule2 line_keeps when◌then◌else◌
   rule2_is = all_same _ _ _ (λ l h. refl)
 
   -- rule 3: the routes, then the lines
   rule3_is : lists_differ (counts L) L.line L.routes L.route ≡ rule3 L
-  unfolding rule3 lists_differ route_in counts line_keeps route_keeps if◌then◌else◌
+  unfolding rule3 lists_differ route_in counts line_keeps route_keeps when◌then◌else◌
   rule3_is = ap₂ ◌and◌ (all_same L.routes _ _ (λ r h. refl)) (all_same L.lines _ _ (λ l h. refl))
 
   -- rule 4: the routes
   rule4_is : all_below L.routes (λ r. route_keeps 4 (counts L) L.line 0 (route L.route r)) ≡ rule4 L
-  unfolding rule4 route_in route_keeps if◌then◌else◌
+  unfolding rule4 route_in route_keeps when◌then◌else◌
   rule4_is = all_same _ _ _ (λ r h. refl)
 
   -- rule 5: the routes
   rule5_is : all_below L.routes (λ r. route_keeps 5 (counts L) L.line 0 (route L.route r)) ≡ rule5 L
-  unfolding rule5 route_in counts route_keeps if◌then◌else◌
+  unfolding rule5 route_in counts route_keeps when◌then◌else◌
   rule5_is = all_same _ _ _ (λ r h. refl)
 
   -- rule 6: each route with each before it, by the table of what it asks of each
@@ -132,7 +132,7 @@ module _ (L : Layout) where
 
   -- rule 7: the distants
   rule7_is : all_below L.distants (distant_keeps 7 0 L.carrier L.announced) ≡ rule7 L
-  unfolding rule7 carrier_of announced_by distant_keeps if◌then◌else◌
+  unfolding rule7 carrier_of announced_by distant_keeps when◌then◌else◌
   rule7_is = all_same _ _ _ (λ d h. refl)
 
   -- ---- the first broken rule, by these walks
@@ -164,17 +164,17 @@ module _ (L : Layout) where
 module _ (L : Layout) where
   -- the walk over the lines asks the ranges of each
   lines_fit_is : all_below L.lines (line_keeps 0 (counts L) L.line) ≡ all_below L.lines (λ l. line_fits (counts L) (line_in L l))
-  unfolding line_in line_keeps if◌then◌else◌
+  unfolding line_in line_keeps when◌then◌else◌
   lines_fit_is = all_same _ _ _ (λ l h. refl)
 
   -- the walk over the routes asks the ranges of each
   routes_fit_is : all_below L.routes (λ r. route_keeps 0 (counts L) L.line 0 (route L.route r)) ≡ all_below L.routes (λ r. route_fits (counts L) (route_in L r))
-  unfolding route_in route_keeps if◌then◌else◌
+  unfolding route_in route_keeps when◌then◌else◌
   routes_fit_is = all_same _ _ _ (λ r h. refl)
 
   -- the walk over the distants asks the ranges of each
   distants_fit_is : all_below L.distants (distant_keeps 0 (signals_in L) L.carrier L.announced) ≡ all_below L.distants (λ d. distant_fits (signals_in L) (carrier_of L d) (announced_by L d))
-  unfolding carrier_of announced_by distant_keeps if◌then◌else◌
+  unfolding carrier_of announced_by distant_keeps when◌then◌else◌
   distants_fit_is = all_same _ _ _ (λ d h. refl)
 
   -- too many sections: not in range

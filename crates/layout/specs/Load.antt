@@ -1,6 +1,6 @@
 -- Loading a layout file: the first fault met, or the layout (section 2).
 use Rattle.std.specs.Prelude.{ℕ, List, eqb, length}
-use Rattle.laws.specs.Choice.{if◌then◌else◌}
+use Rattle.laws.specs.Choice.{when◌then◌else◌}
 use Rattle.fields.specs.declared.Cursor.{Cursor}
 use Rattle.fields.specs.Fields.{code}
 use Rattle.track.specs.declared.Counts.{Counts}
@@ -78,9 +78,9 @@ refused number detail = record { number = number; detail = detail; layout = no_l
 -- the first fault met with its place; 26 bytes left over, at the first of them; then 25 with the rule's number; else 0
 unfoldable pub finished : Whole → ℕ → Loaded
 finished w n =
-    if eqb w.cur.fault 0 then
-    (if eqb w.cur.at n then
-    (if eqb (broken w.layout) 0 then record { number = 0; detail = 0; layout = w.layout } else refused 25 (broken w.layout))
+    when eqb w.cur.fault 0 then
+    (when eqb w.cur.at n then
+    (when eqb (broken w.layout) 0 then record { number = 0; detail = 0; layout = w.layout } else refused 25 (broken w.layout))
     else refused 26 w.cur.at)
     else refused w.cur.fault w.cur.at
 

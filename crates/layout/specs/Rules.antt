@@ -1,6 +1,6 @@
 -- The rules of section 2, in their order, over all lines, routes and distants of a layout.
 use Rattle.std.specs.Prelude.{ℕ, suc, Bool, not, List, [], ◌∷◌}
-use Rattle.laws.specs.Choice.{if◌then◌else◌}
+use Rattle.laws.specs.Choice.{when◌then◌else◌}
 use Rattle.laws.specs.Tests.{◌and◌, implies, every, all_below}
 use Rattle.rules.specs.Rules.{share, is_block, is_inner, in_path, once, line_ends, line_points, route_lists, route_length, route_ends, clashes, announces_carrier}
 use Rattle.layout.specs.declared.Layout.{Layout}
@@ -42,7 +42,7 @@ rule7 L = all_below L.distants (λ d. not (announces_carrier (carrier_of L d) (a
 -- the number of the first test that fails, the first of the list having number k; 0 where none fails
 unfoldable pub first_failed : ℕ → List Bool → ℕ
 first_failed k [] = 0
-first_failed k (b ∷ bs) = if b then first_failed (suc k) bs else k
+first_failed k (b ∷ bs) = when b then first_failed (suc k) bs else k
 
 -- the first broken rule's number; 0 where none is broken
 unfoldable pub broken : Layout → ℕ

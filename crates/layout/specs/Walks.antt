@@ -1,6 +1,6 @@
 -- How the code walks through lines, routes, pairs of routes and distants. What the rules say stands in Rules.
 use Rattle.std.specs.Prelude.{ℕ, Bool, not, List, [], ◌∷◌, eqb, get_or}
-use Rattle.laws.specs.Choice.{if◌then◌else◌}
+use Rattle.laws.specs.Choice.{when◌then◌else◌}
 use Rattle.laws.specs.Tests.{◌and◌, implies, every, all_below}
 use Rattle.laws.specs.Tables.{table}
 use Rattle.sets.specs.Sets.{common}
@@ -19,21 +19,21 @@ use Rattle.layout.specs.Rules.{first_failed}
 -- line l keeps rule k, 1 to 3; 0 asks that its numbers are in range
 unfoldable pub line_keeps : ℕ → Counts → List Line → ℕ → Bool
 line_keeps k c ls l =
-    if eqb k 0 then line_fits c (line ls l) else if eqb k 1 then once ls l else if eqb k 2 then line_ends ls l else line_points ls l
+    when eqb k 0 then line_fits c (line ls l) else when eqb k 1 then once ls l else when eqb k 2 then line_ends ls l else line_points ls l
 
 -- a route keeps rule k, 1 or 3 to 5; 0 asks that its numbers are in range
 unfoldable pub route_keeps : ℕ → Counts → List Line → ℕ → Route → Bool
 route_keeps k c ls blocks a =
-    if eqb k 0 then route_fits c a
-    else if eqb k 1 then off_blocks blocks a
-    else if eqb k 3 then route_lists a
-    else if eqb k 4 then route_length a
+    when eqb k 0 then route_fits c a
+    else when eqb k 1 then off_blocks blocks a
+    else when eqb k 3 then route_lists a
+    else when eqb k 4 then route_length a
     else route_ends c.lines ls a
 
 -- distant d keeps rule 7 (L2); 0 for k asks that its numbers are in range, of so many signals
 unfoldable pub distant_keeps : ℕ → ℕ → List ℕ → List ℕ → ℕ → Bool
 distant_keeps k signals carriers announced d =
-    if eqb k 0 then distant_fits signals (get_or carriers d 0) (get_or announced d 0) else not (announces_carrier (get_or carriers d 0) (get_or announced d 0))
+    when eqb k 0 then distant_fits signals (get_or carriers d 0) (get_or announced d 0) else not (announces_carrier (get_or carriers d 0) (get_or announced d 0))
 
 -- rule 1, with the set of all blocks and that of all inner sections
 unfoldable pub blocks_apart : Counts → List Line → ℕ → List Route → Bool

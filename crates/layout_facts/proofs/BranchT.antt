@@ -2,7 +2,7 @@
 use Prim.Native.Nat.{ℕ}
 use mathlib.Core.Path.{◌≡◌, refl}
 use mathlib.Core.Bool.{true}
-use Rattle.laws.specs.Choice.{if◌then◌else◌}
+use Rattle.laws.specs.Choice.{when◌then◌else◌}
 use Rattle.laws.specs.Tests.{◌and◌, ◌or◌, implies, every, all_below, any_below}
 use Rattle.laws.specs.Tables.{iter}
 use Rattle.numbers.specs.Number.{groups_at, at_most, number_at}
@@ -26,7 +26,7 @@ use Rattle.layout_facts.specs.BranchT.{branch_t, layout_t}
 
 -- whoever unfolds this unfolds all that loading and soundness are made of
 unfoldable pub computed : ℕ
-unfolding if◌then◌else◌ ◌and◌ ◌or◌ implies every all_below any_below iter
+unfolding when◌then◌else◌ ◌and◌ ◌or◌ implies every all_below any_below iter
     groups_at at_most number_at failed judge field code reference item_turn items point_turn points
     no_line no_route line route inner entrance in_block blocks_differ among all_differ between referring positions points_fit line_fits route_fits
     no_sections section_turn sections a_line no_lines line_turn lines_from lines most_distants_of without_distants distants an_end line_and_end route_head a_route no_routes route_turn routes_from routes

@@ -10,7 +10,7 @@ use native.Mathlib.Decide.{dec_lt}
 use borrow.Author.Tests.{ltb-true, lt-ltb}
 use lib.Dec.{ltb}
 use lib.ListN.{get_or}
-use Rattle.laws.specs.Choice.{if◌then◌else◌}
+use Rattle.laws.specs.Choice.{when◌then◌else◌}
 use Rattle.laws.proofs.Choice.{if_both}
 use Rattle.laws.proofs.Tests.{not_both}
 use Rattle.track.specs.Sizes.{most_distants, most_listed}
@@ -35,7 +35,7 @@ points_fit_means objects n point position = every_means (leb_means _ _ also refe
 
 -- a line
 line_fits_means : (L : Layout) (l : ℕ) → line_fits (counts L) (line_in L l) ≡ true ↔ LineRanges L l
-unfolding line_fits counts InBlock inner_section entrance_signal inner entrance if◌then◌else◌ line_point line_position
+unfolding line_fits counts InBlock inner_section entrance_signal inner entrance when◌then◌else◌ line_point line_position
 line_fits_means L l =
     Iff.trans (every_means (
     between_means _ _ _ also referring_means _ _ _ also ltb_means _ _ also ltb_means _ _ also ltb_means _ _ also ltb_means _ _

@@ -5,7 +5,7 @@ use mathlib.Core.Bool.{true}
 use mathlib.Core.Logic.Iff
 use mathlib.Core.Logic.{◌↔◌, ◌≢◌, ◌⊎◌}
 use native.Mathlib.Omega.{arith}
-use Rattle.laws.specs.Choice.{if◌then◌else◌}
+use Rattle.laws.specs.Choice.{when◌then◌else◌}
 use Rattle.track.specs.Sizes.{most_sections}
 use Rattle.track.specs.Objects.{inner, entrance}
 use Rattle.track.specs.Blocks.{only_section, blocks_differ}
@@ -46,12 +46,12 @@ module _ (L : Layout) where
 
   -- the test for an inner section
   is_inner_means : (n g : ℕ) → is_inner n L.line g ≡ true ↔ Inner L n g
-  unfolding is_inner has_inner line_in inner_section inner if◌then◌else◌
+  unfolding is_inner has_inner line_in inner_section inner when◌then◌else◌
   is_inner_means n g = any_means (λ l h. ends_means (inner_section L l) g)
 
   -- the test for an entrance signal
   is_entrance_means : (n x : ℕ) → is_entrance n L.line x ≡ true ↔ Entrance L n x
-  unfolding is_entrance has_entrance line_in entrance_signal entrance if◌then◌else◌
+  unfolding is_entrance has_entrance line_in entrance_signal entrance when◌then◌else◌
   is_entrance_means n x = any_means (λ l h. ends_means (entrance_signal L l) x)
 
   -- the test for a section of the path of route r
@@ -116,7 +116,7 @@ module _ (L : Layout) where
       ↔ (inner_section L l 0 ≢ inner_section L l 1)
       × (((e f : ℕ) → e ≤ 1 → f ≤ 1 → entrance_signal L l e ≡ entrance_signal L l f → e ≡ f)
       × ((k : ℕ) → k < l → (e f : ℕ) → e ≤ 1 → f ≤ 1 → entrance_signal L l e ≢ entrance_signal L k f))
-  unfolding line_ends line_in inner_section entrance_signal inner entrance if◌then◌else◌
+  unfolding line_ends line_in inner_section entrance_signal inner entrance when◌then◌else◌
   line_ends_means l =
       Iff.trans (every_means (
       not_means (eqb_means _ _) also apart_means (entrance_signal L l) also not_means (is_entrance_means L l (entrance_signal L l 0))

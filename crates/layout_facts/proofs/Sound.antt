@@ -6,7 +6,7 @@ use mathlib.Core.List.{List, [], ◌∷◌}
 use mathlib.Core.Logic.Iff
 use mathlib.Core.Logic.{◌↔◌}
 use native.Mathlib.Omega.{arith}
-use Rattle.laws.specs.Choice.{if◌then◌else◌}
+use Rattle.laws.specs.Choice.{when◌then◌else◌}
 use Rattle.laws.specs.Tests.{every}
 use Rattle.layout.specs.declared.Layout.{Layout}
 use Rattle.layout.specs.Rules.{first_failed, broken, rule1, rule2, rule3, rule4, rule5, rule6, rule7}
@@ -20,7 +20,7 @@ use Rattle.layout_facts.proofs.Rule6.{rule6_means}
 
 -- no test is the first that fails just where all hold
 none_failed : (k : ℕ) (bs : List Bool) → first_failed (suc k) bs ≡ 0 ↔ every bs ≡ true
-unfolding first_failed every if◌then◌else◌
+unfolding first_failed every when◌then◌else◌
 none_failed k [] = (λ e. refl, λ e. refl)
 none_failed k (true ∷ []) = (λ e. refl, λ e. refl)
 none_failed k (false ∷ []) = (λ e. absurd (omega arith), λ e. absurd (false≢true e))

@@ -5,7 +5,7 @@ use mathlib.Core.List.{List, [], ◌∷◌}
 use native.Mathlib.Omega.{arith}
 use borrow.Author.Tests.{ltb-true}
 use lib.ListN.{get_or, replicate, length-replicate}
-use Rattle.laws.specs.Choice.{if◌then◌else◌}
+use Rattle.laws.specs.Choice.{when◌then◌else◌}
 use Rattle.laws.proofs.Choice.{Is, which, holds, fails}
 use Rattle.numbers.specs.Number.{largest}
 use Rattle.numbers.specs.Form.{Bytes}
@@ -51,7 +51,7 @@ module _ (s : List ℕ) (b : Bytes s) (signals : ℕ) (c : Cursor) where
   pub distants_stand : (version : ℕ) → (distants s version signals c).cur.fault ≡ 0
       → (c.fault ≡ 0) × Stand s c.at (distant_numbers version (distants s version signals c).count (distants s version signals c).carrier
       (distants s version signals c).announced) (distants s version signals c).cur.at
-  unfolding distants without_distants distant_numbers if◌then◌else◌
+  unfolding distants without_distants distant_numbers when◌then◌else◌
   distants_stand version = by (which (lists_none version))
     where
       by : Is (lists_none version) → (distants s version signals c).cur.fault ≡ 0
@@ -93,7 +93,7 @@ module _ (s : List ℕ) (L : Layout) (ranges : Ranges L) (bare : Bare L) (c : Cu
   -- in version 1 there are none, from version 2 on a list
   pub distants_give : Stand s at (distant_numbers L.version L.distants L.carrier L.announced) next
       → DistantsGiven L next (distants s L.version (signals_in L) c)
-  unfolding distants without_distants distant_numbers no_distants if◌then◌else◌ carrier_of announced_by
+  unfolding distants without_distants distant_numbers no_distants when◌then◌else◌ carrier_of announced_by
   distants_give = by (which (lists_none L.version))
     where
       by : Is (lists_none L.version) → Stand s at (distant_numbers L.version L.distants L.carrier L.announced) next

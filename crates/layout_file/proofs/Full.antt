@@ -5,7 +5,7 @@ use mathlib.Core.Bool.{Bool, true, not}
 use native.Mathlib.Omega.{arith}
 use borrow.Author.Tests.{eq-eqb}
 use lib.ListN.{get_or-replicate}
-use Rattle.laws.specs.Choice.{if◌then◌else◌}
+use Rattle.laws.specs.Choice.{when◌then◌else◌}
 use Rattle.laws.specs.Tests.{◌and◌, ◌or◌, implies, every, all_below, any_below}
 use Rattle.laws.specs.Tables.{table, table_from}
 use Rattle.laws.proofs.Choice.{if_eq, if_ne}
@@ -85,28 +85,28 @@ full_distants p e = all_from most_distants _ (λ d h. rw ((full_distant d h).0, 
 
 -- they are signals: seven lines have fourteen block signals each
 full_signals : distant_fits (signals_in full_layout) (last_signal + 1) (last_signal - 1) ≡ true
-unfolding distant_fits ◌and◌ signals_in signal_count all_signals block_signals line_signals line table table_from full_line full_layout if◌then◌else◌
+unfolding distant_fits ◌and◌ signals_in signal_count all_signals block_signals line_signals line table table_from full_line full_layout when◌then◌else◌
 full_signals = refl
 
 -- every number is in its range
 full_fits : fits full_layout ≡ true
 unfolding fits every between ◌and◌ ◌or◌ all_below sections_fit most_distants_of line_fits route_fits points_fit referring positions counts line_in line
-    table table_from up_from all_left full_line full_route full_layout none_fitted if◌then◌else◌
+    table table_from up_from all_left full_line full_route full_layout none_fitted when◌then◌else◌
 full_fits = rw (full_distants (distant_fits (signals_in full_layout)) full_signals, full_routes (route_fits (counts full_layout)) refl)
 
 -- rule 1: every block has a section of its own
 full_once : all_below full_lines (once full_layout.line) ≡ true
-unfolding once ◌and◌ ◌or◌ all_below any_below among all_differ share has_block is_block in_block blocks_differ line table table_from up_from full_line full_layout if◌then◌else◌
+unfolding once ◌and◌ ◌or◌ all_below any_below among all_differ share has_block is_block in_block blocks_differ line table table_from up_from full_line full_layout when◌then◌else◌
 full_once = refl
 
 -- which is not in the path
 full_off : not (share (is_block full_lines full_layout.line) (in_path full_route)) ≡ true
-unfolding ◌and◌ any_below among share has_block is_block in_path in_block line table table_from up_from full_line full_route full_layout if◌then◌else◌
+unfolding ◌and◌ any_below among share has_block is_block in_path in_block line table table_from up_from full_line full_route full_layout when◌then◌else◌
 full_off = refl
 
 -- and no inner section
 full_apart : not (share (is_block full_lines full_layout.line) (is_inner full_lines full_layout.line)) ≡ true
-unfolding ◌and◌ ◌or◌ any_below share has_block is_block has_inner is_inner in_block line table table_from up_from full_line full_layout if◌then◌else◌
+unfolding ◌and◌ ◌or◌ any_below share has_block is_block has_inner is_inner in_block line table table_from up_from full_line full_layout when◌then◌else◌
 full_apart = refl
 
 -- all of rule 1
@@ -117,12 +117,12 @@ full_rule1 =
 
 -- rule 2: two entrance signals for each line
 full_rule2 : rule2 full_layout ≡ true
-unfolding rule2 every ◌or◌ all_below any_below line_ends is_entrance has_entrance line table table_from full_line full_layout if◌then◌else◌
+unfolding rule2 every ◌or◌ all_below any_below line_ends is_entrance has_entrance line table table_from full_line full_layout when◌then◌else◌
 full_rule2 = refl
 
 -- rule 3: the numbers from a number on differ
 full_rule3 : rule3 full_layout ≡ true
-unfolding rule3 route_lists line_points ◌and◌ all_below any_below among all_differ line table table_from up_from full_line full_route full_layout if◌then◌else◌
+unfolding rule3 route_lists line_points ◌and◌ all_below any_below among all_differ line table table_from up_from full_line full_route full_layout when◌then◌else◌
 full_rule3 = rw (full_routes route_lists refl)
 
 -- rule 4: exit routes alone
@@ -132,7 +132,7 @@ full_rule4 = full_routes route_length refl
 
 -- rule 5: the path ends at the inner section, and begins at no entrance signal
 full_rule5 : rule5 full_layout ≡ true
-unfolding rule5 route_ends every ◌and◌ ◌or◌ implies any_below is_entrance has_entrance line inner table table_from up_from full_line full_route full_layout if◌then◌else◌
+unfolding rule5 route_ends every ◌and◌ ◌or◌ implies any_below is_entrance has_entrance line inner table table_from up_from full_line full_route full_layout when◌then◌else◌
 full_rule5 = full_routes (route_ends full_lines full_layout.line) refl
 
 -- rule 7: the signal announced is the one before the carrier

@@ -6,7 +6,7 @@ use native.Mathlib.Omega.{arith}
 use borrow.Author.Tests.{ltb-true}
 use lib.Dec.{ltb}
 use lib.ListN.{length, get_or, replicate, length-replicate, get_or-eq_default}
-use Rattle.laws.specs.Choice.{if◌then◌else◌}
+use Rattle.laws.specs.Choice.{when◌then◌else◌}
 use Rattle.laws.specs.Totals.{total, bit, count}
 use Rattle.laws.proofs.Arrays.{nothing_at}
 use Rattle.laws.proofs.Choice.{if_lt, if_ge}
@@ -44,7 +44,7 @@ full_line_past l h = one (dec_lt l most_lines)
   where
     one : Dec (l < most_lines) → line_in full_layout l ≡ no_line
     one (yes s) = table_at most_lines _ no_line l s ∙ sym (if_ge l full_lines (full_line l) no_line no_line h refl)
-    one (no s) = get_or-eq_default full_layout.line no_line {n = l} (omega (arith, length_table most_lines (λ l. if ltb l full_lines then full_line l else no_line)))
+    one (no s) = get_or-eq_default full_layout.line no_line {n = l} (omega (arith, length_table most_lines (λ l. when ltb l full_lines then full_line l else no_line)))
 
 -- there is no route past the last
 full_route_past : (r : ℕ) → most_train_routes ≤ r → route_in full_layout r ≡ no_route

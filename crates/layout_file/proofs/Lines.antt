@@ -4,7 +4,7 @@ use mathlib.Core.Path.{◌≡◌, refl}
 use mathlib.Core.List.{List, [], ◌∷◌, flatten}
 use native.Mathlib.Omega.{arith}
 use lib.ListN.{get_or, replicate, length-replicate}
-use Rattle.laws.specs.Choice.{if◌then◌else◌}
+use Rattle.laws.specs.Choice.{when◌then◌else◌}
 use Rattle.numbers.specs.Form.{Bytes}
 use Rattle.track.specs.declared.Counts.{Counts}
 use Rattle.track.specs.declared.Line.{Line}
@@ -89,7 +89,7 @@ module _ (s : List ℕ) (L : Layout) (ranges : Ranges L) (bare : Bare L) (c : Cu
   -- a line: what is read of it, one after another, is what it has
   line_gives : (m l : ℕ) → l < L.lines → Stand s at (line_numbers (line_in L l)) next
       → Clear (a_line s (objects_of L m) c).cur next × ((a_line s (objects_of L m) c).line ≡ line_in L l)
-  unfolding a_line line_numbers flatten InBlock inner_section entrance_signal inner entrance if◌then◌else◌ line_point line_position
+  unfolding a_line line_numbers flatten InBlock inner_section entrance_signal inner entrance when◌then◌else◌ line_point line_position
   line_gives m l h p =
       let a : Line = line_in L l in
       let f = ranges.lines l h in

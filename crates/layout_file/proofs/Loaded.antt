@@ -4,7 +4,7 @@ use mathlib.Core.Path.{◌≡◌, refl, sym, subst}
 use mathlib.Core.List.{List}
 use borrow.Author.Tests.{eq-eqb}
 use lib.ListN.{length, length-replicate}
-use Rattle.laws.specs.Choice.{if◌then◌else◌}
+use Rattle.laws.specs.Choice.{when◌then◌else◌}
 use Rattle.laws.proofs.Choice.{if_both}
 use Rattle.laws.proofs.Arrays.{nothing_at}
 use Rattle.laws.proofs.Loops.{iter_keeps}
@@ -124,7 +124,7 @@ module _ (s : List ℕ) (n : Counts) (c : Cursor) where
 
 -- for kind 0 no line and no end is read
 no_end : (s : List ℕ) (c : Cursor) (m : ℕ) → c.value ≡ inner_route → ((line_and_end s c m).line ≡ 0) × ((line_and_end s c m).end ≡ end_a)
-unfolding line_and_end if◌then◌else◌
+unfolding line_and_end when◌then◌else◌
 no_end s c m e = rw (eq-eqb c.value inner_route e) (refl, refl)
 
 module _ (s : List ℕ) (n : Counts) (c : Cursor) where

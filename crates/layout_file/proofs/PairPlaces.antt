@@ -8,7 +8,7 @@ use native.Mathlib.Omega.{arith}
 use borrow.Author.Tests.{lt-ltb, ltb-true, eq-eqb, eqb-true}
 use lib.Dec.{eqb, ltb}
 use lib.ListN.{get_or}
-use Rattle.laws.specs.Choice.{if◌then◌else◌}
+use Rattle.laws.specs.Choice.{when◌then◌else◌}
 use Rattle.laws.specs.Tests.{◌and◌}
 use Rattle.laws.specs.Tables.{join}
 use Rattle.laws.proofs.Choice.{chosen, passed_over}
@@ -29,7 +29,7 @@ pair_of_place p = record { first = p / most_routes; second = p % most_routes }
 
 -- it, where it is smaller first and listed
 unfoldable pub at_place : List ℕ → ℕ → List Pair
-at_place m p = if ltb (p / most_routes) (p % most_routes) and eqb (get_or m p 0) 1 then pair_of_place p ∷ [] else []
+at_place m p = when ltb (p / most_routes) (p % most_routes) and eqb (get_or m p 0) 1 then pair_of_place p ∷ [] else []
 
 -- the pairs at the places below k
 unfoldable pub pairs_below : List ℕ → ℕ → List Pair

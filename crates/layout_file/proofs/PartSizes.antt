@@ -7,7 +7,7 @@ use native.Mathlib.Omega.{arith}
 use borrow.Author.Tests.{ne_eqb, lt-ltb, le-ltb}
 use lib.Dec.{ltb}
 use lib.ListN.{length, length-append}
-use Rattle.laws.specs.Choice.{if◌then◌else◌}
+use Rattle.laws.specs.Choice.{when◌then◌else◌}
 use Rattle.laws.specs.Tests.{◌and◌}
 use Rattle.laws.specs.Totals.{total, bit}
 use Rattle.laws.proofs.Choice.{if_both, chosen, passed_over}
@@ -114,7 +114,7 @@ module _ (L : Layout) (R : Ranges L) where
 
   -- a line: its blocks, four numbers, its points
   line_sized : (l : ℕ) → l < L.lines → Sized (line_numbers (line_in L l)) (6 + (line_in L l).points * 2 + (line_in L l).blocks)
-  unfolding line_numbers flatten InBlock inner_section entrance_signal inner entrance if◌then◌else◌ line_point line_position
+  unfolding line_numbers flatten InBlock inner_section entrance_signal inner entrance when◌then◌else◌ line_point line_position
   line_sized l h =
       let r = R.lines l h in
       let a = line_in L l in
@@ -131,7 +131,7 @@ module _ (L : Layout) (R : Ranges L) where
 
   -- the line and the end of a route that is no inner route
   pub end_sized : (r : ℕ) → r < L.routes → ((route_in L r).kind ≡ inner_route → ⊥) → Sized (end_numbers (route_in L r)) 2
-  unfolding end_numbers if◌then◌else◌
+  unfolding end_numbers when◌then◌else◌
   end_sized r h d =
       let q = R.routes r h in
       let w = q.line (beyond_inner (route_in L r).kind q.kind d) in
@@ -139,7 +139,7 @@ module _ (L : Layout) (R : Ranges L) where
 
   -- an inner route has none
   pub no_end_sized : (r : ℕ) → (route_in L r).kind ≡ inner_route → Sized (end_numbers (route_in L r)) 0
-  unfolding end_numbers if◌then◌else◌
+  unfolding end_numbers when◌then◌else◌
   no_end_sized r e = rw e none_sized
 
   -- a route whose line and end have m

@@ -7,7 +7,7 @@ use native.Mathlib.Omega.{arith}
 use borrow.Author.Tests.{eqb-true, eqb-false}
 use lib.Dec.{eqb}
 use lib.ListN.{replicate, length-replicate}
-use Rattle.laws.specs.Choice.{if◌then◌else◌}
+use Rattle.laws.specs.Choice.{when◌then◌else◌}
 use Rattle.laws.proofs.Choice.{Is, which, holds, fails}
 use Rattle.numbers.specs.Form.{Bytes}
 use Rattle.track.specs.declared.Counts.{Counts}
@@ -36,7 +36,7 @@ use Rattle.layout_file.proofs.Lines.{objects_of}
 
 -- the line and the end, where the kind says that there are any
 abbrev ended : ℕ → ℕ → ℕ → List ℕ
-ended kind line end = if eqb kind inner_route then [] else line ∷ end ∷ []
+ended kind line end = when eqb kind inner_route then [] else line ∷ end ∷ []
 
 -- ---- what was read stands there
 
@@ -44,7 +44,7 @@ module _ (s : List ℕ) (b : Bytes s) (c : Cursor) where
   -- the line and the end, or nothing
   end_stands : (lines : ℕ) → (line_and_end s c lines).cur.fault ≡ 0
       → (c.fault ≡ 0) × Stand s c.at (ended c.value (line_and_end s c lines).line (line_and_end s c lines).end) (line_and_end s c lines).cur.at
-  unfolding line_and_end an_end if◌then◌else◌
+  unfolding line_and_end an_end when◌then◌else◌
   end_stands lines = by (which (eqb c.value inner_route))
     where
       -- for kind 0 nothing is read, for the others a reference and a code
@@ -87,7 +87,7 @@ routes_stand s b n c e =
 end_gives : (s : List ℕ) (c : Cursor) (lines at kind line end next : ℕ) → Clear c at → c.value ≡ kind → lines ≤ most_lines
     → (kind ≡ inner_route → (line ≡ 0) × (end ≡ end_a)) → ((kind ≡ inner_route → ⊥) → (line < lines) × (end ≤ end_b)) → Stand s at (ended kind line end) next
     → Clear (line_and_end s c lines).cur next × ((line_and_end s c lines).line ≡ line) × ((line_and_end s c lines).end ≡ end)
-unfolding line_and_end an_end if◌then◌else◌
+unfolding line_and_end an_end when◌then◌else◌
 end_gives s c lines at kind line end next k v few none some p =
     by (which (eqb c.value inner_route)) (subst (λ w. Stand s at (ended w line end) next) (sym v) p)
   where

@@ -1,6 +1,6 @@
 -- A layout whose file is the longest: as many of each as there may be, but one line fewer; and every two routes conflict.
 use Rattle.std.specs.Prelude.{ℕ, ◌+◌, ◌-◌, ◌*◌, ◌/◌, ◌%◌, List, eqb, ltb, replicate}
-use Rattle.laws.specs.Choice.{if◌then◌else◌}
+use Rattle.laws.specs.Choice.{when◌then◌else◌}
 use Rattle.laws.specs.Tables.{table}
 use Rattle.track.specs.declared.Line.{Line}
 use Rattle.track.specs.declared.Route.{Route}
@@ -12,7 +12,7 @@ use Rattle.layout.specs.Layout.{none_fitted}
 
 -- the n numbers from low on, and nothing past them
 unfoldable pub up_from : ℕ → ℕ → List ℕ
-up_from low n = table most_listed (λ i. if ltb i n then low + i else 0)
+up_from low n = table most_listed (λ i. when ltb i n then low + i else 0)
 
 -- all points lie left
 unfoldable pub all_left : List ℕ
@@ -63,7 +63,7 @@ full_route = record {
 
 -- each two different routes conflict
 unfoldable pub full_conflict : ℕ → ℕ
-full_conflict k = if eqb (k / most_routes) (k % most_routes) then 0 else 1
+full_conflict k = when eqb (k / most_routes) (k % most_routes) then 0 else 1
 
 -- the layout; each distant is on the last signal's mast and announces the signal before it (L2)
 unfoldable pub full_layout : Layout
@@ -74,7 +74,7 @@ full_layout = record {
   pointsection = replicate most_points 0;
   signals = most_signals;
   lines = full_lines;
-  line = table most_lines (λ l. if ltb l full_lines then full_line l else no_line);
+  line = table most_lines (λ l. when ltb l full_lines then full_line l else no_line);
   distants = most_distants;
   carrier = replicate most_distants (last_signal + 1);
   announced = replicate most_distants (last_signal - 1);

@@ -1,7 +1,7 @@
 -- The numbers of a layout file in the order of section 2, told from the layout and not from how a file is read.
 use Rattle.std.specs.Prelude.{ℕ, eqb, ltb, length, get_or}
 use mathlib.Core.List.{List, [], ◌∷◌, flatten, flat_map}
-use Rattle.laws.specs.Choice.{if◌then◌else◌}
+use Rattle.laws.specs.Choice.{when◌then◌else◌}
 use Rattle.laws.specs.Tests.{◌and◌}
 use Rattle.laws.specs.Tables.{join}
 use Rattle.numbers.specs.Form.{encode}
@@ -40,11 +40,11 @@ line_numbers a = flatten (
 -- distants (L2), from version 2 on: each 0 if free-standing or the carrying signal plus 1, then the signal announced
 unfoldable pub distant_numbers : ℕ → ℕ → List ℕ → List ℕ → List ℕ
 distant_numbers version n carriers announced =
-    if lists_none version then [] else listing n (λ d. get_or carriers d 0 ∷ get_or announced d 0 ∷ [])
+    when lists_none version then [] else listing n (λ d. get_or carriers d 0 ∷ get_or announced d 0 ∷ [])
 
 -- for kinds 1 and 2 the line and the end
 unfoldable pub end_numbers : Route → List ℕ
-end_numbers a = if eqb a.kind inner_route then [] else a.line ∷ a.end ∷ []
+end_numbers a = when eqb a.kind inner_route then [] else a.line ∷ a.end ∷ []
 
 -- a route: entry signal, kind, line and end, diverging, path sections in order of travel, overlap sections, points
 unfoldable pub route_numbers : Route → List ℕ
@@ -61,7 +61,7 @@ route_numbers a = flatten (
 
 -- the routes r and q as a pair, smaller first, where they are listed as conflicting
 unfoldable pub pair_at : Layout → ℕ → ℕ → List Pair
-pair_at L r q = if ltb r q and conflict L r q then record { first = r; second = q } ∷ [] else []
+pair_at L r q = when ltb r q and conflict L r q then record { first = r; second = q } ∷ [] else []
 
 -- all pairs, strictly ascending
 unfoldable pub pairs_of : Layout → List Pair

@@ -9,7 +9,7 @@ use borrow.Author.Tests.{le-leb, eqb-true, ne_eqb}
 use lib.Dec.{eqb, leb, lit<}
 use lib.ListN.{length, get_or}
 use lib.Ieee.{Float}
-use Rattle.laws.specs.Choice.{if◌then◌else◌}
+use Rattle.laws.specs.Choice.{when◌then◌else◌}
 use Rattle.laws.specs.Tests.{◌and◌}
 use Rattle.laws.proofs.Choice.{which, holds, fails, chosen, passed_over}
 use Rattle.laws.proofs.Tests.{and_both}
@@ -85,12 +85,12 @@ module _ (fill : ℕ) (nothing : with_byte 0 fill ≡ 0) where
 
 -- metres in eight places
 metres_read : (n : ℕ) → n < 100000000 → read_on 0 (filled 32 7 n) ≡ n
-unfolding with_byte is_digit ◌and◌ if◌then◌else◌
+unfolding with_byte is_digit ◌and◌ when◌then◌else◌
 metres_read n h = filled_read 32 refl 7 n h
 
 -- millimetres in three
 millimetres_read : (n : ℕ) → n < 1000 → read_on 0 (filled 48 2 n) ≡ n
-unfolding with_byte is_digit ◌and◌ if◌then◌else◌
+unfolding with_byte is_digit ◌and◌ when◌then◌else◌
 millimetres_read n h = filled_read 48 refl 2 n h
 
 -- ---- the point
@@ -135,12 +135,12 @@ metres_no_point n = no_point_last (places 32 7 (n / 10)) (48 + n % 10) (places_n
 
 -- a text without a point, a point, and a text: the first stands before the point, and the second behind it
 split : (xs ys : List ℕ) → no_point xs ≡ true → (before (xs ++ (46 ∷ []) ++ ys) ≡ xs) × (behind (xs ++ (46 ∷ []) ++ ys) ≡ ys)
-unfolding no_point before behind if◌then◌else◌
+unfolding no_point before behind when◌then◌else◌
 split [] ys p = (refl, refl)
 split (x ∷ xs) ys p = further (eqb x 46) p (split xs ys)
   where
     further : (t : Bool) → not t && no_point xs ≡ true → (no_point xs ≡ true → (before (xs ++ (46 ∷ []) ++ ys) ≡ xs) × (behind (xs ++ (46 ∷ []) ++ ys) ≡ ys))
-        → ((if t then [] else x ∷ before (xs ++ (46 ∷ []) ++ ys)) ≡ x ∷ xs) × ((if t then xs ++ (46 ∷ []) ++ ys else behind (xs ++ (46 ∷ []) ++ ys)) ≡ ys)
+        → ((when t then [] else x ∷ before (xs ++ (46 ∷ []) ++ ys)) ≡ x ∷ xs) × ((when t then xs ++ (46 ∷ []) ++ ys else behind (xs ++ (46 ∷ []) ++ ys)) ≡ ys)
     further true q f = absurd (true≢false (sym q))
     further false q f = let r = f q in (ap (λ zs. x ∷ zs) r.0, r.1)
 

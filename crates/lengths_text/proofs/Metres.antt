@@ -6,7 +6,7 @@ use mathlib.Core.List.{List}
 use native.Mathlib.Omega.{arith}
 use lib.ListN.{get_or}
 use lib.Ieee.{Float}
-use Rattle.laws.specs.Choice.{if◌then◌else◌}
+use Rattle.laws.specs.Choice.{when◌then◌else◌}
 use Rattle.block_lengths.specs.declared.LengthsAnswer.{LengthsAnswer}
 use Rattle.block_lengths.specs.Paper.{speeds, entry, table71, table72}
 use Rattle.block_lengths.specs.Lengths.{answer}
@@ -36,10 +36,10 @@ module _ (row column speed m : ℕ) (a : LengthsAnswer) (r : row < 9) (c : colum
 
   -- of table 7.2, next to a stopping place
   pub metres_stopping : (b : Bool) → b ≡ true → m ≡ millimetres a.lengths.stopping → m / 1000 ≡ entry (table_of b) row column
-  unfolding table_of if◌then◌else◌
+  unfolding table_of when◌then◌else◌
   metres_stopping b t p = rw (t, p) (whole table72 row column a.lengths.stopping answered.stopping_line)
 
   -- of table 7.1
   pub metres_plain : (b : Bool) → b ≡ false → m ≡ millimetres a.lengths.plain → m / 1000 ≡ entry (table_of b) row column
-  unfolding table_of if◌then◌else◌
+  unfolding table_of when◌then◌else◌
   metres_plain b t p = rw (t, p) (whole table71 row column a.lengths.plain answered.plain_line)

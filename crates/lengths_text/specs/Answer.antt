@@ -1,6 +1,6 @@
 -- L13: what is printed for a headway and a speed: both lengths in metres with millimetres, or the refusal in words with its number.
 use Rattle.std.specs.Prelude.{ℕ, List, ◌++◌, eqb, Float}
-use Rattle.laws.specs.Choice.{if◌then◌else◌}
+use Rattle.laws.specs.Choice.{when◌then◌else◌}
 use Rattle.numerals.specs.Words.{ascii}
 use Rattle.numerals.specs.Digits.{decimal_digits, fitting}
 use Rattle.block_lengths.specs.declared.BlockLengths.{BlockLengths}
@@ -29,12 +29,12 @@ lengths_text b =
 -- the refusals: 28 the headway, 29 the speed
 unfoldable pub refusal_text : ℕ → List ℕ
 refusal_text number =
-    if eqb number 28 then ascii "28: the headway is not one of 120 to 600 seconds\n"
+    when eqb number 28 then ascii "28: the headway is not one of 120 to 600 seconds\n"
     else ascii "29: the speed is none of 70, 90, 100, 130, 160 and 200 km/h\n"
 
 -- by the answer
 unfoldable pub answer_text : LengthsAnswer → List ℕ
-answer_text a = if eqb a.number 0 then lengths_text a.lengths else refusal_text a.number
+answer_text a = when eqb a.number 0 then lengths_text a.lengths else refusal_text a.number
 
 -- the most bytes of that
 abbrev pub most_answer : ℕ

@@ -1,11 +1,11 @@
 -- Numbers one under the other: each in so many places.
 use Rattle.std.specs.Prelude.{ℕ, zero, suc, ◌+◌, ◌/◌, ◌%◌, List, [], ◌∷◌, ◌++◌, eqb}
-use Rattle.laws.specs.Choice.{if◌then◌else◌}
+use Rattle.laws.specs.Choice.{when◌then◌else◌}
 use Rattle.numerals.specs.Words.{ascii}
 
 -- a place before the last: a digit, or what fills it where the number is over
 unfoldable pub place : ℕ → ℕ → ℕ
-place fill n = if eqb n 0 then fill else 48 + n % 10
+place fill n = when eqb n 0 then fill else 48 + n % 10
 
 -- so many places before the last, of a number without its last digit
 unfoldable pub places : ℕ → ℕ → ℕ → List ℕ

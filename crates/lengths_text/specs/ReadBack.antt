@@ -1,6 +1,6 @@
 -- L13: what a planner reads off the text of a length: metres before the point, millimetres in three places behind it.
 use Rattle.std.specs.Prelude.{ℕ, ◌+◌, ◌-◌, ◌*◌, ◌≡◌, true, List, [], ◌∷◌, eqb, length, Float}
-use Rattle.laws.specs.Choice.{if◌then◌else◌}
+use Rattle.laws.specs.Choice.{when◌then◌else◌}
 use Rattle.number_text.specs.Text.{is_digit}
 use Rattle.block_lengths.specs.declared.BlockLengths.{BlockLengths}
 use Rattle.block_lengths.specs.Fractions.{within}
@@ -10,15 +10,15 @@ use Rattle.lengths_text.specs.Places.{metres_text}
 -- the bytes before the first point, and those behind it
 unfoldable pub before : List ℕ → List ℕ
 before [] = []
-before (byte ∷ text) = if eqb byte 46 then [] else byte ∷ before text
+before (byte ∷ text) = when eqb byte 46 then [] else byte ∷ before text
 
 unfoldable pub behind : List ℕ → List ℕ
 behind [] = []
-behind (byte ∷ text) = if eqb byte 46 then text else behind text
+behind (byte ∷ text) = when eqb byte 46 then text else behind text
 
 -- the number so far, with a byte more: a digit behind it, or nothing where the byte is a space
 unfoldable pub with_byte : ℕ → ℕ → ℕ
-with_byte n byte = if is_digit byte then 10 * n + (byte - 48) else n
+with_byte n byte = when is_digit byte then 10 * n + (byte - 48) else n
 
 -- after all bytes of a text
 unfoldable pub read_on : ℕ → List ℕ → ℕ

@@ -1,6 +1,6 @@
 -- L13: both tables on paper, a row for each minute of headway.
 use Rattle.std.specs.Prelude.{ℕ, ◌+◌, ◌*◌, Bool, true, false, List, ◌++◌, get_or}
-use Rattle.laws.specs.Choice.{if◌then◌else◌}
+use Rattle.laws.specs.Choice.{when◌then◌else◌}
 use Rattle.laws.specs.Tables.{join}
 use Rattle.numerals.specs.Words.{ascii}
 use Rattle.numerals.specs.Digits.{fitting}
@@ -9,7 +9,7 @@ use Rattle.lengths_text.specs.Places.{filled}
 
 -- table 7.2, next to a stopping place, or table 7.1
 unfoldable pub table_of : Bool → List (List ℕ)
-table_of stopping = if stopping then table72 else table71
+table_of stopping = when stopping then table72 else table71
 
 -- so many numbers side by side
 unfoldable pub side_by_side : ℕ → (ℕ → ℕ) → List ℕ

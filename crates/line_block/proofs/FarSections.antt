@@ -7,7 +7,7 @@ use native.Mathlib.Omega.{arith}
 use borrow.Author.Tests.{eq-eqb, ne_eqb, not-true, not-false}
 use lib.Dec.{eqb}
 use lib.ListN.{length, get_or}
-use Rattle.laws.specs.Choice.{if◌then◌else◌}
+use Rattle.laws.specs.Choice.{when◌then◌else◌}
 use Rattle.laws.specs.Tests.{◌and◌}
 use Rattle.laws.proofs.Choice.{if_eq, if_ne, if_both}
 use Rattle.laws.proofs.Arrays.{read_in}
@@ -75,12 +75,12 @@ module _ (before after : Signal → Bool) (x : Signal) (v : Bool) (e : v ≡ bef
 
 -- the far signal matters only to a block in stage 1 whose far section reads occupied
 far_same : (far was : ℕ) (d : Bool) → eqb was stage1 && eqb far occupied ≡ false → far_stage far false was ≡ far_stage far d was
-unfolding far_stage ◌and◌ if◌then◌else◌
+unfolding far_stage ◌and◌ when◌then◌else◌
 far_same far was d h = go (eqb was stage1) (eqb far occupied) h
   where
     go : (a b : Bool) → a && b ≡ false
-        → (if a then (if b && false then stage2 else stage1) else if eqb was stage2 then (if eqb far reads_none then stage1 else stage2) else was)
-        ≡ (if a then (if b && d then stage2 else stage1) else if eqb was stage2 then (if eqb far reads_none then stage1 else stage2) else was)
+        → (when a then (when b && false then stage2 else stage1) else when eqb was stage2 then (when eqb far reads_none then stage1 else stage2) else was)
+        ≡ (when a then (when b && d then stage2 else stage1) else when eqb was stage2 then (when eqb far reads_none then stage1 else stage2) else was)
     go true true p = absurd (mathlib.Core.Bool.true≢false p)
     go true false p = refl
     go false b p = refl

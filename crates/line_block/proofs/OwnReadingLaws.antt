@@ -6,7 +6,7 @@ use mathlib.Core.List.{List}
 use native.Mathlib.Omega.{arith}
 use lib.Dec.{eqb}
 use lib.ListN.{length, replicate}
-use Rattle.laws.specs.Choice.{if◌then◌else◌}
+use Rattle.laws.specs.Choice.{when◌then◌else◌}
 use Rattle.laws.specs.Tests.{◌and◌}
 use Rattle.laws.specs.Tables.{read}
 use Rattle.laws.proofs.Arrays.{nothing_at}
@@ -28,12 +28,12 @@ use Rattle.line_block.proofs.PassingBackLaws.{passed_same, passed_unwaited}
 
 -- where nothing is given the stage stays
 own_nothing : (x : Bool) (was : ℕ) → own_stage 0 x was ≡ was
-unfolding own_stage if◌then◌else◌
+unfolding own_stage when◌then◌else◌
 own_nothing x was = refl
 
 -- the lamp matters only to a block in stage 2 that is given free
 own_same : (given was : ℕ) (x : Bool) → eqb given free && eqb was stage2 ≡ false → own_stage given false was ≡ own_stage given x was
-unfolding own_stage free_stage ◌and◌ if◌then◌else◌
+unfolding own_stage free_stage ◌and◌ when◌then◌else◌
 own_same given was x h = go (which (eqb given free)) (which (eqb was stage2))
   where
     -- by the two tests, of which one fails

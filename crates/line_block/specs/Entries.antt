@@ -1,7 +1,7 @@
 -- Which signals show proceed (section 4), as the code asks for it: main signals by a table of the signals at which routes start, where
 -- signals/specs/Signals goes by the routes' records; blocks that wait (L3); and a number of lines that is no more than the tables hold.
 use Rattle.std.specs.Prelude.{ℕ, Bool, not, List, eqb, leb, get_or}
-use Rattle.laws.specs.Choice.{if◌then◌else◌}
+use Rattle.laws.specs.Choice.{when◌then◌else◌}
 use Rattle.laws.specs.Tests.{◌and◌, any_below, all_below}
 use Rattle.laws.specs.Tables.{read}
 use Rattle.track.specs.declared.Line.{Line}
@@ -30,4 +30,4 @@ none_waits stages = all_below most_places (λ k. not (eqb (get_or stages k 0) st
 
 -- so many lines, but no more than the tables hold
 unfoldable pub few_lines : ℕ → ℕ
-few_lines m = if leb m most_lines then m else most_lines
+few_lines m = when leb m most_lines then m else most_lines

@@ -1,7 +1,7 @@
 -- Line release (section 5): when the last block in travel goes from stage 2, or (L3) 3, to open, the line becomes neutral if every block is open, no exit
 -- route of the line is locked and no block is barred.
 use Rattle.std.specs.Prelude.{ℕ, Bool, not, List, [], ◌∷◌, eqb}
-use Rattle.laws.specs.Choice.{if◌then◌else◌}
+use Rattle.laws.specs.Choice.{when◌then◌else◌}
 use Rattle.laws.specs.Tests.{◌and◌, ◌or◌, every, all_below, any_below}
 use Rattle.laws.specs.Tables.{each}
 use Rattle.track.specs.declared.Line.{Line}
@@ -35,7 +35,7 @@ ends_by b n rs before stages bars phases l w = every (
 
 -- the direction of line l: neutral where the line is released, else as it was
 unfoldable pub direction_after : (ℕ → ℕ → Bool) → ℕ → ℕ → ℕ
-direction_after ended l was = if eqb was neutral then was else if ended l was then neutral else was
+direction_after ended l was = when eqb was neutral then was else when ended l was then neutral else was
 
 -- the directions of m lines
 unfoldable pub directions_after : ℕ → List Line → ℕ → List Route → List ℕ → List ℕ → List ℕ → List ℕ → List ℕ → List ℕ

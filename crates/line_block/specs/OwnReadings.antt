@@ -1,6 +1,6 @@
 -- Own readings (section 5, L3): what becomes of the stages of all blocks by what an event gives them, and by what the lamps of their far signals report.
 use Rattle.std.specs.Prelude.{ℕ, ◌*◌, ◌/◌, ◌%◌, List, ltb}
-use Rattle.laws.specs.Choice.{if◌then◌else◌}
+use Rattle.laws.specs.Choice.{when◌then◌else◌}
 use Rattle.laws.specs.Tables.{each}
 use Rattle.track.specs.declared.Line.{Line}
 use Rattle.track.specs.Sizes.{most_blocks}
@@ -14,7 +14,7 @@ use Rattle.line_block.specs.PassingBack.{goes_open, no_arrival, passed_back}
 
 -- what an event gives block i of a line: nothing where the line has no such block
 unfoldable pub own_given : Gives → Line → ℕ → ℕ
-own_given e b i = if ltb i b.blocks then block_given e b i else 0
+own_given e b i = when ltb i b.blocks then block_given e b i else 0
 
 -- the stage at place k, that of block k % 8 of line k / 8, after what an event gives that block; there are m main signals
 unfoldable pub own_stage_at : ℕ → List Line → List ℕ → List ℕ → Gives → ℕ → ℕ → ℕ

@@ -1,7 +1,7 @@
 -- Stage 3 (L3): a block that waits there opens when the next block opens, or, for the last block in travel, when an entrance route of the arrival end is
 -- released. So an opening passes back through all stage 3 blocks before it in the same event.
 use Rattle.std.specs.Prelude.{ℕ, zero, suc, ◌*◌, ◌/◌, ◌%◌, ◌<◌, ◌≡◌, Bool, false, not, List, eqb, ltb, length, get_or}
-use Rattle.laws.specs.Choice.{if◌then◌else◌}
+use Rattle.laws.specs.Choice.{when◌then◌else◌}
 use Rattle.laws.specs.Tests.{◌and◌, ◌or◌, any_below}
 use Rattle.laws.specs.Tables.{each}
 use Rattle.track.specs.declared.Line.{Line}
@@ -48,7 +48,7 @@ opens_beyond b stages opened arrived l w (suc d) =
 -- block i of line l, which is b, in direction w: from stage 3 to open where what lies beyond it opens; in neutral nothing lies beyond
 unfoldable pub waited_stage : Line → List ℕ → (ℕ → ℕ → Bool) → (ℕ → ℕ → Bool) → ℕ → ℕ → ℕ → ℕ → ℕ
 waited_stage b stages opened arrived l i w was =
-    if (eqb was stage3 and ltb i b.blocks) and (not (eqb w neutral) and opens_beyond b stages opened arrived l w (from_arrival b w i)) then open_block else was
+    when (eqb was stage3 and ltb i b.blocks) and (not (eqb w neutral) and opens_beyond b stages opened arrived l w (from_arrival b w i)) then open_block else was
 
 -- the same of the block at place k, block k % 8 of line k / 8, in the direction of its line
 unfoldable pub waited_stage_at : List Line → List ℕ → (ℕ → ℕ → Bool) → (ℕ → ℕ → Bool) → List ℕ → ℕ → ℕ → ℕ

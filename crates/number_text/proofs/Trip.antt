@@ -8,7 +8,7 @@ use native.Mathlib.Decide.{ℕ_discrete}
 use lib.Dec.{eqb}
 use lib.ListN.{length, take}
 use lib.Seq.{take-length, take-append_seam, take-add}
-use Rattle.laws.specs.Choice.{if◌then◌else◌}
+use Rattle.laws.specs.Choice.{when◌then◌else◌}
 use Rattle.laws.specs.Tests.{◌or◌}
 use Rattle.laws.proofs.Choice.{if_eq, if_ne, if_both}
 use Rattle.laws.proofs.Loops.{iter_keeps}
@@ -45,12 +45,12 @@ line_ends = refl
 
 -- after a space nothing of a word is read
 clean_space : (line : ℕ) → Clean (after_end line 32)
-unfolding after_end standing if◌then◌else◌
+unfolding after_end standing when◌then◌else◌
 clean_space line = record { doing = refl; value = refl }
 
 -- nor after a line's end
 clean_line : (line : ℕ) → Clean (after_end line line_end)
-unfolding after_end standing if◌then◌else◌
+unfolding after_end standing when◌then◌else◌
 clean_line line = record { doing = refl; value = refl }
 
 -- ---- one end

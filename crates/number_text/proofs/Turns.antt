@@ -8,7 +8,7 @@ use native.Mathlib.Omega.{arith}
 use borrow.Author.Rules.{rules}
 use lib.Dec.{eqb}
 use lib.ListN.{length}
-use Rattle.laws.specs.Choice.{if◌then◌else◌}
+use Rattle.laws.specs.Choice.{when◌then◌else◌}
 use Rattle.laws.specs.Tables.{iter}
 use Rattle.laws.proofs.Choice.{if_eq, if_ne}
 use Rattle.numbers.specs.declared.Number.{Number}
@@ -71,8 +71,8 @@ module _ (per : ℕ) (bytes : List ℕ) where
 
   -- and nothing is added after a fault
   by_stop : (u : Run) (t : Bool)
-      → (if t then onward per u (number_at bytes u.at) else u) ≡ after u.text (if t then onward per (fresh u) (number_at bytes u.at) else fresh u)
-  unfolding if◌then◌else◌
+      → (when t then onward per u (number_at bytes u.at) else u) ≡ after u.text (when t then onward per (fresh u) (number_at bytes u.at) else fresh u)
+  unfolding when◌then◌else◌
   by_stop u true = onward_adds u (number_at bytes u.at)
   by_stop u false = rw append-nil
 

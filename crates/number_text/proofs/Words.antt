@@ -6,7 +6,7 @@ use mathlib.Core.List.{List}
 use borrow.Author.Tests.{leb-true}
 use lib.Dec.{leb, eqb}
 use lib.ListN.{length, get_or}
-use Rattle.laws.specs.Choice.{if◌then◌else◌}
+use Rattle.laws.specs.Choice.{when◌then◌else◌}
 use Rattle.laws.proofs.Choice.{if_yes}
 use Rattle.laws.proofs.Tests.{all_at, and_left}
 use Rattle.number_text.specs.Text.{is_digit}
@@ -18,8 +18,8 @@ pub told : (v t : Bool) → v ≡ t → v ≡ true → t ≡ true
 told v t e p = sym e ∙ p
 
 -- a choice that holds, of which the first half is false, is the second
-second : (t b : Bool) → (if t then false else b) ≡ true → b ≡ true
-unfolding if◌then◌else◌
+second : (t b : Bool) → (when t then false else b) ≡ true → b ≡ true
+unfolding when◌then◌else◌
 second true b e = absurd (true≢false (sym e))
 second false b e = e
 

@@ -1,6 +1,6 @@
 -- Numbers of a file in the number form as text: so many in a line, with a space between.
 use Rattle.std.specs.Prelude.{ℕ, ◌+◌, List, [], ◌∷◌, ◌++◌, eqb, ltb}
-use Rattle.laws.specs.Choice.{if◌then◌else◌}
+use Rattle.laws.specs.Choice.{when◌then◌else◌}
 use Rattle.laws.specs.Tables.{iter}
 use Rattle.numbers.specs.declared.Number.{Number}
 use Rattle.numbers.specs.declared.Number.TheVariants.{Value, Fault}
@@ -10,14 +10,14 @@ use Rattle.number_text.specs.Text.{line_end}
 
 -- how many numbers stand in the line after one more: none where it is full
 unfoldable pub next_column : ℕ → ℕ → ℕ
-next_column per column = if ltb (column + 1) per then column + 1 else 0
+next_column per column = when ltb (column + 1) per then column + 1 else 0
 
 -- a space before a number that is not the line's first, and the line's end after its last
 unfoldable pub before : ℕ → List ℕ
-before column = if eqb column 0 then [] else 32 ∷ []
+before column = when eqb column 0 then [] else 32 ∷ []
 
 unfoldable pub behind : ℕ → List ℕ
-behind column = if eqb column 0 then line_end ∷ [] else []
+behind column = when eqb column 0 then line_end ∷ [] else []
 
 -- a number, of five digits at most as every number of the form is
 unfoldable pub number_text : ℕ → ℕ → ℕ → List ℕ
@@ -41,7 +41,7 @@ onward per u (Fault number place) = record { column = u.column; at = place; stop
 
 -- one turn of a run that did not stop
 unfoldable pub turn_of : ℕ → List ℕ → Run → Run
-turn_of per bytes u = if eqb u.stop 0 then onward per u (number_at bytes u.at) else u
+turn_of per bytes u = when eqb u.stop 0 then onward per u (number_at bytes u.at) else u
 
 -- so many numbers of a piece at most, from a place on
 unfoldable pub unpacked : ℕ → ℕ → List ℕ → ℕ → ℕ → Run
@@ -49,4 +49,4 @@ unpacked most per bytes column at = iter (λ i. turn_of per bytes) most (begun c
 
 -- a whole file as text: the last line is ended too
 unfoldable pub ended : Run → List ℕ
-ended u = if eqb u.column 0 then u.text else u.text ++ (line_end ∷ [])
+ended u = when eqb u.column 0 then u.text else u.text ++ (line_end ∷ [])

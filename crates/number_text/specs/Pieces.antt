@@ -1,6 +1,6 @@
 -- What is done with a piece of a file, and how the code holds it.
 use Rattle.std.specs.Prelude.{ℕ, ◌/◌, ◌≡◌, List, [], ltb, length, take}
-use Rattle.laws.specs.Choice.{if◌then◌else◌}
+use Rattle.laws.specs.Choice.{when◌then◌else◌}
 use Rattle.numerals.specs.Writes.{Put}
 use Rattle.number_text.specs.declared.pack.Reader.{Reader}
 use Rattle.number_text.specs.declared.pack.Packed.{Packed}
@@ -10,7 +10,7 @@ use Rattle.number_text.specs.Lines.{Run}
 
 -- the smaller of two
 unfoldable pub fewer : ℕ → ℕ → ℕ
-fewer a b = if ltb a b then a else b
+fewer a b = when ltb a b then a else b
 
 -- as many bytes of a piece of text as a buffer surely has room for, three bytes for each: where the reading stands, how many they are, and
 -- their numbers in the buffer

@@ -1,6 +1,6 @@
 -- What a text of numbers stands for, byte by byte: numbers in decimal, spaces, commas, and comments from `#` to the line's end.
 use Rattle.std.specs.Prelude.{ℕ, ◌+◌, ◌-◌, ◌*◌, Bool, List, [], ◌∷◌, ◌++◌, eqb, ltb, leb, replicate, set}
-use Rattle.laws.specs.Choice.{if◌then◌else◌}
+use Rattle.laws.specs.Choice.{when◌then◌else◌}
 use Rattle.laws.specs.Tests.{◌and◌, ◌or◌}
 use Rattle.numbers.specs.Number.{largest}
 use Rattle.numbers.specs.Form.{encode}
@@ -27,7 +27,7 @@ is_digit byte = leb 48 byte and leb byte 57
 
 -- the line after a line, as far as 64 bits go
 unfoldable pub next_line : ℕ → ℕ
-next_line line = if ltb line 18446744073709551615 then line + 1 else line
+next_line line = when ltb line 18446744073709551615 then line + 1 else line
 
 -- nothing of a word is read. What is being read (doing): 0 between words, 1 in a number, 2 in a word that is no number, 3 in a comment; and it stopped at
 -- 4 a word that is no number, 5 a number too large
@@ -40,16 +40,16 @@ first = standing 1 0
 
 -- the number with one more digit, as far as it is not too large already
 unfoldable pub next_value : ℕ → ℕ → ℕ
-next_value value byte = if ltb largest value then value else value * 10 + (byte - 48)
+next_value value byte = when ltb largest value then value else value * 10 + (byte - 48)
 
 -- how many bytes of the word are kept, to be shown
 unfoldable pub next_size : ℕ → ℕ
-next_size size = if ltb size 32 then size + 1 else size
+next_size size = when ltb size 32 then size + 1 else size
 
 -- a byte of a word: a digit after nothing or after digits, or else the word is no number
 unfoldable pub in_word : Reader → ℕ → Reader
 in_word s byte =
-    if ltb s.doing 2 and is_digit byte then
+    when ltb s.doing 2 and is_digit byte then
     record { line = s.line; doing = 1; value = next_value s.value byte; size = next_size s.size; word = set s.word s.size byte }
     else record { line = s.line; doing = 2; value = s.value; size = next_size s.size; word = set s.word s.size byte }
 
@@ -59,23 +59,23 @@ refused s why = record { line = s.line; doing = why; value = s.value; size = s.s
 
 -- after a byte that no word holds: the next line, a comment, or the same line
 unfoldable pub after_end : ℕ → ℕ → Reader
-after_end line byte = if eqb byte line_end then standing (next_line line) 0 else if eqb byte hash then standing line 3 else standing line 0
+after_end line byte = when eqb byte line_end then standing (next_line line) 0 else when eqb byte hash then standing line 3 else standing line 0
 
 -- a byte that ends the word, if there is one: it may be no number, or too large
 unfoldable pub after_word : Reader → ℕ → Reader
-after_word s byte = if eqb s.doing 2 then refused s 4 else if ltb largest s.value then refused s 5 else after_end s.line byte
+after_word s byte = when eqb s.doing 2 then refused s 4 else when ltb largest s.value then refused s 5 else after_end s.line byte
 
 -- one more byte: a reading that stopped stays; a comment goes to the line's end
 unfoldable pub next : Reader → ℕ → Reader
 next s byte =
-    if ltb 3 s.doing then s
-    else if eqb s.doing 3 then (if eqb byte line_end then standing (next_line s.line) 0 else s)
-    else if ends_word byte then after_word s byte
+    when ltb 3 s.doing then s
+    else when eqb s.doing 3 then (when eqb byte line_end then standing (next_line s.line) 0 else s)
+    else when ends_word byte then after_word s byte
     else in_word s byte
 
 -- the number that this byte ends, in the number form
 unfoldable pub given : Reader → ℕ → List ℕ
-given s byte = if eqb s.doing 1 then (if ltb largest s.value then [] else if ends_word byte then encode s.value else []) else []
+given s byte = when eqb s.doing 1 then (when ltb largest s.value then [] else when ends_word byte then encode s.value else []) else []
 
 -- ---- a text
 

@@ -8,7 +8,7 @@ use borrow.Author.Tests.{lt-ltb, le-ltb, ltb-true, ltb-false}
 use lib.Dec.{eqb, ltb}
 use lib.ListN.{length, get_or, length-append}
 use lib.Seq.{get_or-append-add}
-use Rattle.laws.specs.Choice.{if◌then◌else◌}
+use Rattle.laws.specs.Choice.{when◌then◌else◌}
 use Rattle.numbers.specs.declared.Number.{Number}
 use Rattle.numbers.specs.declared.Number.TheVariants.{Value, Fault}
 use Rattle.numbers.specs.Number.{max_groups, largest, with_group, groups_at, at_most, number_at}
@@ -19,8 +19,8 @@ further d (Value value next) = Value value (d + next)
 further d (Fault number at) = Fault number (d + at)
 
 -- of two numbers the one that is chosen is moved
-choice_further : (d : ℕ) (t : Bool) (n m : Number) → if t then further d n else further d m ≡ further d (if t then n else m)
-unfolding if◌then◌else◌
+choice_further : (d : ℕ) (t : Bool) (n m : Number) → when t then further d n else further d m ≡ further d (when t then n else m)
+unfolding when◌then◌else◌
 choice_further d true n m = refl
 choice_further d false n m = refl
 
@@ -38,9 +38,9 @@ most_further d first limit (Fault number at) = refl
 
 -- by the two tests of a byte
 tests_further : (d first at b : ℕ) (t u : Bool) (n : Number)
-    → if t then (if u then Value b (d + at + 1) else with_group (d + first) (b - 128) (further d n)) else Fault 21 (d + first)
-    ≡ further d (if t then (if u then Value b (at + 1) else with_group first (b - 128) n) else Fault 21 first)
-unfolding if◌then◌else◌
+    → when t then (when u then Value b (d + at + 1) else with_group (d + first) (b - 128) (further d n)) else Fault 21 (d + first)
+    ≡ further d (when t then (when u then Value b (at + 1) else with_group first (b - 128) n) else Fault 21 first)
+unfolding when◌then◌else◌
 tests_further d first at b true true n = let e : d + at + 1 ≡ d + (at + 1) = omega arith in ap (Value b) e
 tests_further d first at b true false n = with_group_further d first (b - 128) n
 tests_further d first at b false u n = refl

@@ -8,7 +8,7 @@ use native.Mathlib.Omega.{arith}
 use borrow.Author.Tests.{lt-ltb, ltb-true}
 use lib.Dec.{ltb}
 use lib.ListN.{length, get_or, length-append, get_or-append}
-use Rattle.laws.specs.Choice.{if◌then◌else◌}
+use Rattle.laws.specs.Choice.{when◌then◌else◌}
 use Rattle.numbers.specs.declared.Number.{Number}
 use Rattle.numbers.specs.declared.Number.TheVariants.{Value, Fault}
 use Rattle.numbers.specs.Number.{max_groups, largest, with_group, groups_at, at_most, number_at}
@@ -41,16 +41,16 @@ module _ (xs ys : List ℕ) where
   module _ (first : ℕ) where
     -- by the byte there
     by_byte : (k at b : ℕ) (t : Bool) → Kept (groups_at k xs first (at + 1)) (groups_at k (xs ++ ys) first (at + 1))
-        → Kept (if t then Value b (at + 1) else with_group first (b - 128) (groups_at k xs first (at + 1)))
-        (if t then Value b (at + 1) else with_group first (b - 128) (groups_at k (xs ++ ys) first (at + 1)))
-    unfolding if◌then◌else◌
+        → Kept (when t then Value b (at + 1) else with_group first (b - 128) (groups_at k xs first (at + 1)))
+        (when t then Value b (at + 1) else with_group first (b - 128) (groups_at k (xs ++ ys) first (at + 1)))
+    unfolding when◌then◌else◌
     by_byte k at b true rest = inr refl
     by_byte k at b false rest = with_group_kept first (b - 128) _ _ rest
 
     -- inside the prefix, or at its end
     by_place : (k at : ℕ) (t : Bool) → ltb at (length xs) ≡ t → Kept (groups_at k xs first (at + 1)) (groups_at k (xs ++ ys) first (at + 1))
         → Kept (groups_at (suc k) xs first at) (groups_at (suc k) (xs ++ ys) first at)
-    unfolding groups_at if◌then◌else◌
+    unfolding groups_at when◌then◌else◌
     by_place k at true e rest = rw (e, prefix_inside at e, same_byte at e) (by_byte k at (get_or xs at 0) (ltb (get_or xs at 0) 128) rest)
     by_place k at false e rest = rw e (inl (first, refl))
 

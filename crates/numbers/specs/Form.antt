@@ -1,13 +1,13 @@
 -- The number form of the layout file (section 2), as it is written, and what is said of reading it.
 use Rattle.std.specs.Prelude.{ℕ, zero, suc, ◌+◌, ◌-◌, ◌/◌, ◌%◌, ◌<◌, ◌≤◌, ◌≡◌, List, [], ◌∷◌, length, get_or, ltb}
-use Rattle.laws.specs.Choice.{if◌then◌else◌}
+use Rattle.laws.specs.Choice.{when◌then◌else◌}
 use Rattle.numbers.specs.declared.Number.TheVariants.{Value}
 use Rattle.numbers.specs.Number.{max_groups, number_at}
 
 -- section 2, lowest group first, top bit set on every byte but the last: a number in so many groups at most
 unfoldable pub encode_in : ℕ → ℕ → List ℕ
 encode_in zero n = []
-encode_in (suc left) n = if ltb n 128 then n ∷ [] else (128 + n % 128) ∷ encode_in left (n / 128)
+encode_in (suc left) n = when ltb n 128 then n ∷ [] else (128 + n % 128) ∷ encode_in left (n / 128)
 
 -- section 2, the form that is written for a number
 unfoldable pub encode : ℕ → List ℕ

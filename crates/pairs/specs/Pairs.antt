@@ -1,6 +1,6 @@
 -- The conflicts of the layout file (section 2).
 use Rattle.std.specs.Prelude.{ℕ, ◌+◌, ◌*◌, Bool, List, eqb, ltb, set, replicate}
-use Rattle.laws.specs.Choice.{if◌then◌else◌}
+use Rattle.laws.specs.Choice.{when◌then◌else◌}
 use Rattle.laws.specs.Tests.{◌and◌, ◌or◌}
 use Rattle.laws.specs.Tables.{iter}
 use Rattle.track.specs.Sizes.{most_train_routes, most_routes, most_pairs, most_conflicts}
@@ -41,7 +41,7 @@ pair_of a b = record { first = a.value; second = b.value }
 
 -- a pair's second number b, whose first is a: 23 at it, after 24, where the pair is out of order
 unfoldable pub ordered : Pair → Cursor → Cursor → Cursor
-ordered last a b = if eqb b.fault 0 then (if in_order last (pair_of a b) then b else failed a.at 23) else b
+ordered last a b = when eqb b.fault 0 then (when in_order last (pair_of a b) then b else failed a.at 23) else b
 
 -- a pair, after the last one
 unfoldable pub a_pair : List ℕ → ℕ → Cursor → Pair → PairRead
@@ -70,7 +70,7 @@ pairs_from s routes n = iter (pair_turn s routes) n.pairs (record { cur = n.cur;
 
 -- the routes that a pair may name: no more than 48, the most that a layout has
 unfoldable pub named : ℕ → ℕ
-named routes = if ltb routes most_train_routes then routes else most_train_routes
+named routes = when ltb routes most_train_routes then routes else most_train_routes
 
 -- conflicts, 0..1,128; pairs of routes, smaller first, pairs strictly ascending
 unfoldable pub pairs : List ℕ → ℕ → Cursor → Pairs

@@ -8,7 +8,7 @@ use native.Mathlib.Numerals.{add-one}
 use native.Mathlib.Omega.{arith}
 use borrow.Author.Tests.{lt-ltb}
 use lib.ListN.{length, get_or, set, length-append}
-use Rattle.laws.specs.Choice.{if◌then◌else◌}
+use Rattle.laws.specs.Choice.{when◌then◌else◌}
 use Rattle.laws.specs.Tables.{read, join}
 use Rattle.laws.proofs.Joins.{length_join}
 use Rattle.laws.proofs.Arrays.{read_in}
@@ -90,7 +90,7 @@ module _ (ls : List Line) where
 -- the bytes of a line, from what is known of it
 pub line_made : (b : Line) (directions points stages bars : List ℕ) (l : ℕ) (placed : Bool) (a c : List ℕ) (k m : ℕ) → l < most_lines → placed ≡ line_placed points b
     → Wrote a k (join b.blocks (block_by stages bars b.blocks (get_or directions l 0) placed l)) c m → Wrote a k (line_by b directions points stages bars l) c m
-unfolding line_by read if◌then◌else◌
+unfolding line_by read when◌then◌else◌
 line_made b directions points stages bars l placed a c k m h e p = rw (lt-ltb l most_lines h, ← e) p
 
 module _ (directions points stages bars : List ℕ) (l : ℕ) where

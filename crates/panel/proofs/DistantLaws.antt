@@ -8,7 +8,7 @@ use mathlib.Core.Logic.{⊎_elim}
 use native.Mathlib.Omega.{arith}
 use borrow.Author.Tests.{leb-true, eq-eqb}
 use lib.ListN.{get_or}
-use Rattle.laws.specs.Choice.{if◌then◌else◌}
+use Rattle.laws.specs.Choice.{when◌then◌else◌}
 use Rattle.laws.specs.Tables.{table_from, table, read}
 use Rattle.laws.proofs.Arrays.{read_at}
 use Rattle.laws.proofs.Choice.{chosen}
@@ -88,7 +88,7 @@ module _ (L : Layout) (s : State) where
 
   -- so is that of each sound layout of version 1, which has none
   pub version_1_image : sound L ≡ true → L.version ≡ 1 → image L s ≡ image_without_distants L s
-  unfolding sound fits most_distants_of if◌then◌else◌
+  unfolding sound fits most_distants_of when◌then◌else◌
   version_1_image h e =
       let few : L.distants ≤ most_distants_of L.version = leb-true _ _ (every_at _ (every_at _ h 0) 7) in
       let none : most_distants_of L.version ≡ 0 = ap most_distants_of e in

@@ -11,7 +11,7 @@ use borrow.Author.Tests.{ltb-true, eqb-true, lt-ltb}
 use lib.Dec.{eqb}
 use lib.ListN.{length, get_or, get_or-append}
 use lib.Seq.{get_or-append-add}
-use Rattle.laws.specs.Choice.{if◌then◌else◌}
+use Rattle.laws.specs.Choice.{when◌then◌else◌}
 use Rattle.laws.specs.Tests.{◌or◌}
 use Rattle.laws.specs.Tables.{table, read, join}
 use Rattle.laws.proofs.Joins.{length_join}
@@ -145,8 +145,8 @@ module _ (L : Layout) (s : State) where
 -- ---- any bytes: what proceeds is there
 
 -- what is over 20 is not the dark that stands for what is not there
-lit : (t : Bool) (v : ℕ) → 20 < (if t then v else dark) → t ≡ true
-unfolding if◌then◌else◌
+lit : (t : Bool) (v : ℕ) → 20 < (when t then v else dark) → t ≡ true
+unfolding when◌then◌else◌
 lit true v b = refl
 lit false v b = absurd (omega arith)
 

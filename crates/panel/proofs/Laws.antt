@@ -6,7 +6,7 @@ use native.Mathlib.Omega.{arith}
 use borrow.Author.Tests.{lt-ltb}
 use lib.ListN.{length, get_or, length-append}
 use lib.Seq.{sets, ext_get_or}
-use Rattle.laws.specs.Choice.{if◌then◌else◌}
+use Rattle.laws.specs.Choice.{when◌then◌else◌}
 use Rattle.laws.specs.Tables.{table, read, join}
 use Rattle.laws.proofs.Tables.{length_table, table_at}
 use Rattle.track.specs.Codes.{reads_none, neutral, idle}
@@ -32,7 +32,7 @@ table_same n f g h =
 
 -- the first n entries of a table of m, as the code reads them and as the definitions do
 table_read : (g : ℕ → ℕ) (n m d : ℕ) (xs : List ℕ) → n ≤ m → table n (λ i. g (get_or xs i 0)) ≡ table n (λ i. g (read m d xs i))
-unfolding read if◌then◌else◌
+unfolding read when◌then◌else◌
 table_read g n m d xs b = table_same n _ _ (λ k c. rw (lt-ltb k m (omega arith)))
 
 -- the first n entries of a table that was made

@@ -11,7 +11,7 @@ use borrow.Author.Tests.{lt-ltb}
 use lib.Dec.{ltb}
 use lib.ListN.{length, get_or}
 use lib.Seq.{ext_get_or}
-use Rattle.laws.specs.Choice.{if◌then◌else◌}
+use Rattle.laws.specs.Choice.{when◌then◌else◌}
 use Rattle.laws.proofs.Tests.{and_both, or_left, or_right}
 use Rattle.track.specs.declared.Line.{Line}
 use Rattle.track.specs.Objects.{line}
@@ -116,8 +116,8 @@ pub record ShowSame (L : Layout) (a b : List ℕ) : Type 0 where
   pub blocks : (l i : ℕ) → l < L.lines → i < (line_in L l).blocks → (panel L a).block l i ≡ (panel L b).block l i
 
 -- where the test holds, what is the same under it is the same
-under : (t : Bool) (u v d : ℕ) → t ≡ true → (if t then u else d) ≡ (if t then v else d) → u ≡ v
-unfolding if◌then◌else◌
+under : (t : Bool) (u v d : ℕ) → t ≡ true → (when t then u else d) ≡ (when t then v else d) → u ≡ v
+unfolding when◌then◌else◌
 under t u v d e q = rw e at q
 
 module _ (L : Layout) (a b : List ℕ) (same : ShowSame L a b) where

@@ -1,6 +1,6 @@
 -- The panel image (section 7): its bytes in their order, the answer, and what the lent buffer holds afterwards.
 use Rattle.std.specs.Prelude.{ℕ, zero, suc, ◌+◌, ◌*◌, Bool, not, List, [], ◌∷◌, ◌++◌, eqb, ltb, leb, length, drop}
-use Rattle.laws.specs.Choice.{if◌then◌else◌}
+use Rattle.laws.specs.Choice.{when◌then◌else◌}
 use Rattle.laws.specs.Tests.{◌and◌, every}
 use Rattle.laws.specs.Tables.{table, join, read}
 use Rattle.track.specs.declared.Line.{Line}
@@ -31,7 +31,7 @@ blocks (suc n) ls = blocks n ls + (line ls n).blocks
 
 -- a route by its phase: 0 idle, 1 locked, 2 cancelling
 unfoldable pub route_byte : ℕ → ℕ
-route_byte p = if eqb p idle then 0 else if eqb p cancelling then 2 else 1
+route_byte p = when eqb p idle then 0 else when eqb p cancelling then 2 else 1
 
 -- ---- distants
 
@@ -85,14 +85,14 @@ refused number = record { number = number; length = 0 }
 -- where is_sound answers the question of 18: 18 before 27 for a buffer of room bytes that is too short; else 0 and the image's length
 unfoldable pub answer_where : Bool → Layout → State → ℕ → Drawn
 answer_where is_sound L s room =
-    if not is_sound then refused 18
-    else if ltb room (length (image L s)) then refused 27
+    when not is_sound then refused 18
+    else when ltb room (length (image L s)) then refused 27
     else record { number = 0; length = length (image L s) }
 
 -- the image where the answer is 0, and later bytes as they were; any other answer leaves the buffer untouched
 unfoldable pub drawn_where : Bool → Layout → State → List ℕ → List ℕ
 drawn_where is_sound L s buffer =
-    if eqb (answer_where is_sound L s (length buffer)).number 0 then image L s ++ drop (length (image L s)) buffer else buffer
+    when eqb (answer_where is_sound L s (length buffer)).number 0 then image L s ++ drop (length (image L s)) buffer else buffer
 
 -- section 7: 18 is for an unsound record, layout or state
 unfoldable pub answer : Layout → State → ℕ → Drawn

@@ -3,7 +3,7 @@ use Prim.Native.Nat.{ℕ, ◌+◌, ◌-◌, ◌<◌, ◌≤◌}
 use mathlib.Core.Path.{◌≡◌, refl, ap, ◌∙◌}
 use native.Mathlib.Omega.{arith}
 use borrow.Author.Rules.{rules}
-use Rattle.laws.specs.Choice.{if◌then◌else◌}
+use Rattle.laws.specs.Choice.{when◌then◌else◌}
 use lib.Dec.{eqb}
 use Rattle.laws.proofs.Choice.{if_eq, if_ne, if_lt, if_ge, if_both, chosen, passed_over}
 use Rattle.track.specs.declared.Line.{Line}
@@ -16,7 +16,7 @@ use Rattle.passage.specs.Passage.{departure, beyond, from_arrival, section_at}
 
 -- the block nearest B is the last
 last : (b : Line) → nearest b end_b ≡ b.blocks - 1
-unfolding nearest if◌then◌else◌
+unfolding nearest when◌then◌else◌
 last b = refl
 
 module _ (b : Line) (i w m : ℕ) (r : Beyond) where
@@ -75,7 +75,7 @@ module _ (b : Line) (w i : ℕ) (c : i < b.blocks) where
   -- and counted so twice it is itself
   pub counted_twice : from_arrival b w (from_arrival b w i) ≡ i
   unfolding from_arrival
-  counted_twice = if_both (λ n. (if eqb w a_to_b then b.blocks - (n + 1) else n) ≡ i) (eqb w a_to_b) (λ t. chosen _ _ _ t ∙ omega arith) (λ f. passed_over _ _ _ f)
+  counted_twice = if_both (λ n. (when eqb w a_to_b then b.blocks - (n + 1) else n) ≡ i) (eqb w a_to_b) (λ t. chosen _ _ _ t ∙ omega arith) (λ f. passed_over _ _ _ f)
 
 -- for blocks counted from the arrival end
 pub ruleset arrivals = (rules, arrival_down, arrival_past, arrival_up)

@@ -8,7 +8,7 @@ use native.Mathlib.Omega.{arith}
 use borrow.Author.Tests.{eqb-true, lt-ltb}
 use lib.Dec.{eqb, ltb}
 use lib.ListN.{length, get_or}
-use Rattle.laws.specs.Choice.{if◌then◌else◌}
+use Rattle.laws.specs.Choice.{when◌then◌else◌}
 use Rattle.laws.specs.Tables.{read}
 use Rattle.laws.specs.Tests.{◌and◌, ◌or◌, lowest}
 use Rattle.laws.proofs.Arrays.{lent_at}
@@ -70,7 +70,7 @@ unfree_merged sections g a b u v d e =
 
 -- what is refused for section g, the lowest in the way; nothing where that is past the last section
 abbrev pub decided : List ℕ → ℕ → Refusal
-decided sections g = refused_if (ltb g most_sections) (if eqb (reading sections g) occupied then 7 else 8) g
+decided sections g = refused_if (ltb g most_sections) (when eqb (reading sections g) occupied then 7 else 8) g
 
 -- 7 and 8, by the set of the sections asked for that do not read free
 module _ (sections : List ℕ) (set : ℕ) (r : Refusal) (q : r ≡ decided sections (lowest_in set)) where
@@ -115,11 +115,11 @@ misplaced_listed points n ps ws p l d e =
 module _ (points : List ℕ) (n : ℕ) (ps ws : List ℕ) (d : length ps ≡ most_listed) (e : length ws ≡ most_listed) (set p : ℕ) (q : set ≡ misplaced_of points n ps ws)
     (h : p ≡ lowest_in set) where
   -- the lowest point that is not read in position, by the lowest number in the set
-  lowest_point : lowest most_points (misplaced points n ps ws) ≡ (if ltb p most_points then p else most_points)
+  lowest_point : lowest most_points (misplaced points n ps ws) ≡ (when ltb p most_points then p else most_points)
   unfolding lowest_in
   lowest_point =
       lowest_same most_points (misplaced points n ps ws) (holds set) (λ k l. sym (misplaced_listed points n ps ws k l d e) ∙ ap (λ s. holds s k) (sym q))
-      ∙ lowest_cut most_points 64 (holds set) (omega arith) ∙ ap (λ k. if ltb k most_points then k else most_points) (sym h)
+      ∙ lowest_cut most_points 64 (holds set) (omega arith) ∙ ap (λ k. when ltb k most_points then k else most_points) (sym h)
 
   -- it is a point: the lowest
   pub point_found : p < most_points → p ≡ lowest most_points (misplaced points n ps ws)

@@ -1,6 +1,6 @@
 -- What is refused, one reason at a time (section 3). The detail is always the lowest number that applies.
 use Rattle.std.specs.Prelude.{ℕ, not, List, eqb, ltb}
-use Rattle.laws.specs.Choice.{if◌then◌else◌}
+use Rattle.laws.specs.Choice.{when◌then◌else◌}
 use Rattle.laws.specs.Tests.{◌and◌, lowest}
 use Rattle.track.specs.declared.Line.{Line}
 use Rattle.track.specs.Codes.{occupied}
@@ -20,8 +20,8 @@ use Rattle.reasons.specs.Refusal.{refused, no_refusal, refused_if, found}
 -- 7, 8: a section asked for is occupied, reads none; the lowest-numbered of those asked for that doesn't read free decides which
 unfoldable pub not_free : List ℕ → ℕ → Refusal
 not_free sections set =
-    if ltb (lowest most_sections (unfree sections set)) most_sections then
-    refused (if eqb (reading sections (lowest most_sections (unfree sections set))) occupied then 7 else 8) (lowest most_sections (unfree sections set))
+    when ltb (lowest most_sections (unfree sections set)) most_sections then
+    refused (when eqb (reading sections (lowest most_sections (unfree sections set))) occupied then 7 else 8) (lowest most_sections (unfree sections set))
     else no_refusal
 
 -- 6: a point is not read in position

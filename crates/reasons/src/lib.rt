@@ -6,7 +6,7 @@ pub mod events;
 pub mod searches;
 
 ghost use Rattle.std.specs.Prelude.{◌≡◌, not, eqb, ltb};
-ghost use Rattle.laws.specs.Choice.{if◌then◌else◌};
+ghost use Rattle.laws.specs.Choice.{when◌then◌else◌};
 ghost use Rattle.laws.specs.Tables.{read};
 ghost use Rattle.track.specs.Sizes.{most_points, most_sections};
 ghost use Rattle.track.specs.Codes.{cancelling, leaving, neutral, occupied};

@@ -7,7 +7,7 @@ use native.Mathlib.Decide.{ℕ_discrete}
 use native.Mathlib.Omega.{arith}
 use borrow.Author.Tests.{not-false}
 use lib.ListN.{get_or}
-use Rattle.laws.specs.Choice.{if◌then◌else◌}
+use Rattle.laws.specs.Choice.{when◌then◌else◌}
 use Rattle.laws.proofs.Choice.{if_eq, if_ne}
 use Rattle.reasons.specs.declared.Refusal.{Refusal}
 use Rattle.reasons.specs.Refusal.{refused, no_refusal, refused_if, first_of}
@@ -33,7 +33,7 @@ granted_at (x ∷ y ∷ xs) e (suc k) = granted_at (y ∷ xs) (first_then x y xs
 
 -- a reason that goes by a test is not given: the test fails
 pub when_granted : (t : Bool) (n d : ℕ) → 0 < n → (refused_if t n d).number ≡ 0 → t ≡ false
-unfolding refused_if refused if◌then◌else◌
+unfolding refused_if refused when◌then◌else◌
 when_granted true n d h e = absurd (let z : n ≡ 0 = e in omega arith)
 when_granted false n d h e = refl
 

@@ -1,6 +1,6 @@
 -- What is refused of each order, in the paper's order (section 3).
 use Rattle.std.specs.Prelude.{ℕ, not, [], ◌∷◌, eqb}
-use Rattle.laws.specs.Choice.{if◌then◌else◌}
+use Rattle.laws.specs.Choice.{when◌then◌else◌}
 use Rattle.laws.specs.Tables.{read}
 use Rattle.sets.specs.Sets.{merged_set, set_of, joined}
 use Rattle.track.specs.declared.Line.{Line}
@@ -37,7 +37,7 @@ secure_refusal L t l w =
 -- the line of exit route a: a neutral one is first secured the route's way, and the refusals are those of secure (L5); 9 for one secured the other way
 unfoldable pub way_refusal : Layout → Tables → Route → Refusal
 way_refusal L t a =
-    if departs t.direction a then secure_refusal L t a.line (leaving a.end)
+    when departs t.direction a then secure_refusal L t a.line (leaving a.end)
     else refused_if (not (eqb (direction t.direction a.line) (leaving a.end))) 9 a.line
 
 -- an exit route besides: on a neutral line the refusals of secure (L5), 9, 6 for the line's points, 11, 10 for the block it enters
@@ -58,7 +58,7 @@ route_refusal L t a =
     first_of (
     not_placed t.point a.points a.point a.position
     ∷ not_free t.section (merged_set (set_of a.paths a.path) (set_of a.overlaps a.overlap))
-    ∷ (if eqb a.kind exit_route then exit_refusal L t a else no_refusal)
+    ∷ (when eqb a.kind exit_route then exit_refusal L t a else no_refusal)
     ∷ [])
 
 -- set route: 4, 5, then 6, 7/8, and of an exit route the refusals of secure where the line is neutral (L5), 9, 6, 11, 10

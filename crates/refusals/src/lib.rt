@@ -2,7 +2,7 @@
 #![tactic(auto)]
 
 ghost use Rattle.std.specs.Prelude.{◌≡◌, eqb};
-ghost use Rattle.laws.specs.Choice.{if◌then◌else◌};
+ghost use Rattle.laws.specs.Choice.{when◌then◌else◌};
 ghost use Rattle.track.specs.Codes.{exit_route};
 ghost use Rattle.tables.specs.Tables.{unasked};
 ghost use Rattle.reasons.specs.Refusal.{no_refusal};

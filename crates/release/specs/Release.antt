@@ -1,6 +1,6 @@
 -- Letting a route go (section 6).
 use Rattle.std.specs.Prelude.{ℕ, ◌+◌, ◌-◌, Bool, List, eqb, ltb, leb, get_or}
-use Rattle.laws.specs.Choice.{if◌then◌else◌}
+use Rattle.laws.specs.Choice.{when◌then◌else◌}
 use Rattle.laws.specs.Tests.{◌and◌, ◌or◌, implies}
 use Rattle.track.specs.declared.Line.{Line}
 use Rattle.track.specs.declared.Route.{Route}
@@ -34,28 +34,28 @@ path_pair sections a e = record { first = watched_section sections e (get_or a.p
 
 -- the watched pair of a route
 unfoldable pub watched_pair : List Line → List ℕ → Route → Gives → WatchedPair
-watched_pair ls sections a e = if eqb a.kind exit_route then exit_pair ls sections a e else path_pair sections a e
+watched_pair ls sections a e = when eqb a.kind exit_route then exit_pair ls sections a e else path_pair sections a e
 
 -- the steps done after an event, from those done before it, 0 to 3: three steps, each in an event of its own
 unfoldable pub steps_after : WatchedPair → ℕ → ℕ
 steps_after w steps =
     -- step 3 stays done
-    if eqb steps 3 then 3
+    when eqb steps 3 then 3
     -- either reads none before step 3: it starts again
-    else if eqb w.first.reads reads_none or eqb w.second.reads reads_none then 0
+    else when eqb w.first.reads reads_none or eqb w.second.reads reads_none then 0
     -- step 3: the first is given free
-    else if eqb steps 2 then (if eqb w.first.given free then 3 else 2)
+    else when eqb steps 2 then (when eqb w.first.given free then 3 else 2)
     -- the first reads free before step 2: it starts again
-    else if eqb steps 1 and eqb w.first.reads free then 0
+    else when eqb steps 1 and eqb w.first.reads free then 0
     -- step 2: the second is given occupied while the first reads occupied
-    else if eqb steps 1 then (if eqb w.second.given occupied and eqb w.first.reads occupied then 2 else 1)
+    else when eqb steps 1 then (when eqb w.second.given occupied and eqb w.first.reads occupied then 2 else 1)
     -- step 1: the first is given occupied
-    else if eqb w.first.given occupied then 1
+    else when eqb w.first.given occupied then 1
     else 0
 
 -- how many path sections a train vacates: all, the last one excepted for kinds 0 and 1
 unfoldable pub to_vacate : Route → ℕ
-to_vacate a = if eqb a.kind exit_route then a.paths else a.paths - 1
+to_vacate a = when eqb a.kind exit_route then a.paths else a.paths - 1
 
 -- what the block nearest a route's own end reads
 unfoldable pub end_reading : List Line → List ℕ → Route → ℕ
@@ -69,7 +69,7 @@ vacated ls sections a = all_free sections (to_vacate a) a.path and implies (eqb 
 
 -- the seconds counted of a cancelling route after the event, never more than 89: the 90th releases it (`goes`)
 unfoldable pub seconds_after : Gives → ℕ → ℕ → ℕ
-seconds_after e phase seconds = if eqb phase cancelling and eqb e.tick 1 then (if ltb seconds 89 then seconds + 1 else seconds) else seconds
+seconds_after e phase seconds = when eqb phase cancelling and eqb e.tick 1 then (when ltb seconds 89 then seconds + 1 else seconds) else seconds
 
 -- the route is released by the 90th second of its cancelling, before which 89 were counted, or, the third step done, at the end of the first event
 -- (that one included) at which it is vacated
@@ -80,7 +80,7 @@ goes ls sections a e h steps = (eqb h.phase cancelling and (eqb e.tick 1 and leb
 unfoldable pub locking_after : List Line → List ℕ → Route → Gives → Locking → Locking
 locking_after ls sections a e h =
     let steps : ℕ = steps_after (watched_pair ls sections a e) h.steps in
-    if goes ls sections a e h steps then record { phase = idle; steps = 0; seconds = 0 }
+    when goes ls sections a e h steps then record { phase = idle; steps = 0; seconds = 0 }
     else record { phase = h.phase; steps = steps; seconds = seconds_after e h.phase h.seconds }
 
 -- ---- as the code walks the routes, a route's signal and its release in one turn

@@ -5,7 +5,7 @@ use mathlib.Core.Bool.{Bool, true, false, not}
 use mathlib.Core.List.{List}
 use lib.Dec.{eqb}
 use lib.ListN.{get_or}
-use Rattle.laws.specs.Choice.{if◌then◌else◌}
+use Rattle.laws.specs.Choice.{when◌then◌else◌}
 use Rattle.laws.specs.Tests.{◌and◌, ◌or◌, any_below}
 use Rattle.laws.specs.Tables.{iter}
 use Rattle.laws.proofs.Tests.{any_same, or_false}
@@ -62,8 +62,8 @@ unfolding in_path among
 holds_path a g l = holds_set_of a.paths a.path g l
 
 -- a point more, where it lies that way; a set holds what is below 64
-side_more : (set x g : ℕ) (t : Bool) → g < 64 → holds (if t then joined set x else set) g ≡ holds set g or (t and eqb x g)
-unfolding if◌then◌else◌ ◌and◌ ◌or◌
+side_more : (set x g : ℕ) (t : Bool) → g < 64 → holds (when t then joined set x else set) g ≡ holds set g or (t and eqb x g)
+unfolding when◌then◌else◌ ◌and◌ ◌or◌
 side_more set x g true l = holds_joined set x g l
 side_more set x g false l = or_false (holds set g)
 

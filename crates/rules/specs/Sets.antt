@@ -1,6 +1,6 @@
 -- The sets of sections and points that the code tests the rules with. What the rules say stands in Rules; here is only how it is kept in 64 bits.
 use Rattle.std.specs.Prelude.{ℕ, Bool, not, List, eqb, get_or}
-use Rattle.laws.specs.Choice.{if◌then◌else◌}
+use Rattle.laws.specs.Choice.{when◌then◌else◌}
 use Rattle.laws.specs.Tests.{◌or◌}
 use Rattle.laws.specs.Tables.{iter}
 use Rattle.sets.specs.Sets.{joined, merged_set, set_of, common}
@@ -31,7 +31,7 @@ off_blocks blocks a = not (common blocks (set_of a.paths a.path))
 
 -- the i-th of these points with those before it, if its position is that way; all points of a route that lie so
 unfoldable pub side_with : ℕ → List ℕ → List ℕ → ℕ → ℕ → ℕ
-side_with w point position i set = if eqb (get_or position i 0) w then joined set (get_or point i 0) else set
+side_with w point position i set = when eqb (get_or position i 0) w then joined set (get_or point i 0) else set
 
 unfoldable pub side_set : ℕ → Route → ℕ
 side_set w a = iter (side_with w a.point a.position) a.points 0

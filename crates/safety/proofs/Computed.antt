@@ -1,6 +1,6 @@
 -- What a run on branch T is computed with, and besides one with heads (L1).
 use Prim.Native.Nat.{ℕ}
-use Rattle.laws.specs.Choice.{if◌then◌else◌}
+use Rattle.laws.specs.Choice.{when◌then◌else◌}
 use Rattle.laws.specs.Tests.{◌and◌, ◌or◌, implies, every, all_below, any_below, lowest_from, lowest}
 use Rattle.laws.specs.Tables.{iter, table_from, table, read, each_from, each, put, join}
 use Rattle.laws.specs.Totals.{bit}
@@ -60,7 +60,7 @@ use Rattle.safety.specs.Lights.{position}
 -- whoever unfolds this unfolds all that a run, its history and what shows in it are made of
 unfoldable pub run_computed : ℕ
 unfolding computed
-    if◌then◌else◌ ◌and◌ ◌or◌ implies every all_below any_below lowest_from lowest iter table_from table read each_from each put holds joined merged_set add_entry set_of
+    when◌then◌else◌ ◌and◌ ◌or◌ implies every all_below any_below lowest_from lowest iter table_from table read each_from each put holds joined merged_set add_entry set_of
     recorded reading point_reading all_free in_position line_placed route_placed place stage_of nearest is_open unbarred enterable enterable_by lets_out clear fallen route_proceeds main_proceeds block_proceeds
     in_block facing block_detail line_sections block_reading block_given
     free_stage own_stage departure arrival beyond section_at signal_at from_arrival far_section far_signal far_stage drops far_moved far_stage_at far_stages

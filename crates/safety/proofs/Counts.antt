@@ -10,7 +10,7 @@ use borrow.Author.Tests.{lt-ltb, ltb-true, le-leb, ne_eqb}
 use lib.Dec.{ltb}
 use lib.IntN.{ℤ, pos, negsuc, ◌-ℤ◌, pos-ne-negsuc}
 use lib.Signed.{mag}
-use Rattle.laws.specs.Choice.{if◌then◌else◌}
+use Rattle.laws.specs.Choice.{when◌then◌else◌}
 use Rattle.laws.specs.Tests.{◌and◌, ◌or◌, every}
 use Rattle.laws.proofs.Choice.{if_both, chosen, passed_over}
 use Rattle.laws.proofs.Tests.{and_left, and_right, or_right, every_at}
@@ -97,7 +97,7 @@ module _ (es : HeadLog) where
 
   -- and has still when one of them counts
   still_speak : {k j : ℕ} → Count k → Head j → (c : ℕ) → both_speak es ≡ true → both_speak (said k j c ∷ es) ≡ true
-  unfolding both_speak has_told says ◌and◌ if◌then◌else◌
+  unfolding both_speak has_told says ◌and◌ when◌then◌else◌
   still_speak inward head0 c t = let (p, q, r, s) = each_told t in rw (q, r, s)
   still_speak inward head1 c t = let (p, q, r, s) = each_told t in rw (p, q, s)
   still_speak outward head0 c t = let (p, q, r, s) = each_told t in rw (p, r, s)
@@ -105,7 +105,7 @@ module _ (es : HeadLog) where
 
   -- a count is no reset: the last one stands, and stays proved
   still_known : {k j : ℕ} → Count k → Head j → (c : ℕ) → Known es → Known (said k j c ∷ es)
-  unfolding every was_reset resets_in proved_told is_reset ◌and◌ ◌or◌ if◌then◌else◌
+  unfolding every was_reset resets_in proved_told is_reset ◌and◌ ◌or◌ when◌then◌else◌
   still_known {j = j} inward x c t = rw (still_speak inward x c (known_by t).0, (known_by t).1) (or_right (occupies_told (said 11 j c ∷ es)) _ (known_by t).2)
   still_known {j = j} outward x c t = rw (still_speak outward x c (known_by t).0, (known_by t).1) (or_right (occupies_told (said 12 j c ∷ es)) _ (known_by t).2)
 
@@ -116,7 +116,7 @@ module _ (es : HeadLog) where
 
     -- in, they make the sum n more
     net_in : {j : ℕ} → Head j → around (net_told (told 11 j)) ≡ (around (net_told es) + n) % 65536
-    unfolding net_told last_told says rolled ◌and◌ if◌then◌else◌
+    unfolding net_told last_told says rolled ◌and◌ when◌then◌else◌
     net_in head0 = more_in (last_told 11 0 es) (last_told 11 1 es) (last_told 12 0 es + last_told 12 1 es) n
     net_in head1 =
         ap (λ k. around (pos k -ℤ pos (last_told 12 0 es + last_told 12 1 es))) (swap (last_told 11 0 es) _)
@@ -125,7 +125,7 @@ module _ (es : HeadLog) where
 
     -- out, n less
     net_out : {j : ℕ} → Head j → around (net_told es) ≡ (around (net_told (told 12 j)) + n) % 65536
-    unfolding net_told last_told says rolled ◌and◌ if◌then◌else◌
+    unfolding net_told last_told says rolled ◌and◌ when◌then◌else◌
     net_out head0 = more_out (last_told 12 0 es) (last_told 12 1 es) (last_told 11 0 es + last_told 11 1 es) n
     net_out head1 =
         ap (λ k. around (pos (last_told 11 0 es + last_told 11 1 es) -ℤ pos k)) (swap (last_told 12 0 es) (last_told 12 1 es))
@@ -134,7 +134,7 @@ module _ (es : HeadLog) where
 
     -- so in from none there are n
     number_in : {j : ℕ} → Head j → number_told es ≡ pos 0 → n < 32768 → number_told (told 11 j) ≡ pos n
-    unfolding number_told net_at_reset is_reset ◌and◌ if◌then◌else◌
+    unfolding number_told net_at_reset is_reset ◌and◌ when◌then◌else◌
     number_in {j} x h b =
         let was = (signed_is _ 0 (around_below (net_told es -ℤ net_at_reset es)) h).0 in
         let sum = around_sub (net_told es) (net_at_reset es) in
@@ -144,7 +144,7 @@ module _ (es : HeadLog) where
 
     -- and with n out of n there are none
     number_out : {j : ℕ} → Head j → number_told es ≡ pos n → number_told (told 12 j) ≡ pos 0
-    unfolding number_told net_at_reset is_reset ◌and◌ if◌then◌else◌
+    unfolding number_told net_at_reset is_reset ◌and◌ when◌then◌else◌
     number_out {j} x h =
         let (was, few) = signed_is _ n (around_below (net_told es -ℤ net_at_reset es)) h in
         let sum = around_sub (net_told es) (net_at_reset es) in
@@ -163,7 +163,7 @@ module _ (es : HeadLog) where
 
 -- one that reads occupied, with all its axles out, reads free
 pub out_reads : (es : HeadLog) {j : ℕ} → Head j → reading_told es ≡ 2 → reading_told (told es (mag (number_told es)) 12 j) ≡ 1
-unfolding reading_told reading_of if◌then◌else◌
+unfolding reading_told reading_of when◌then◌else◌
 out_reads es x r =
     let known = reads_known es (omega arith) in
     chosen _ _ 3 (still_known es outward x _ known)

@@ -9,7 +9,7 @@ use mathlib.Core.List.{List, [], ◌∷◌}
 use native.Mathlib.Decide.{ℕ_discrete}
 use native.Mathlib.Omega.{arith}
 use borrow.Author.Tests.{eqb-true, eq-eqb, ne_eqb, lt-leb, not-false}
-use Rattle.laws.specs.Choice.{if◌then◌else◌}
+use Rattle.laws.specs.Choice.{when◌then◌else◌}
 use Rattle.laws.specs.Tests.{◌and◌}
 use Rattle.laws.proofs.Choice.{Is, holds, fails, which, chosen, passed_over}
 use Rattle.laws.proofs.Tests.{and_left, and_right, second_fails}
@@ -136,13 +136,13 @@ module _ (L : Layout) (ok : sound L ≡ true) (S : Sound L) (s : State) (h : His
 
     -- secure is granted where its own reasons are not given
     secure_passes : (secure_refusal L (tables_of s) l w).number ≡ 0 → (refusal (sound L and in_range s) L s 6 l w).number ≡ 0
-    unfolding row_of row_with secure_row if◌then◌else◌ no_refusal refused
+    unfolding row_of row_with secure_row when◌then◌else◌ no_refusal refused
     secure_passes z = granted L s ok I.ranged 6 l w (lt-leb _ l there) refl ((two_means w).1 (leaving_two _)) z
 
     module _ (pass : (refusal (sound L and in_range s) L s 6 l w).number ≡ 0) where
       -- it leaves the line secured, and nothing follows
       secured_is : secured_first L s r ≡ t
-      unfolding after own gives row_of row_with secure_row if◌then◌else◌
+      unfolding after own gives row_of row_with secure_row when◌then◌else◌
       secured_is = next L s (secure_it L r) pass ∙ secured_settled L ok S s h I T l w there pass
 
       -- the state is in range
@@ -151,16 +151,16 @@ module _ (L : Layout) (ok : sound L ≡ true) (S : Sound L) (s : State) (h : His
 
       -- set is granted then just where it is granted at once
       set_then : (refusal (sound L and in_range s) L s 4 r 0).number ≡ 0 → (refusal (sound L and in_range t) L t 4 r 0).number ≡ 0
-      unfolding row_of row_with set_row if◌then◌else◌ no_refusal refused own_secure with_lines refusal row_refusal
+      unfolding row_of row_with set_row when◌then◌else◌ no_refusal refused own_secure with_lines refusal row_refusal
       set_then z = granted L t ok in_range_law 4 r 0 (lt-leb _ r b) refl refl (other_directions L s r _ _ exit way_then (granted_at _ z 1))
 
       set_first_too : (refusal (sound L and in_range t) L t 4 r 0).number ≡ 0 → (refusal (sound L and in_range s) L s 4 r 0).number ≡ 0
-      unfolding row_of row_with set_row secure_row if◌then◌else◌ no_refusal refused own_secure with_lines refusal row_refusal
+      unfolding row_of row_with set_row secure_row when◌then◌else◌ no_refusal refused own_secure with_lines refusal row_refusal
       set_first_too z = granted L s ok I.ranged 4 r 0 (lt-leb _ r b) refl refl (other_directions L s r _ _ exit (way_first (granted_at _ pass 1)) (granted_at _ z 1))
 
       -- and leaves the same
       same_end : end L s (set_it r) ≡ end L t (set_it r)
-      unfolding after own gives row_of row_with set_row if◌then◌else◌ own_set secure_first route_in own_lock with_routes own_secure with_lines
+      unfolding after own gives row_of row_with set_row when◌then◌else◌ own_set secure_first route_in own_lock with_routes own_secure with_lines
       same_end =
           ap (λ (x : State). settle L s (own_lock x r) nothing) (chosen _ _ _ d)
           ∙ before_same L ok S s h I T l w there pass (own_lock t r) nothing refl
@@ -204,7 +204,7 @@ one_order_is_two L u es r d = let ok = in_use_sound u in let S = sound_says L ok
 
 -- an accepted order to set a route has no second number
 is_set_it : (L : Layout) (s : State) (e : Event) → e.kind ≡ 4 → (refusal (sound L and in_range s) L s e.kind e.first e.second).number ≡ 0 → e ≡ set_it e.first
-unfolding refusal row_refusal row_of row_with set_row if◌then◌else◌
+unfolding refusal row_refusal row_of row_with set_row when◌then◌else◌
 is_set_it L s e k p =
     let second : e.second ≡ 0 = eqb-true _ 0 (not-false _ (granted_second _ _ _ _ _ (granted_at _ (rw k at p) 0))) in
     ap₂ (λ x y. event x e.first y) k second

@@ -3,7 +3,7 @@ use Prim.Native.Nat.{ℕ, ◌-◌, ◌<◌}
 use mathlib.Core.Path.{◌≡◌, refl, sym, ap, ◌∙◌}
 use mathlib.Core.Logic.{◌⊎◌, inl, inr}
 use native.Mathlib.Omega.{arith}
-use Rattle.laws.specs.Choice.{if◌then◌else◌}
+use Rattle.laws.specs.Choice.{when◌then◌else◌}
 use Rattle.laws.proofs.Choice.{if_lt}
 use Rattle.track.specs.Signal.{Signal}
 use Rattle.track.specs.SignalNumbers.{signal_of}
@@ -62,7 +62,7 @@ module _ (L : Layout) (h : History) where
 
     -- of the signal that it announces
     tells_of : (x : Signal) → Announces L d x → TellsOf L h d x
-    unfolding CarriedBy warning if◌then◌else◌
+    unfolding CarriedBy warning when◌then◌else◌
     tells_of x n =
         let same : numbered (announced_by L d) ≡ (shown L h).signal x = number_shows_law x (announced_by L d) n in
         record {

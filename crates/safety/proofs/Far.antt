@@ -9,7 +9,7 @@ use native.Mathlib.Decide.{ℕ_discrete}
 use native.Mathlib.Omega.{arith}
 use borrow.Author.Tests.{eqb-true, eq-eqb, not-true}
 use lib.ListN.{get_or}
-use Rattle.laws.specs.Choice.{if◌then◌else◌}
+use Rattle.laws.specs.Choice.{when◌then◌else◌}
 use Rattle.laws.specs.Tests.{◌and◌}
 use Rattle.laws.specs.Tables.{read}
 use Rattle.laws.proofs.Tests.{and_left, and_right, and_both, not_both, fails_from, every_at, all_at, any_at, any_some}
@@ -57,7 +57,7 @@ use Rattle.safety.proofs.Held.{open_free}
 
 -- of a list of sections that read free the first reads free
 first_free : (sections xs : List ℕ) (n : ℕ) → all_free sections n xs ≡ true → 0 < n → readings.reading sections (get_or xs 0 0) ≡ 1
-unfolding all_free read if◌then◌else◌
+unfolding all_free read when◌then◌else◌
 first_free sections xs n h b = eqb-true _ 1 (all_at _ _ h 0 b)
 
 module _ (L : Layout) (S : Sound L) (l i w : ℕ) (b : l < L.lines) (c : i < (line_in L l).blocks) where

@@ -10,7 +10,7 @@ use native.Mathlib.Decide.{ℕ_discrete}
 use native.Mathlib.Omega.{arith}
 use borrow.Author.Tests.{eqb-true, eq-eqb, ne_eqb, ltb-true, lt-ltb}
 use lib.Dec.{eqb}
-use Rattle.laws.specs.Choice.{if◌then◌else◌}
+use Rattle.laws.specs.Choice.{when◌then◌else◌}
 use Rattle.laws.specs.Tests.{◌and◌}
 use Rattle.laws.specs.Tables.{read, put}
 use Rattle.laws.proofs.Choice.{if_both, chosen, passed_over}
@@ -167,12 +167,12 @@ module _ (L : Layout) (s : State) (e : Event) (h : History) (H : HeadsHeld L s.a
   module _ (g : ℕ) where
     -- the stored reading follows it: what was given, or what the section read
     pub stored_follows : g < most_sections
-        → readings.reading (done L s e).section g ≡ if eqb (gave_section L g (granted L s e) h) 0 then readings.reading s.section g else gave_section L g (granted L s e) h
+        → readings.reading (done L s e).section g ≡ when eqb (gave_section L g (granted L s e) h) 0 then readings.reading s.section g else gave_section L g (granted L s e) h
     unfolding own_section own_lock own_cancel own_secure own_manual with_sections with_routes with_lines with_axles readings.reading
     stored_follows b = go (is_done L s e)
       where
         Follows : ℕ → Type 0
-        Follows x = x ≡ if eqb (gave_section L g (granted L s e) h) 0 then read most_sections 3 s.section g else gave_section L g (granted L s e) h
+        Follows x = x ≡ when eqb (gave_section L g (granted L s e) h) 0 then read most_sections 3 s.section g else gave_section L g (granted L s e) h
 
         kept : gave_section L g (granted L s e) h ≡ 0 → Follows (read most_sections 3 s.section g)
         kept z = sym (chosen _ _ _ (eq-eqb _ 0 z))
@@ -200,7 +200,7 @@ module _ (L : Layout) (s : State) (e : Event) (h : History) (H : HeadsHeld L s.a
     unfolding given gives_reading
     reading_follows {k} {v} t = go (ℕ_discrete k g)
       where
-        go : Dec (k ≡ g) → (if eqb k g then v else 0) ≡ gave_section L g (granted L s e) h
+        go : Dec (k ≡ g) → (when eqb k g then v else 0) ≡ gave_section L g (granted L s e) h
         go (yes q) = chosen _ _ _ (eq-eqb _ g q) ∙ rw (sym q) (sym (gives_told t))
         go (no d) = passed_over _ _ _ (ne_eqb _ g d) ∙ sym (gives_other t g d)
 
@@ -209,7 +209,7 @@ module _ (L : Layout) (s : State) (e : Event) (h : History) (H : HeadsHeld L s.a
     unfolding gives given section_row point_row throw_row set_row cancel_row secure_row manual_row bar_row second_row head_row count_row silent_row reset_row lamp_row no_row heads_of nothing a_second
     box_follows b = go (row_kind_of L s e.kind e.first e.second)
       where
-        none : Untold e.kind → (x : ℕ) → (if eqb most_sections g then x else 0) ≡ gave_section L g (granted L s e) h
+        none : Untold e.kind → (x : ℕ) → (when eqb most_sections g then x else 0) ≡ gave_section L g (granted L s e) h
         none u x = passed_over _ _ _ (ne_eqb most_sections g (omega arith)) ∙ sym (untold_gives_nothing L g (granted L s e) h u)
 
         told : {row : Row} → OfKind L s e.first e.second e.kind row → (11 ≤ e.kind) × (e.kind ≤ 14) → given row.gives g ≡ gave_section L g (granted L s e) h

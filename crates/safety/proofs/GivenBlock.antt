@@ -7,7 +7,7 @@ use native.Mathlib.Decide.{ℕ_discrete}
 use native.Mathlib.Omega.{arith}
 use borrow.Author.Tests.{eqb-true, eq-eqb, ne_eqb, lt-ltb}
 use lib.Dec.{eqb, ltb}
-use Rattle.laws.specs.Choice.{if◌then◌else◌}
+use Rattle.laws.specs.Choice.{when◌then◌else◌}
 use Rattle.laws.specs.Tests.{◌and◌}
 use Rattle.laws.proofs.Choice.{chosen, passed_over}
 use Rattle.laws.proofs.Tests.{and_left, and_both, fails_from}
@@ -45,7 +45,7 @@ use Rattle.safety.proofs.Given.{granted, untold_gives_nothing, reading_follows}
 
 -- a block to which nothing is given stays
 own_nothing : (lit : Bool) (was : ℕ) → own_stage 0 lit was ≡ was
-unfolding own_stage if◌then◌else◌
+unfolding own_stage when◌then◌else◌
 own_nothing lit was = refl
 
 -- what an event gives a block is what it gives its one section
@@ -54,7 +54,7 @@ unfolding block_given given in_block
 block_given_law g b i = go (ℕ_discrete (only_section b i) g.section)
   where
     go : Dec (only_section b i ≡ g.section)
-        → (if eqb (only_section b i) g.section then g.reading else 0) ≡ (if eqb g.section (only_section b i) then g.reading else 0)
+        → (when eqb (only_section b i) g.section then g.reading else 0) ≡ (when eqb g.section (only_section b i) then g.reading else 0)
     go (yes q) = chosen _ _ _ (eq-eqb _ _ q) ∙ sym (chosen _ _ _ (eq-eqb _ _ (sym q)))
     go (no d) = passed_over _ _ _ (ne_eqb _ _ d) ∙ sym (passed_over _ _ _ (ne_eqb _ _ (λ z. d (sym z))))
 

@@ -7,7 +7,7 @@ use mathlib.Core.Bool.{true}
 use mathlib.Core.List.{List}
 use native.Mathlib.Omega.{arith}
 use borrow.Author.Tests.{ltb-false, le-ltb}
-use Rattle.laws.specs.Choice.{if◌then◌else◌}
+use Rattle.laws.specs.Choice.{when◌then◌else◌}
 use Rattle.laws.specs.Tests.{◌and◌}
 use Rattle.axles.specs.declared.Axles.{Axles}
 use Rattle.axles.specs.Heads.{speaking}
@@ -134,7 +134,7 @@ module _ (L : Layout) (ok : sound L ≡ true) (S : Sound L) (s : State) (h : His
 
     -- what is granted is not refused
     not_refuses : Grants L e h → (refusal (sound L and in_range s) L s e.kind e.first e.second).number ≡ 0
-    unfolding refusal row_of row_with heads_of head_section if◌then◌else◌
+    unfolding refusal row_of row_with heads_of head_section when◌then◌else◌
     not_refuses (section k m) = rw k ((section_means _ _).1 m)
     not_refuses (point k m) = rw k ((point_means _ _).1 m)
     not_refuses (report k m) = rw k ((lamp_means _ _).1 m)

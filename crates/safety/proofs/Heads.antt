@@ -8,7 +8,7 @@ use native.Mathlib.Decide.{ℕ_discrete}
 use native.Mathlib.Omega.{arith}
 use borrow.Author.Tests.{eqb-true, eq-eqb, ne_eqb, leb-true, le-leb}
 use lib.ListN.{length, get_or-replicate, length-replicate}
-use Rattle.laws.specs.Choice.{if◌then◌else◌}
+use Rattle.laws.specs.Choice.{when◌then◌else◌}
 use Rattle.laws.specs.Tests.{◌and◌, ◌or◌}
 use Rattle.laws.proofs.Choice.{if_both, chosen, passed_over}
 use Rattle.laws.proofs.Tests.{and_left, and_right, and_both, or_cases, implies_from}
@@ -66,7 +66,7 @@ module _ {g : ℕ} {e : Event} where
 
   -- and back
   pub is_said : SaidOf g e → said_of g e ≡ true
-  unfolding said_of of_heads named if◌then◌else◌ ◌and◌ ◌or◌
+  unfolding said_of of_heads named when◌then◌else◌ ◌and◌ ◌or◌
   is_said (counted (inl k) q b) = rw k (and_both _ _ (le-leb _ _ b) (eq-eqb _ g q))
   is_said (counted (inr k) q b) = rw k (and_both _ _ (le-leb _ _ b) (eq-eqb _ g q))
   is_said (silenced k q b) = rw k (and_both _ _ (eq-eqb _ 0 b) (eq-eqb _ g q))

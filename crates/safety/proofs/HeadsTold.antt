@@ -6,7 +6,7 @@ use mathlib.Core.List.{[], ◌∷◌}
 use native.Mathlib.Omega.{arith}
 use borrow.Author.Tests.{eqb-true, eq-eqb}
 use lib.Dec.{eqb}
-use Rattle.laws.specs.Choice.{if◌then◌else◌}
+use Rattle.laws.specs.Choice.{when◌then◌else◌}
 use Rattle.laws.specs.Tests.{◌and◌, every}
 use Rattle.laws.proofs.Choice.{Is, holds, fails, which}
 use Rattle.laws.proofs.Tests.{not_both}
@@ -66,7 +66,7 @@ module _ (L : Layout) (g : ℕ) (b : g < L.sections) (f : is_fitted L g ≡ true
 
 -- so event by event from the cold start, at which it reads none
 pub reads_by_heads : ReadsByHeads
-unfolding reads head_log reading_told both_speak has_told every ◌and◌ if◌then◌else◌
+unfolding reads head_log reading_told both_speak has_told every ◌and◌ when◌then◌else◌
 reads_by_heads L g b f [] = refl
 reads_by_heads L g b f (m ∷ h) = reads_on L g b f m h (reads_by_heads L g b f h) (which _)
 

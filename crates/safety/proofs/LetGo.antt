@@ -8,7 +8,7 @@ use native.Mathlib.Decide.{ℕ_discrete}
 use native.Mathlib.Omega.{arith}
 use borrow.Author.Tests.{eqb-true, eqb-false, eq-eqb}
 use lib.Dec.{eqb}
-use Rattle.laws.specs.Choice.{if◌then◌else◌}
+use Rattle.laws.specs.Choice.{when◌then◌else◌}
 use Rattle.laws.specs.Tests.{◌and◌}
 use Rattle.laws.specs.Tables.{read, put}
 use Rattle.laws.proofs.Choice.{if_both, Is, holds, fails, which, chosen, passed_over}
@@ -198,7 +198,7 @@ module _ (L : Layout) (S : Sound L) (s : State) (h : History) (I : Inv L s h) (e
 
   -- the watched pair
   pub pair_told_law : watched_pair L.line (done L s e).section (route_in L r) (given_by L s e) ≡ pair_told L r (granted L s e) h
-  unfolding watched_pair exit_pair path_pair gave_first gave_second if◌then◌else◌ path nearest_block line_in
+  unfolding watched_pair exit_pair path_pair gave_first gave_second when◌then◌else◌ path nearest_block line_in
   pair_told_law = go (which (eqb (route_in L r).kind 2))
     where
       few : 1 ≤ (route_in L r).paths

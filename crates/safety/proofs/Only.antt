@@ -11,7 +11,7 @@ use native.Mathlib.Omega.{arith}
 use borrow.Author.Tests.{ltb-true, eqb-true}
 use lib.Dec.{ltb}
 use lib.ListN.{length}
-use Rattle.laws.specs.Choice.{if◌then◌else◌}
+use Rattle.laws.specs.Choice.{when◌then◌else◌}
 use Rattle.laws.proofs.Tests.{and_left, and_right, or_cases}
 use Rattle.track.specs.Signal.{Signal, main, into}
 use Rattle.layout.specs.declared.Layout.{Layout}
@@ -64,8 +64,8 @@ stage_same u v opens entered passes waited p q = go (ℕ_discrete u 0) (ℕ_disc
         one_left u e w out p ∙ sym (one_left v (λ z. e (opens.1 z)) (λ z. w (waited.1 z)) (λ z. out (entered.1 z)) q)
 
 -- what is not there shows the same in any image: so where the test says that it is there is enough
-where_same : (t : Bool) (u v d : ℕ) → (t ≡ true → (if t then u else d) ≡ (if t then v else d)) → (if t then u else d) ≡ (if t then v else d)
-unfolding if◌then◌else◌
+where_same : (t : Bool) (u v d : ℕ) → (t ≡ true → (when t then u else d) ≡ (when t then v else d)) → (when t then u else d) ≡ (when t then v else d)
+unfolding when◌then◌else◌
 where_same true u v d f = f refl
 where_same false u v d f = refl
 

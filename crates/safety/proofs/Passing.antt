@@ -8,7 +8,7 @@ use mathlib.Core.List.{List, [], ◌∷◌, ◌++◌, append_assoc, append-nil}
 use native.Mathlib.Decide.{ℕ_discrete}
 use native.Mathlib.Omega.{arith}
 use lib.Signed.{mag}
-use Rattle.laws.specs.Choice.{if◌then◌else◌}
+use Rattle.laws.specs.Choice.{when◌then◌else◌}
 use Rattle.laws.specs.Tests.{◌and◌}
 use Rattle.tables.specs.Readings.{recorded}
 use Rattle.axles.specs.Since.{rolled}
@@ -258,7 +258,7 @@ count_gives L es g j k c b f x q few =
 
 -- the train's arrival gives the far section occupied: it read free
 arrival_gives : (L : Layout) (es : List Event) (g : ℕ) {e : Event} → g < L.sections → section_reads L g (history L es) ≡ 1 → Arrives L es g e → GivesNext L es e g 2
-unfolding recorded if◌then◌else◌ moment rolled
+unfolding recorded when◌then◌else◌ moment rolled
 arrival_gives L es g b r (by_reading f) = gives_recorded L _ _ _ b f refl refl
 arrival_gives L es g b r (by_count f j n x low high) =
     count_gives L es g j 11 (rolled (last_told 11 j (head_log_of L es g) + n)) b f x (inl refl) (omega arith)
@@ -266,7 +266,7 @@ arrival_gives L es g b r (by_count f j n x low high) =
 
 -- its leaving gives the block free: it read occupied
 leaving_gives : (L : Layout) (es : List Event) (g : ℕ) {e : Event} → g < L.sections → section_reads L g (history L es) ≡ 2 → Leaves L es g e → GivesNext L es e g 1
-unfolding recorded if◌then◌else◌ moment rolled
+unfolding recorded when◌then◌else◌ moment rolled
 leaving_gives L es g b r (by_reading f) = gives_recorded L _ _ _ b f refl refl
 leaving_gives L es g b r (by_count f j x) =
     count_gives L es g j 12 (rolled (last_told 12 j (head_log_of L es g) + mag (number_told (head_log_of L es g)))) b f x (inr refl) (omega arith)

@@ -8,7 +8,7 @@ use native.Mathlib.Decide.{ℕ_discrete}
 use native.Mathlib.Omega.{arith}
 use borrow.Author.Tests.{eqb-true, eq-eqb}
 use lib.Dec.{eqb}
-use Rattle.laws.specs.Choice.{if◌then◌else◌}
+use Rattle.laws.specs.Choice.{when◌then◌else◌}
 use Rattle.laws.specs.Tests.{◌and◌}
 use Rattle.laws.specs.Tables.{read}
 use Rattle.laws.proofs.Tests.{and_left, and_right, and_both, fails_from}
@@ -41,7 +41,7 @@ module _ (m : Moment) (h : History) (p : ℕ) where
   position_read u = chosen _ _ _ (and_both _ _ (eq-eqb _ 2 u.0) (eq-eqb _ p u.1))
 
   -- an accepted throw of it: none, unless it read that position
-  position_thrown : Accepted 3 p m → position p (m ∷ h) ≡ if eqb (position p h) m.event.second then m.event.second else 3
+  position_thrown : Accepted 3 p m → position p (m ∷ h) ≡ when eqb (position p h) m.event.second then m.event.second else 3
   unfolding position
   position_thrown u =
       let k = u.1 in
@@ -101,7 +101,7 @@ module _ (L : Layout) (S : Sound L) (s : State) (h : History) (I : Inv L s h) (e
       go : PointCase s e p (point_at (end L s e) p) → point_at (end L s e) p ≡ position p (granted L s e ∷ h)
       go (reads u x) = x ∙ sym (position_read (granted L s e) h p u)
       go (throws u x) =
-          x ∙ ap (λ n. if eqb n e.second then e.second else 3) (I.points p b) ∙ sym (position_thrown (granted L s e) h p (refl, u.0, u.1))
+          x ∙ ap (λ n. when eqb n e.second then e.second else 3) (I.points p b) ∙ sym (position_thrown (granted L s e) h p (refl, u.0, u.1))
       go (leaves n d x) = x ∙ I.points p b ∙ sym (position_kept (granted L s e) h p n (λ u. d (u.1, u.2)))
 
 -- ---- a refused event is no reading of a point that there is, which would be accepted, and no accepted throw

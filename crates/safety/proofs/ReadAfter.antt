@@ -4,7 +4,7 @@ use mathlib.Core.Path.{◌≡◌, ap, ◌∙◌}
 use mathlib.Core.List.{◌∷◌}
 use native.Mathlib.Omega.{arith}
 use lib.Dec.{eqb}
-use Rattle.laws.specs.Choice.{if◌then◌else◌}
+use Rattle.laws.specs.Choice.{when◌then◌else◌}
 use Rattle.laws.specs.Tests.{◌and◌}
 use Rattle.tables.specs.Readings as readings
 use Rattle.layout.specs.declared.Layout.{Layout}
@@ -27,7 +27,7 @@ module _ (L : Layout) (S : Sound L) (s : State) (h : History) (I : Inv L s h) (e
   unfolding reads
   reads_done =
       stored_follows L s e h I.heads pass g (omega (arith, S.ranges.section_count))
-      ∙ ap (λ n. if eqb (gave_section L g (granted L s e) h) 0 then n else gave_section L g (granted L s e) h) (I.reads g b)
+      ∙ ap (λ n. when eqb (gave_section L g (granted L s e) h) 0 then n else gave_section L g (granted L s e) h) (I.reads g b)
 
   -- and at its end: nothing that follows touches sections
   pub reads_then : readings.reading (end L s e).section g ≡ section_reads L g (granted L s e ∷ h)

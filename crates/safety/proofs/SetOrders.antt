@@ -42,7 +42,7 @@ use Rattle.safety.specs.Lights.{MayEnter, Clear}
 use Rattle.safety.specs.Grants.{MaySet, MaySecure}
 use Rattle.safety.proofs.Invariant.{Inv}
 use Rattle.safety.proofs.Unrefused.{Lifts, there_means, last, ◌before◌, reasons_mean, if_means, unless_means, found_means, where_means, free_means, union_means}
-use Rattle.laws.specs.Choice.{if◌then◌else◌}
+use Rattle.laws.specs.Choice.{when◌then◌else◌}
 use Rattle.track.specs.Codes.{leaving}
 use Rattle.track.proofs.Ways.{leaving_two, leaving_some}
 use Rattle.safety.proofs.Lines.{neutral_told}
@@ -102,7 +102,7 @@ module _ (L : Layout) (ok : sound L ≡ true) (S : Sound L) (s : State) (h : His
 
       -- 9, or (L5) of a neutral line what to secure it asks
       way_means : Lifts (way_refusal L (tables_of s) (route_in L a)) (Secured L (route_in L a).line way h ⊎ MaySecure L (route_in L a).line way h)
-      unfolding way_refusal departs if◌then◌else◌ ◌and◌
+      unfolding way_refusal departs when◌then◌else◌ ◌and◌
       way_means = go (ℕ_discrete (direction s (route_in L a).line) 0)
         where
           secured : direction s (route_in L a).line ≡ way ↔ Secured L (route_in L a).line way h

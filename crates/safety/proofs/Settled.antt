@@ -11,7 +11,7 @@ use native.Mathlib.Omega.{arith}
 use borrow.Author.Tests.{eqb-true, eqb-false, eq-eqb, ne_eqb}
 use lib.Dec.{eqb}
 use lib.ListN.{get_or}
-use Rattle.laws.specs.Choice.{if◌then◌else◌}
+use Rattle.laws.specs.Choice.{when◌then◌else◌}
 use Rattle.laws.specs.Tests.{◌and◌}
 use Rattle.laws.specs.Tables.{read}
 use Rattle.laws.proofs.Arrays.{read_at}
@@ -84,7 +84,7 @@ module _ (L : Layout) (ok : sound L ≡ true) (S : Sound L) (s : State) (h : His
 
   -- 10: every block of it is open
   all_open : (i : ℕ) → i < (line_in L l).blocks → stage s l i ≡ 0
-  unfolding refusal row_of row_with if◌then◌else◌
+  unfolding refusal row_of row_with when◌then◌else◌
   all_open i c = (I.blocks l i b c).opens.1 (((secure_means L ok S s h I l w).0 pass).all_open i c)
 
   -- any other line keeps its direction
@@ -166,7 +166,7 @@ module _ (L : Layout) (ok : sound L ≡ true) (S : Sound L) (s : State) (h : His
 
     -- the watched pair of a route, as the history tells it
     pair : watched_pair L.line s.section (route_in L r) nothing ≡ pair_told L r (granted L s e) h
-    unfolding own gives row_of row_with secure_row own_secure with_lines if◌then◌else◌
+    unfolding own gives row_of row_with secure_row own_secure with_lines when◌then◌else◌
     pair = pair_told_law L S s h I e pass r c
 
     -- its steps stand
@@ -185,7 +185,7 @@ module _ (L : Layout) (ok : sound L ≡ true) (S : Sound L) (s : State) (h : His
 
     -- it is not vacated after the third step, or it would have gone
     stays_taken : steps_of s r ≡ 3 → vacated L.line s.section (route_in L r) ≡ true → ⊥
-    unfolding own row_of row_with secure_row own_secure with_lines if◌then◌else◌
+    unfolding own row_of row_with secure_row own_secure with_lines when◌then◌else◌
     stays_taken q v =
         let gone = (vacated_told L S s h I e pass r c).0 v in
         (I.routes r c).stands locked q (record {
@@ -221,7 +221,7 @@ module _ (L : Layout) (ok : sound L ≡ true) (S : Sound L) (s : State) (h : His
       all xs ys zs p q z = rw (← p, ← q, ← z) refl
 
       entry : (n : ℕ) (xs : List ℕ) (of : Locking → ℕ) → L.routes ≤ n → ((r : ℕ) → of (locking_of s r) ≡ read n 0 xs r) → (r : ℕ) → r < L.routes
-          → get_or xs r 0 ≡ (if eqb (phase s r) 0 then get_or xs r 0 else of (locking_after L.line s.section (route_in L r) nothing (locking_of s r)))
+          → get_or xs r 0 ≡ (when eqb (phase s r) 0 then get_or xs r 0 else of (locking_after L.line s.section (route_in L r) nothing (locking_of s r)))
       entry n xs of few same r c =
           if_both (λ (m : ℕ). get_or xs r 0 ≡ m) (eqb (phase s r) 0) (λ z. refl)
           (λ f. sym (ap of (locking_still r c (eqb-false _ 0 f)) ∙ same r ∙ read_at n 0 xs r (omega arith)))

@@ -7,7 +7,7 @@ use native.Mathlib.Decide.{ℕ_discrete}
 use native.Mathlib.Omega.{arith}
 use borrow.Author.Tests.{eqb-true, eq-eqb, ne_eqb, ltb-true, lt-ltb}
 use lib.Dec.{eqb, ltb}
-use Rattle.laws.specs.Choice.{if◌then◌else◌}
+use Rattle.laws.specs.Choice.{when◌then◌else◌}
 use Rattle.laws.specs.Tests.{◌and◌, lowest}
 use Rattle.laws.proofs.Choice.{chosen, passed_over}
 use Rattle.laws.proofs.Searches.{lowest_some, lowest_holds}
@@ -69,9 +69,9 @@ module _ (L : Layout) (s : State) (h : History) (I : Inv L s h) where
 
     -- and is the one whose light it shows: by rule 6 two locked routes that start at one signal are one
     light : (r : ℕ) → r < L.routes → (route_in L r).entry ≡ x → phase s r ≡ 1
-        → main_shows L.routes L.route s.phase x ≡ if eqb (route_in L r).diverging 1 then 21 else 22
+        → main_shows L.routes L.route s.phase x ≡ when eqb (route_in L r).diverging 1 then 21 else 22
     unfolding main_shows shown_for shown_by proceed_shown main_proceeds route_proceeds route_in
-    light r c q z = chosen _ _ _ some ∙ ap (λ k. if eqb (route_in L k).diverging 1 then 21 else 22) (same (ℕ_discrete lamp r))
+    light r c q z = chosen _ _ _ some ∙ ap (λ k. when eqb (route_in L k).diverging 1 then 21 else 22) (same (ℕ_discrete lamp r))
       where
         test : ℕ → Bool
         test k = eqb (phase s k) 1 and eqb (route_in L k).entry x

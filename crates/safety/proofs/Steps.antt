@@ -7,7 +7,7 @@ use mathlib.Core.List.{[], ◌∷◌}
 use native.Mathlib.Omega.{arith}
 use borrow.Author.Tests.{eqb-true, eqb-false, eq-eqb}
 use lib.Dec.{eqb}
-use Rattle.laws.specs.Choice.{if◌then◌else◌}
+use Rattle.laws.specs.Choice.{when◌then◌else◌}
 use Rattle.laws.specs.Tests.{◌and◌, ◌or◌}
 use Rattle.laws.proofs.Choice.{if_both}
 use Rattle.laws.proofs.Tests.{and_left, and_right, and_both, or_left, or_right, or_cases, not_both}
@@ -119,7 +119,7 @@ steps_set L r m h set = record {
 
 -- and the box takes none, since the pair is given nothing
 pub none_taken : (L : Layout) (r : ℕ) (m : Moment) (h : History) → Sets r m → steps_after (pair_told L r m h) 0 ≡ 0
-unfolding steps_after if◌then◌else◌ ◌and◌
+unfolding steps_after when◌then◌else◌ ◌and◌
 none_taken L r m h set =
     rw (set_quiet L r m h set).0
     (if_both (λ n. n ≡ 0) (eqb (reads (gave_first L r) (m ∷ h)) 3 or eqb (reads (gave_second L r) (m ∷ h)) 3) (λ t. refl) (λ f. refl))

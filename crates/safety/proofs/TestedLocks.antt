@@ -8,7 +8,7 @@ use mathlib.Core.Bool.{Bool, true, false, not}
 use mathlib.Core.List.{[], ◌∷◌}
 use native.Mathlib.Omega.{arith}
 use lib.Dec.{eqb, ltb}
-use Rattle.laws.specs.Choice.{if◌then◌else◌}
+use Rattle.laws.specs.Choice.{when◌then◌else◌}
 use Rattle.laws.specs.Tests.{◌and◌, ◌or◌, implies, every, all_below}
 use Rattle.laws.proofs.Choice.{if_both}
 use Rattle.laws.proofs.Tests.{not_both}
@@ -81,7 +81,7 @@ module _ (L : Layout) (r : ℕ) where
   -- it is set, or it stays or goes
   abbrev status_after : Status → Moment → History → Status
   status_after s m h =
-      if accepted_test set_route r m then record { steps = 0; locked = true } else stays (steps_after (pair_told L r m h) s.steps) s.locked m h
+      when accepted_test set_route r m then record { steps = 0; locked = true } else stays (steps_after (pair_told L r m h) s.steps) s.locked m h
 
   -- event by event
   abbrev status : History → Status

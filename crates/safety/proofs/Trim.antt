@@ -6,7 +6,7 @@ use mathlib.Core.List.{List, [], ◌∷◌}
 use native.Mathlib.Omega.{arith}
 use borrow.Author.Tests.{eqb-true, ltb-true, le-ltb}
 use lib.ListN.{length, length-replicate}
-use Rattle.laws.specs.Choice.{if◌then◌else◌}
+use Rattle.laws.specs.Choice.{when◌then◌else◌}
 use Rattle.laws.specs.Tests.{◌and◌}
 use Rattle.laws.specs.Tables.{read, each, put}
 use Rattle.laws.proofs.Choice.{if_both, passed_over}
@@ -98,7 +98,7 @@ module _ (L : Layout) (S : Sound L) where
     -- what an event does itself
     own_trim : {e : Event} {t : State} → Done L s e t → Trim L t
     unfolding own_section own_stages given_stages passed_back own_lock own_cancel own_secure own_manual with_sections with_routes with_lines with_axles
-        waited_stage_at own_stage_at own_given own_stage open_at if◌then◌else◌ ◌and◌ line_in
+        waited_stage_at own_stage_at own_given own_stage open_at when◌then◌else◌ ◌and◌ line_in
     own_trim (reads k) = record {
       phases = T.phases;
       steps = T.steps;

@@ -8,7 +8,7 @@ use native.Mathlib.Decide.{ℕ_discrete}
 use native.Mathlib.Omega.{arith}
 use borrow.Author.Tests.{ne_eqb}
 use lib.Dec.{eqb}
-use Rattle.laws.specs.Choice.{if◌then◌else◌}
+use Rattle.laws.specs.Choice.{when◌then◌else◌}
 use Rattle.laws.specs.Tests.{◌and◌, ◌or◌}
 use Rattle.laws.proofs.Choice.{if_both, passed_over}
 use Rattle.laws.proofs.Tests.{not_both, second_fails}
@@ -24,7 +24,7 @@ use Rattle.line_block.specs.FarSections.{drops, far_moved}
 -- where neither of the watched pair is given anything the steps stay, if they may stand where they are
 pub steps_stay : (w : WatchedPair) (n : ℕ) → n ≤ 3 → w.first.given ≡ 0 → w.second.given ≡ 0
     → (1 ≤ n → n ≢ 3 → (w.first.reads ≡ 2) × (w.second.reads ≢ 3)) → steps_after w n ≡ n
-unfolding steps_after if◌then◌else◌ ◌and◌ ◌or◌
+unfolding steps_after when◌then◌else◌ ◌and◌ ◌or◌
 steps_stay w n few a b h = go (ℕ_discrete n 3) (ℕ_discrete n 2) (ℕ_discrete n 1)
   where
     go : Dec (n ≡ 3) → Dec (n ≡ 2) → Dec (n ≡ 1) → steps_after w n ≡ n
@@ -42,7 +42,7 @@ far_idle far dropped v a b = sym (passed_over _ _ _ (ne_eqb v 2 a) ∙ passed_ov
 
 -- nor is one where the signal does not drop, if the section does not read none in stage 2
 far_still : (far v : ℕ) → (v ≡ 3 → far ≢ 3) → v ≡ far_stage far false v
-unfolding far_stage if◌then◌else◌ ◌and◌
+unfolding far_stage when◌then◌else◌ ◌and◌
 far_still far v h = go (ℕ_discrete v 2) (ℕ_discrete v 3)
   where
     go : Dec (v ≡ 2) → Dec (v ≡ 3) → v ≡ far_stage far false v
@@ -77,4 +77,4 @@ module _ (b : Line) (sections : List ℕ) (before after : Signal → Bool) (l i 
       → far_moved b sections before after l i w v ≡ far_moved b sections earlier after l i w v
   unfolding far_moved drops
   before_unasked earlier same =
-      ap (λ (x : Bool). if eqb w 0 then v else far_stage (reading sections (passage.far_section b i w)) (x and not (after (passage.far_signal b l i w))) v) same
+      ap (λ (x : Bool). when eqb w 0 then v else far_stage (reading sections (passage.far_section b i w)) (x and not (after (passage.far_signal b l i w))) v) same

@@ -8,7 +8,7 @@ use mathlib.Core.List.{List, [], ◌∷◌}
 use borrow.Author.Tests.{eqb-true, eq-eqb, leb-false, lt-leb, not-true, not-false}
 use lib.Dec.{eqb, leb}
 use lib.ListN.{get_or}
-use Rattle.laws.specs.Choice.{if◌then◌else◌}
+use Rattle.laws.specs.Choice.{when◌then◌else◌}
 use Rattle.laws.specs.Tests.{◌and◌, any_below}
 use Rattle.laws.proofs.Searches.{lowest_none}
 use Rattle.laws.proofs.Tests.{and_left, and_right, and_both, or_cases, or_left, or_right, not_both, fails_from, any_at, any_some}
@@ -49,7 +49,7 @@ pub data Reasons : List Refusal → Type 0 → Type 1 where
 
 -- the first is not given, and none of those after it
 first_means : (x y : Refusal) (ys : List Refusal) → Lifts (first_of (x ∷ y ∷ ys)) ((x.number ≡ 0) × ((first_of (y ∷ ys)).number ≡ 0))
-unfolding first_of if◌then◌else◌
+unfolding first_of when◌then◌else◌
 first_means x y ys = (
   λ z. let none = granted_at (x ∷ y ∷ ys) z 0 in (none, rw (eq-eqb x.number 0 none) at z),
   λ z. granted.first_none x y ys z.0 z.1,
@@ -94,11 +94,11 @@ named_means {n} {k} {m} name test some below =
     )
 
 -- a reason that is asked only where k is n
-pub where_means : {k n : ℕ} (x : Refusal) {P : Type 0} → (k ≡ n → Lifts x P) → Lifts (if eqb k n then x else no_refusal) (k ≡ n → P)
-unfolding if◌then◌else◌ no_refusal refused
+pub where_means : {k n : ℕ} (x : Refusal) {P : Type 0} → (k ≡ n → Lifts x P) → Lifts (when eqb k n then x else no_refusal) (k ≡ n → P)
+unfolding when◌then◌else◌ no_refusal refused
 where_means {k} {n} x {P} m = go (eqb k n) (eqb-true k n) (eq-eqb k n)
   where
-    go : (t : Bool) → (t ≡ true → k ≡ n) → (k ≡ n → t ≡ true) → Lifts (if t then x else no_refusal) (k ≡ n → P)
+    go : (t : Bool) → (t ≡ true → k ≡ n) → (k ≡ n → t ≡ true) → Lifts (when t then x else no_refusal) (k ≡ n → P)
     go true says from = (λ z q. (m q).0 z, λ f. (m (says refl)).1 (f (says refl)))
     go false says from = (λ z q. not_both (from q) refl, λ f. refl)
 

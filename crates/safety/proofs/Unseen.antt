@@ -7,7 +7,7 @@ use mathlib.Core.Logic.{inl, inr}
 use mathlib.Core.Bool.{Bool, true, false}
 use mathlib.Core.List.{List, ◌∷◌}
 use lib.Dec.{eqb}
-use Rattle.laws.specs.Choice.{if◌then◌else◌}
+use Rattle.laws.specs.Choice.{when◌then◌else◌}
 use Rattle.layout.specs.declared.Layout.{Layout}
 use Rattle.layout.specs.Layout.{route_in}
 use Rattle.safety.specs.History.{Moment, History, Given, gave_section, reads, Since}
@@ -21,8 +21,8 @@ abbrev pub showing : Moment → List ℕ → Moment
 showing m a = record { event = m.event; number = m.number; detail = m.detail; image = a }
 
 -- one of two, told by a test that does not look at the moment
-either_same : (t : Bool) (f g : Given) (m n : Moment) (h : History) → f m h ≡ f n h → g m h ≡ g n h → (if t then f else g) m h ≡ (if t then f else g) n h
-unfolding if◌then◌else◌
+either_same : (t : Bool) (f g : Given) (m n : Moment) (h : History) → f m h ≡ f n h → g m h ≡ g n h → (when t then f else g) m h ≡ (when t then f else g) n h
+unfolding when◌then◌else◌
 either_same true f g m n h p q = p
 either_same false f g m n h p q = q
 

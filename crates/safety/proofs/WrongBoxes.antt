@@ -3,7 +3,7 @@ use Prim.Native.Nat.{ℕ}
 use mathlib.Core.Path.{◌≡◌, refl, sym}
 use borrow.Author.Tests.{eqb-false, eqb-true}
 use lib.Dec.{eqb}
-use Rattle.laws.specs.Choice.{if◌then◌else◌}
+use Rattle.laws.specs.Choice.{when◌then◌else◌}
 use Rattle.laws.proofs.Choice.{if_both}
 use Rattle.passage.specs.Passage.{own_stage, far_stage}
 use Rattle.layout.specs.declared.Layout.{Layout}
@@ -53,12 +53,12 @@ pub own_refusals : (L : Layout) (s : State) (e : Event)
     × (refuse_by 4 (λ L s r b. set_refusal L (tables_of s) r) L s e ≡ refuses L s e)
     × (refuse_by 6 (λ L s l w. secure_refusal L (tables_of s) l w) L s e ≡ refuses L s e)
     × (refuse_by 7 (λ L s l ground. manual_refusal L (tables_of s) l) L s e ≡ refuses L s e)
-unfolding row_of row_with throw_row set_row secure_row manual_row if◌then◌else◌
+unfolding row_of row_with throw_row set_row secure_row manual_row when◌then◌else◌
 own_refusals L s e = (own_asked L s e 3, own_asked L s e 4, own_asked L s e 6, own_asked L s e 7)
 
 -- a block's own reading
 pub own_readings : (L : Layout) (s : State) (e : Event) → read_by stop_lit own_stage L s e ≡ does L s e
-unfolding own row_of row_with section_row own_section own_stages given_stages own_stage_at with_sections if◌then◌else◌
+unfolding own row_of row_with section_row own_section own_stages given_stages own_stage_at with_sections when◌then◌else◌
 own_readings L s e = if_both (λ (t : State). t ≡ does L s e) (eqb e.kind 1) (λ t. rw (eqb-true e.kind 1 t)) (λ f. refl)
 
 -- far sections

@@ -4,7 +4,7 @@ use mathlib.Core.Path.{◌≡◌, refl, sym, ap, ◌∙◌}
 use mathlib.Core.Logic.{◌≢◌}
 use mathlib.Core.Bool.{true, false≢true}
 use mathlib.Core.List.{List, [], ◌∷◌}
-use Rattle.laws.specs.Choice.{if◌then◌else◌}
+use Rattle.laws.specs.Choice.{when◌then◌else◌}
 use Rattle.laws.specs.Tests.{every}
 use Rattle.laws.proofs.Tests.{every_at}
 use Rattle.layout_facts.specs.BranchT.{layout_t}
@@ -23,7 +23,7 @@ section_10_rejects = refl
 
 -- a list of answers is nowhere unlike itself
 alike : (look : Answer → List ℕ) (n : ℕ) (xs : List Answer) → unlike_at look n xs xs ≡ []
-unfolding if◌then◌else◌
+unfolding when◌then◌else◌
 alike look n [] = refl
 alike look n (a ∷ rest) = rw (same_itself (look a)) (alike look (n + 1) rest)
 

@@ -6,7 +6,7 @@ use mathlib.Core.Bool.{true}
 use native.Mathlib.Decide.{ℕ_discrete}
 use borrow.Author.Tests.{ne_eqb}
 use lib.Dec.{eqb, lit<}
-use Rattle.laws.specs.Choice.{if◌then◌else◌}
+use Rattle.laws.specs.Choice.{when◌then◌else◌}
 use Rattle.laws.proofs.Choice.{passed_over}
 use Rattle.laws.proofs.Tests.{not_both}
 use Rattle.track.specs.Objects.{route}
@@ -33,11 +33,11 @@ use Rattle.safety.proofs.WrongRuns.{same_signal, broken_test, is_broken}
 
 -- the state on which a route locks
 own_first : (L : Layout) (s : State) (e : Event)
-    → (if eqb e.kind 4 then own_lock (secure_first s (route L.route e.first)) e.first else does L s e) ≡ does L s e
-unfolding own row_of row_with set_row own_set if◌then◌else◌
+    → (when eqb e.kind 4 then own_lock (secure_first s (route L.route e.first)) e.first else does L s e) ≡ does L s e
+unfolding own row_of row_with set_row own_set when◌then◌else◌
 own_first L s e = go (ℕ_discrete e.kind 4)
   where
-    go : Dec (e.kind ≡ 4) → (if eqb e.kind 4 then own_lock (secure_first s (route L.route e.first)) e.first else does L s e) ≡ does L s e
+    go : Dec (e.kind ≡ 4) → (when eqb e.kind 4 then own_lock (secure_first s (route L.route e.first)) e.first else does L s e) ≡ does L s e
     go (yes k) = rw k refl
     go (no n) = passed_over _ _ _ (ne_eqb _ 4 n)
 
@@ -76,13 +76,13 @@ no_way_unguarded = is_broken no_way.layout (told no_way) shows_secured no_way_te
 
 -- it was accepted, the line is not secured, and its second block is held
 pub held_line_entered : MisjudgedLast into_held_line.layout (told into_held_line)
-unfolding run_computed if◌then◌else◌
+unfolding run_computed when◌then◌else◌
 held_line_entered J =
     ⊎_elim (λ x. not_both ((secured_means into_held_line.layout 0 1 _).1 x) refl)
     (λ m. not_both ((opened_means into_held_line.layout 0 1 _).1 (m.all_open 1 (lit< tt))) refl) ((granted_asks _ _ _ (J.0 refl)).secured refl)
 
 -- it was accepted, the line is not secured, and the lamp at B has reported nothing
 pub dark_set_wrongly : MisjudgedLast set_dark.layout (told set_dark)
-unfolding run_computed if◌then◌else◌
+unfolding run_computed when◌then◌else◌
 dark_set_wrongly J =
     ⊎_elim (λ x. not_both ((secured_means set_dark.layout 0 1 _).1 x) refl) (λ m. m.lamp refl) ((granted_asks _ _ _ (J.0 refl)).secured refl)

@@ -3,7 +3,7 @@ use mathlib.Core.Path.{refl}
 use mathlib.Core.Logic.{inl, inr}
 use borrow.Author.Tests.{eqb-false}
 use lib.Dec.{eqb, lit<}
-use Rattle.laws.specs.Choice.{if◌then◌else◌}
+use Rattle.laws.specs.Choice.{when◌then◌else◌}
 use Rattle.layout.specs.declared.Layout.{Layout}
 use Rattle.layout.specs.Load.{load}
 use Rattle.layout_facts.specs.BranchT.{layout_t}
@@ -19,16 +19,16 @@ use Rattle.safety.proofs.TestedLines.{secured_means}
 -- what an event asks: a reading of a section, a route that is set, a line that is secured, a count of axles in, a reset
 abbrev Asked : Layout → Event → History → Type 0
 Asked L e h =
-    if eqb e.kind 1 then MayRead L e.first
-    else if eqb e.kind 4 then MaySet L e.first e.second h
-    else if eqb e.kind 6 then MaySecure L e.first e.second h
-    else if eqb e.kind 11 then MayCount L e.first e.second
-    else if eqb e.kind 14 then MayReset L e.first e.second h
+    when eqb e.kind 1 then MayRead L e.first
+    else when eqb e.kind 4 then MaySet L e.first e.second h
+    else when eqb e.kind 6 then MaySecure L e.first e.second h
+    else when eqb e.kind 11 then MayCount L e.first e.second
+    else when eqb e.kind 14 then MayReset L e.first e.second h
     else Unit {0}
 
 -- an event is granted only where there is what its kind asks: by its kind
 pub granted_asks : (L : Layout) (e : Event) (h : History) → Grants L e h → Asked L e h
-unfolding if◌then◌else◌
+unfolding when◌then◌else◌
 granted_asks L e h (section k x) = rw k x
 granted_asks L e h (point k x) = rw k tt
 granted_asks L e h (throw k x) = rw k tt
@@ -47,12 +47,12 @@ granted_asks L e h (report k x) = rw k tt
 
 -- it was accepted, and the overlap does not read free
 pub overlap_not_free : MisjudgedLast (load with_overlap).layout (told over_the_overlap)
-unfolding run_computed if◌then◌else◌
+unfolding run_computed when◌then◌else◌
 overlap_not_free J = eqb-false 2 1 refl ((granted_asks _ _ _ (J.0 refl)).clear.overlap_free 0 (lit< tt))
 
 -- it was accepted, and the line is secured from A to B
 pub line_not_neutral : MisjudgedLast layout_t (told turned_under)
-unfolding run_computed if◌then◌else◌
+unfolding run_computed when◌then◌else◌
 line_not_neutral J = (granted_asks _ _ _ (J.0 refl)).is_neutral.0 ((secured_means layout_t 0 1 _).0 refl)
 
 -- it was refused, and there is the block

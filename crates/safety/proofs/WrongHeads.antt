@@ -6,7 +6,7 @@ use mathlib.Core.List.{[], ◌∷◌}
 use native.Mathlib.Omega.{arith}
 use borrow.Author.Tests.{ne_eqb}
 use lib.ListN.{get_or}
-use Rattle.laws.specs.Choice.{if◌then◌else◌}
+use Rattle.laws.specs.Choice.{when◌then◌else◌}
 use Rattle.laws.proofs.Choice.{if_both, passed_over}
 use Rattle.laws.proofs.Tests.{not_both}
 use Rattle.tables.specs.declared.Gives.{Gives}
@@ -101,15 +101,15 @@ wrong_heads_shown = each_passes _ (λ r. is_inexact r.layout (told r) a_section)
 
 -- it was accepted, and the section has heads
 pub fitted_read_wrongly : MisjudgedLast read_of_fitted.layout (told read_of_fitted)
-unfolding run_computed heads_computed if◌then◌else◌
+unfolding run_computed heads_computed when◌then◌else◌
 fitted_read_wrongly J = not_both refl (granted_asks _ _ _ (J.0 refl)).no_heads
 
 -- it was accepted, and the section has none
 pub unfitted_counted_wrongly : MisjudgedLast count_of_unfitted.layout (told count_of_unfitted)
-unfolding run_computed heads_computed if◌then◌else◌
+unfolding run_computed heads_computed when◌then◌else◌
 unfitted_counted_wrongly J = not_both (granted_asks _ _ _ (J.0 refl)).heads refl
 
 -- it was accepted, and the heads have told nothing
 pub silent_reset_wrongly : MisjudgedLast reset_in_silence.layout (told reset_in_silence)
-unfolding run_computed heads_computed if◌then◌else◌
+unfolding run_computed heads_computed when◌then◌else◌
 silent_reset_wrongly J = not_both (granted_asks _ _ _ (J.0 refl)).speak refl

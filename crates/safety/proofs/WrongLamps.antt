@@ -2,7 +2,7 @@
 -- of a run.
 use mathlib.Core.Path.{◌≡◌, refl}
 use mathlib.Core.Bool.{true}
-use Rattle.laws.specs.Choice.{if◌then◌else◌}
+use Rattle.laws.specs.Choice.{when◌then◌else◌}
 use Rattle.passage.specs.Passage.{arrival}
 use Rattle.line_block.specs.PassingBack.{no_opening, released_entrance_by, arrives}
 use Rattle.layout.specs.declared.Layout.{Layout}
@@ -59,10 +59,10 @@ wrong_lamps_shown = each_passes _ (λ r. is_inexact r.layout (told r) a_block) l
 
 -- it was accepted, and no lamp has reported
 pub dark_secured_wrongly : MisjudgedLast secured_dark.layout (told secured_dark)
-unfolding run_computed if◌then◌else◌
+unfolding run_computed when◌then◌else◌
 dark_secured_wrongly J = (granted_asks _ _ _ (J.0 refl)).lamp refl
 
 -- it was accepted, and the lamp at B has reported nothing
 pub behind_secured_wrongly : MisjudgedLast secured_behind.layout (told secured_behind)
-unfolding run_computed if◌then◌else◌
+unfolding run_computed when◌then◌else◌
 behind_secured_wrongly J = (granted_asks _ _ _ (J.0 refl)).lamp refl

@@ -5,7 +5,7 @@
 --
 -- Read as `Demand3` says.
 use Rattle.std.specs.Prelude.{ℕ, ◌<◌, ◌≤◌, ◌≡◌, ◌≢◌, ◌⊎◌, ◌↔◌, List, eqb}
-use Rattle.laws.specs.Choice.{if◌then◌else◌}
+use Rattle.laws.specs.Choice.{when◌then◌else◌}
 use Rattle.track.specs.Codes.{neutral, a_to_b, b_to_a, open_block, stage1, stage2, stage3}
 use Rattle.track.specs.Signal.{main, into}
 use Rattle.signals.specs.Aspects.{dark, stop}
@@ -65,7 +65,7 @@ pub record BlockSignalExact (L : Layout) (h : History) (l i w : ℕ) : Type 0 wh
 pub record MainSignalExact (L : Layout) (h : History) (x : ℕ) : Type 0 where
   pub proceeds : Proceeds (shown L h) (main x) ↔ (r : ℕ) × (r < L.routes) × ((route_in L r).entry ≡ x) × AtProceed L r h
   pub light : (r : ℕ) → r < L.routes → (route_in L r).entry ≡ x → AtProceed L r h
-      → (shown L h).signal (main x) ≡ if eqb (route_in L r).diverging 1 then 21 else 22
+      → (shown L h).signal (main x) ≡ when eqb (route_in L r).diverging 1 then 21 else 22
   pub stops : ¬ Proceeds (shown L h) (main x) → (shown L h).signal (main x) ≡ stop
 
 -- ---- all of them

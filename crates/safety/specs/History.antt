@@ -2,7 +2,7 @@
 -- it. What is told of a history looks at nothing else. What is given to a section is told from the layout and the events alone, whatever the box
 -- answered: every code counts (section 1), and all that was said of its heads (L1). So is what lamps report (L3).
 use Rattle.std.specs.Prelude.{ℕ, ◌≡◌, ◌≢◌, ◌⊎◌, List, [], ◌∷◌, eqb, ltb}
-use Rattle.laws.specs.Choice.{if◌then◌else◌}
+use Rattle.laws.specs.Choice.{when◌then◌else◌}
 use Rattle.laws.specs.Tests.{◌and◌}
 use Rattle.track.specs.Codes.{free, occupied, reads_none, read_section, release_line, one_second, report_lamp, lamp_stop, lamp_other, lamp_none}
 use Rattle.track.specs.Blocks.{joint_reading}
@@ -42,22 +42,22 @@ nothing = 0
 -- what event e gives section g by a reading of it: code 1 is free, 2 is occupied, every other code is none
 unfoldable pub gave_by_reading : ℕ → Event → ℕ
 gave_by_reading g e =
-    if eqb e.kind read_section and eqb e.first g then (if eqb e.second 1 then free else if eqb e.second 2 then occupied else reads_none) else nothing
+    when eqb e.kind read_section and eqb e.first g then (when eqb e.second 1 then free else when eqb e.second 2 then occupied else reads_none) else nothing
 
 -- L1: what it gives section g by what it says of its heads, of which was said es before: what they then read
 unfoldable pub gave_by_heads : ℕ → Event → HeadLog → ℕ
-gave_by_heads g e es = if said_of g e and takes_effect e es then reading_told (saying e ∷ es) else nothing
+gave_by_heads g e es = when said_of g e and takes_effect e es then reading_told (saying e ∷ es) else nothing
 
 -- L1: what was said of the heads of section g, newest first
 unfoldable pub head_log : ℕ → History → HeadLog
 head_log g [] = []
-head_log g (m ∷ h) = if said_of g m.event then saying m.event ∷ head_log g h else head_log g h
+head_log g (m ∷ h) = when said_of g m.event then saying m.event ∷ head_log g h else head_log g h
 
 -- what an event gives section g: by its heads where it has heads (L1), else by a reading of it; nothing where there is no such section. Every event that
 -- gives something is accepted, whatever its code
 unfoldable pub gave_section : Layout → ℕ → Given
 gave_section L g m h =
-    if ltb g L.sections then (if is_fitted L g then gave_by_heads g m.event (head_log g h) else gave_by_reading g m.event) else nothing
+    when ltb g L.sections then (when is_fitted L g then gave_by_heads g m.event (head_log g h) else gave_by_reading g m.event) else nothing
 
 -- what it gives block i of line l
 abbrev pub gave_block : Layout → ℕ → ℕ → Given
@@ -66,7 +66,7 @@ gave_block L l i m h = joint_reading (λ g. gave_section L g m h) (line_in L l) 
 -- what it reads: what was last given; none at the cold start
 unfoldable pub reads : Given → History → ℕ
 reads gave [] = reads_none
-reads gave (m ∷ h) = if eqb (gave m h) nothing then reads gave h else gave m h
+reads gave (m ∷ h) = when eqb (gave m h) nothing then reads gave h else gave m h
 
 -- so of section g, and of block i of line l
 abbrev pub section_reads : Layout → ℕ → History → ℕ
@@ -82,8 +82,8 @@ block_reads L l i h = reads (gave_block L l i) h
 unfoldable pub lamp_told : ℕ → History → ℕ
 lamp_told x [] = lamp_none
 lamp_told x (m ∷ h) =
-    if eqb m.event.kind report_lamp and eqb m.event.first x then
-    (if eqb m.event.second 1 then lamp_stop else if eqb m.event.second 2 then lamp_other else lamp_none)
+    when eqb m.event.kind report_lamp and eqb m.event.first x then
+    (when eqb m.event.second 1 then lamp_stop else when eqb m.event.second 2 then lamp_other else lamp_none)
     else lamp_told x h
 
 -- ---- what showed, and what was done

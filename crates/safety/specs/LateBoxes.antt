@@ -1,7 +1,7 @@
 -- Boxes that never do what they should, or do it late, and some that do it too soon where demand 3 asks nothing: exactness refuses them. A run of each
 -- shows it.
 use Rattle.std.specs.Prelude.{ℕ, ◌<◌, ◌*◌, ◌/◌, ◌%◌, ◌≢◌, ◌⊎◌, ◌≡◌, List, [], ◌∷◌, ◌++◌, eqb, replicate}
-use Rattle.laws.specs.Choice.{if◌then◌else◌}
+use Rattle.laws.specs.Choice.{when◌then◌else◌}
 use Rattle.laws.specs.Tests.{◌and◌}
 use Rattle.laws.specs.Tables.{each, put}
 use Rattle.track.specs.Codes.{free, occupied, neutral, a_to_b, b_to_a, open_block, stage0, stage2, at_stop, throw_point, set_route, release_line, one_second}
@@ -27,14 +27,14 @@ use Rattle.safety.specs.WrongRuns.{Run, readings, released, opened, let_out, gon
 -- a throw leaves what the point reads
 abbrev throws_blindly : Box
 throws_blindly =
-    step_by refuses (λ L s e. if eqb e.kind throw_point then with_points (does L s e) s.point (does L s e).order else does L s e)
+    step_by refuses (λ L s e. when eqb e.kind throw_point then with_points (does L s e) s.point (does L s e).order else does L s e)
     signals far_sections routes arrivals line_release
 
 -- ---- blocks
 
 -- occupied leaves a block in stage 0
 abbrev never_enters : Box
-never_enters = reads_by (λ v lit was. if eqb v occupied then stage0 else own_stage v lit was)
+never_enters = reads_by (λ v lit was. when eqb v occupied then stage0 else own_stage v lit was)
 
 -- far sections are left out
 abbrev never_passes : Box
@@ -42,21 +42,21 @@ never_passes = step_by refuses does signals (λ L before s. s) routes arrivals l
 
 -- the free reading that closes a passage opens nothing
 abbrev never_opens : Box
-never_opens = reads_by (λ v lit was. if eqb v free and eqb was stage2 then stage0 else own_stage v lit was)
+never_opens = reads_by (λ v lit was. when eqb v free and eqb was stage2 then stage0 else own_stage v lit was)
 
 -- the block opens with the next second only
 abbrev opens_late : Box
 opens_late =
-    step_by refuses (λ L s e. if eqb e.kind one_second then with_lines (does L s e) s.direction
+    step_by refuses (λ L s e. when eqb e.kind one_second then with_lines (does L s e) s.direction
     (each (most_blocks * L.lines) (λ k was.
-    if eqb was stage2 and eqb (block_reading s.section (line L.line (k / most_blocks)) (k % most_blocks)) free then open_block else was) s.stage)
-    else read_by stop_lit (λ v lit was. if eqb v free and eqb was stage2 then stage2 else own_stage v lit was) L s e)
+    when eqb was stage2 and eqb (block_reading s.section (line L.line (k / most_blocks)) (k % most_blocks)) free then open_block else was) s.stage)
+    else read_by stop_lit (λ v lit was. when eqb v free and eqb was stage2 then stage2 else own_stage v lit was) L s e)
     signals far_sections routes arrivals line_release
 
 -- a manual release makes the line neutral and opens nothing
 abbrev hand_opens_nothing : Box
 hand_opens_nothing =
-    step_by refuses (λ L s e. if eqb e.kind release_line then with_lines s (put most_lines s.direction e.first neutral) s.stage else does L s e)
+    step_by refuses (λ L s e. when eqb e.kind release_line then with_lines s (put most_lines s.direction e.first neutral) s.stage else does L s e)
     signals far_sections routes arrivals line_release
 
 -- ---- routes and signals
@@ -68,7 +68,7 @@ never_lets_go = step_by refuses does signals far_sections (λ L s g. s) arrivals
 -- the signal of a route that is set stays at stop
 abbrev never_clears : Box
 never_clears =
-    step_by refuses (λ L s e. if eqb e.kind set_route then with_routes (does L s e) (put most_routes s.phase e.first at_stop) s.steps s.seconds else does L s e)
+    step_by refuses (λ L s e. when eqb e.kind set_route then with_routes (does L s e) (put most_routes s.phase e.first at_stop) s.steps s.seconds else does L s e)
     signals far_sections routes arrivals line_release
 
 -- ---- what is not exact

@@ -2,7 +2,7 @@
 --
 -- Read as `Demand3` says; p is a point.
 use Rattle.std.specs.Prelude.{ℕ, ◌+◌, ◌<◌, ◌≡◌, Bool, [], ◌∷◌, eqb}
-use Rattle.laws.specs.Choice.{if◌then◌else◌}
+use Rattle.laws.specs.Choice.{when◌then◌else◌}
 use Rattle.laws.specs.Tests.{◌and◌}
 use Rattle.track.specs.Codes.{free, left, right, reads_none, exit_route, a_to_b, b_to_a, read_point, throw_point}
 use Rattle.layout.specs.declared.Layout.{Layout}
@@ -24,9 +24,9 @@ throws p m = eqb m.number 0 and (eqb m.event.kind throw_point and eqb m.event.fi
 unfoldable pub position : ℕ → History → ℕ
 position p [] = reads_none
 position p (m ∷ h) =
-    if eqb m.event.kind read_point and eqb m.event.first p then
-    (if eqb m.event.second 1 then left else if eqb m.event.second 2 then right else reads_none)
-    else if throws p m then (if eqb (position p h) m.event.second then m.event.second else reads_none)
+    when eqb m.event.kind read_point and eqb m.event.first p then
+    (when eqb m.event.second 1 then left else when eqb m.event.second 2 then right else reads_none)
+    else when throws p m then (when eqb (position p h) m.event.second then m.event.second else reads_none)
     else position p h
 
 -- the points of route r, of line l, are read in position

@@ -3,7 +3,7 @@
 --
 -- Read as `Demand3` says; r is the route.
 use Rattle.std.specs.Prelude.{ℕ, ◌+◌, ◌-◌, ◌<◌, ◌≡◌, ◌≢◌, ◌⊎◌, Bool, [], ◌∷◌, eqb}
-use Rattle.laws.specs.Choice.{if◌then◌else◌}
+use Rattle.laws.specs.Choice.{when◌then◌else◌}
 use Rattle.laws.specs.Tests.{◌and◌}
 use Rattle.track.specs.Codes.{free, occupied, reads_none, entrance_route, exit_route, set_route, cancel_route, one_second}
 use Rattle.layout.specs.declared.Layout.{Layout}
@@ -29,11 +29,11 @@ gave_end L r = gave_block L (route_in L r).line (nearest_block L (route_in L r).
 
 -- what it gives the first of the pair
 unfoldable pub gave_first : Layout → ℕ → Given
-gave_first L r = if eqb (route_in L r).kind exit_route then gave_section L (path L r ((route_in L r).paths - 1)) else gave_section L (path L r ((route_in L r).paths - 2))
+gave_first L r = when eqb (route_in L r).kind exit_route then gave_section L (path L r ((route_in L r).paths - 1)) else gave_section L (path L r ((route_in L r).paths - 2))
 
 -- what it gives the second
 unfoldable pub gave_second : Layout → ℕ → Given
-gave_second L r = if eqb (route_in L r).kind exit_route then gave_end L r else gave_section L (path L r ((route_in L r).paths - 1))
+gave_second L r = when eqb (route_in L r).kind exit_route then gave_end L r else gave_section L (path L r ((route_in L r).paths - 1))
 
 -- ---- the three steps, each in an event of its own, since the route was set
 
@@ -81,7 +81,7 @@ is_second m = eqb m.event.kind one_second and (eqb m.event.first 0 and eqb m.eve
 -- how many seconds have passed since the last order to cancel it
 unfoldable pub seconds_since : ℕ → History → ℕ
 seconds_since r [] = 0
-seconds_since r (m ∷ h) = if cancels r m then 0 else if is_second m then seconds_since r h + 1 else seconds_since r h
+seconds_since r (m ∷ h) = when cancels r m then 0 else when is_second m then seconds_since r h + 1 else seconds_since r h
 
 -- by time: "the route is released by the 90th kind 10 event after it"
 pub record ByTime (r : ℕ) (m : Moment) (h : History) : Type 0 where

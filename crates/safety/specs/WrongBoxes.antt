@@ -4,7 +4,7 @@
 -- that are wrong in axle counters, `WrongLamps` those that are wrong in lamps and stage 3,
 -- `WrongDepartures` those that are wrong in one order for departure.
 use Rattle.std.specs.Prelude.{ℕ, ◌*◌, ◌/◌, ◌%◌, Bool, true, false, not, List, [], ◌∷◌, eqb, replicate}
-use Rattle.laws.specs.Choice.{if◌then◌else◌}
+use Rattle.laws.specs.Choice.{when◌then◌else◌}
 use Rattle.laws.specs.Tests.{◌and◌, every, all_below, any_below}
 use Rattle.laws.specs.Tables.{each, put}
 use Rattle.track.specs.Codes.{free, occupied, reads_none, exit_route, neutral, a_to_b, open_block, stage0, stage1, stage2, at_proceed, at_stop, read_section, cancel_route, release_line, unbar_block}
@@ -39,7 +39,7 @@ Box = Layout → State → Event → Answer
 -- a refusal leaves the state as it was; else there is a next one
 abbrev pub answers_by : (Layout → State → Event → Refusal) → (Layout → State → Event → State) → Box
 answers_by refuse next L s e =
-    if eqb (refuse L s e).number 0 then record { number = 0; detail = 0; next = next L s e }
+    when eqb (refuse L s e).number 0 then record { number = 0; detail = 0; next = next L s e }
     else record { number = (refuse L s e).number; detail = (refuse L s e).detail; next = s }
 
 -- which is made by one part after the other
@@ -78,7 +78,7 @@ stages_by lit stage L s e =
 -- what an event does itself, where a reading takes blocks so from stage to stage; an opening passes back
 abbrev pub read_by : (Layout → State → ℕ → ℕ → Bool) → (ℕ → Bool → ℕ → ℕ) → Layout → State → Event → State
 read_by lit stage L s e =
-    if eqb e.kind read_section then with_sections (does L s e) (does L s e).section
+    when eqb e.kind read_section then with_sections (does L s e) (does L s e).section
     (passed_back L.lines L.line s.direction (goes_open s.stage (stages_by lit stage L s e)) no_arrival (stages_by lit stage L s e))
     else does L s e
 
@@ -92,19 +92,19 @@ reads_by stage = step_by refuses (read_by stop_lit stage) signals far_sections r
 
 -- section 9: a block opens because it reads free again
 abbrev pub opens_free : Box
-opens_free = reads_by (λ v lit was. if eqb v free then open_block else own_stage v lit was)
+opens_free = reads_by (λ v lit was. when eqb v free then open_block else own_stage v lit was)
 
 -- section 5: none of the block is passed over, so that a passage is counted with a none between
 abbrev pub passes_none : Box
-passes_none = reads_by (λ v lit was. if eqb v reads_none then was else own_stage v lit was)
+passes_none = reads_by (λ v lit was. when eqb v reads_none then was else own_stage v lit was)
 
 -- none is taken as occupied
 abbrev pub takes_none : Box
-takes_none = reads_by (λ v lit was. own_stage (if eqb v reads_none then occupied else v) lit was)
+takes_none = reads_by (λ v lit was. own_stage (when eqb v reads_none then occupied else v) lit was)
 
 -- free leaves stage 1 as it is
 abbrev pub keeps_stage1 : Box
-keeps_stage1 = reads_by (λ v lit was. if eqb v free and eqb was stage1 then stage1 else own_stage v lit was)
+keeps_stage1 = reads_by (λ v lit was. when eqb v free and eqb was stage1 then stage1 else own_stage v lit was)
 
 -- ---- far sections (section 5)
 
@@ -112,7 +112,7 @@ keeps_stage1 = reads_by (λ v lit was. if eqb v free and eqb was stage1 then sta
 abbrev pub move_by : (State → ℕ → ℕ) → (Layout → State → State → ℕ → ℕ → ℕ → ℕ → ℕ) → Layout → State → State → State
 move_by way stage L before s =
     with_lines s s.direction
-    (each (most_blocks * L.lines) (λ k was. if eqb (way s (k / most_blocks)) neutral then was else stage L before s (k / most_blocks) (k % most_blocks) (way s (k / most_blocks)) was) s.stage)
+    (each (most_blocks * L.lines) (λ k was. when eqb (way s (k / most_blocks)) neutral then was else stage L before s (k / most_blocks) (k % most_blocks) (way s (k / most_blocks)) was) s.stage)
 
 -- the box that moves its blocks so
 abbrev moves_by : (State → ℕ → ℕ) → (Layout → State → State → ℕ → ℕ → ℕ → ℕ → ℕ) → Box
@@ -132,21 +132,21 @@ asks_no_signal = moves_by secured (λ L before s l i w was. far_stage (far_readi
 
 -- the far section need not read occupied
 abbrev pub asks_no_arrival : Box
-asks_no_arrival = moves_by secured (λ L before s l i w was. far_stage (if eqb (far_reading L s l i w) reads_none then reads_none else occupied) (far_dropped L before s l i w) was)
+asks_no_arrival = moves_by secured (λ L before s l i w was. far_stage (when eqb (far_reading L s l i w) reads_none then reads_none else occupied) (far_dropped L before s l i w) was)
 
 -- none of the far section is passed over
 abbrev pub passes_far_none : Box
-passes_far_none = moves_by secured (λ L before s l i w was. far_stage (if eqb (far_reading L s l i w) reads_none then free else far_reading L s l i w) (far_dropped L before s l i w) was)
+passes_far_none = moves_by secured (λ L before s l i w was. far_stage (when eqb (far_reading L s l i w) reads_none then free else far_reading L s l i w) (far_dropped L before s l i w) was)
 
 -- a block in stage 0 goes to 2 as well as one in stage 1
 abbrev pub asks_no_entry : Box
 asks_no_entry = moves_by secured (λ L before s l i w was.
-    if eqb was stage0 and eqb (far_stage (far_reading L s l i w) (far_dropped L before s l i w) stage1) stage2 then stage2
+    when eqb was stage0 and eqb (far_stage (far_reading L s l i w) (far_dropped L before s l i w) stage1) stage2 then stage2
     else far_stage (far_reading L s l i w) (far_dropped L before s l i w) was)
 
 -- the direction that a line is secured in, and A to B in neutral
 abbrev up_in_neutral : State → ℕ → ℕ
-up_in_neutral s l = if eqb (secured s l) neutral then a_to_b else secured s l
+up_in_neutral s l = when eqb (secured s l) neutral then a_to_b else secured s l
 
 -- in neutral far section and far signal are those of A to B
 abbrev pub moves_in_neutral : Box
@@ -163,23 +163,23 @@ never_falls = step_by refuses does (λ L s. s) far_sections routes arrivals line
 -- every fallen exit signal is at proceed again
 abbrev raised : Layout → State → State
 raised L s =
-    with_routes s (each L.routes (λ r was. if eqb was at_stop and eqb (route L.route r).kind exit_route then at_proceed else was) s.phase) s.steps s.seconds
+    with_routes s (each L.routes (λ r was. when eqb was at_stop and eqb (route L.route r).kind exit_route then at_proceed else was) s.phase) s.steps s.seconds
 
 -- section 9: a cleared bar brings back a fallen exit signal, where it has all that keeps it at proceed
 abbrev pub brings_back : Box
-brings_back = step_by refuses (λ L s e. if eqb e.kind unbar_block then raised L (does L s e) else does L s e) signals far_sections routes arrivals line_release
+brings_back = step_by refuses (λ L s e. when eqb e.kind unbar_block then raised L (does L s e) else does L s e) signals far_sections routes arrivals line_release
 
 -- section 3: a manual release opens the blocks of every line
 abbrev pub releases_all : Box
 releases_all =
-    step_by refuses (λ L s e. if eqb e.kind release_line then with_lines (does L s e) (does L s e).direction (replicate most_places open_block) else does L s e)
+    step_by refuses (λ L s e. when eqb e.kind release_line then with_lines (does L s e) (does L s e).direction (replicate most_places open_block) else does L s e)
     signals far_sections routes arrivals line_release
 
 -- ---- letting a route go (section 6)
 
 -- cancel is granted, and the signal stays as it is
 abbrev pub never_cancels : Box
-never_cancels = step_by refuses (λ L s e. if eqb e.kind cancel_route then s else does L s e) signals far_sections routes arrivals line_release
+never_cancels = step_by refuses (λ L s e. when eqb e.kind cancel_route then s else does L s e) signals far_sections routes arrivals line_release
 
 -- route r has waited one second
 abbrev counted : State → ℕ → State
@@ -187,13 +187,13 @@ counted s r = with_routes s s.phase s.steps (put most_train_routes s.seconds r 1
 
 -- section 9: the cancel wait ends at 89: the cancel counts as a second
 abbrev pub waits89 : Box
-waits89 = step_by refuses (λ L s e. if eqb e.kind cancel_route then counted (does L s e) e.first else does L s e) signals far_sections routes arrivals line_release
+waits89 = step_by refuses (λ L s e. when eqb e.kind cancel_route then counted (does L s e) e.first else does L s e) signals far_sections routes arrivals line_release
 
 -- the second step is not asked: a route that has done the first goes on as from the second
 abbrev pub asks_no_second : Box
 asks_no_second =
     step_by refuses does signals far_sections
-    (λ L s g. routes L (with_routes s s.phase (each L.routes (λ r was. if eqb was 1 then 2 else was) s.steps) s.seconds) g) arrivals line_release
+    (λ L s g. routes L (with_routes s s.phase (each L.routes (λ r was. when eqb was 1 then 2 else was) s.steps) s.seconds) g) arrivals line_release
 
 -- the overlap of route r reads free
 abbrev overlap_free : Layout → State → ℕ → Bool
@@ -203,7 +203,7 @@ overlap_free L s r = all_free s.section (route L.route r).overlaps (route L.rout
 abbrev pub keeps_overlap : Box
 keeps_overlap =
     step_by refuses does signals far_sections
-    (λ L s g. with_routes s (each L.routes (λ r was. if overlap_free L s r then phase (routes L s g).phase r else was) s.phase) (routes L s g).steps (routes L s g).seconds)
+    (λ L s g. with_routes s (each L.routes (λ r was. when overlap_free L s r then phase (routes L s g).phase r else was) s.phase) (routes L s g).steps (routes L s g).seconds)
     arrivals line_release
 
 -- ---- line release (section 5)

@@ -1,7 +1,7 @@
 -- Four of the boxes that section 10 has rejected, each the box but for one thing, with the run that section 10 names for it. Demand 3 alone is met by
 -- the first and the third, so they are held against the box itself: `rejected` has the events at which each is unlike it.
 use Rattle.std.specs.Prelude.{ℕ, ◌+◌, Bool, List, [], ◌∷◌, ◌++◌, eqb}
-use Rattle.laws.specs.Choice.{if◌then◌else◌}
+use Rattle.laws.specs.Choice.{when◌then◌else◌}
 use Rattle.track.specs.Lists.{between}
 use Rattle.layout.specs.declared.Layout.{Layout}
 use Rattle.layout_facts.specs.BranchT.{layout_t}
@@ -16,7 +16,7 @@ use Rattle.safety.specs.Cases.{p1, p3, p4, same}
 
 -- every order is refused, kinds 3 to 9, as if there were no such kind
 abbrev pub refuses_orders : Layout → State → Event → Answer
-refuses_orders L s e = if between 3 9 e.kind then record { number = 1; detail = 0; next = s } else box L s e
+refuses_orders L s e = when between 3 9 e.kind then record { number = 1; detail = 0; next = s } else box L s e
 
 -- the answer is 0 always
 abbrev pub answers_zero : Layout → State → Event → Answer
@@ -39,7 +39,7 @@ first_only L s (e ∷ es) = box L s e ∷ answers acknowledges (box L s e).next 
 
 -- whether it was granted
 abbrev pub granted : Answer → List ℕ
-granted a = (if eqb a.number 0 then 1 else 0) ∷ []
+granted a = (when eqb a.number 0 then 1 else 0) ∷ []
 
 -- number and detail of the answer
 abbrev pub said : Answer → List ℕ
@@ -53,7 +53,7 @@ panel_after a = image layout_t a.next
 abbrev pub unlike_at : (Answer → List ℕ) → ℕ → List Answer → List Answer → List ℕ
 unlike_at look n [] bs = []
 unlike_at look n (a ∷ rest) [] = []
-unlike_at look n (a ∷ rest) (b ∷ bs) = if same (look a) (look b) then unlike_at look (n + 1) rest bs else n ∷ unlike_at look (n + 1) rest bs
+unlike_at look n (a ∷ rest) (b ∷ bs) = when same (look a) (look b) then unlike_at look (n + 1) rest bs else n ∷ unlike_at look (n + 1) rest bs
 
 -- ---- the runs, on branch T from the cold start
 

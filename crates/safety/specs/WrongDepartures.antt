@@ -1,6 +1,6 @@
 -- Boxes that are wrong in one order for departure (L5): in what is asked of a neutral line, or in what becomes of it. Each has a short run.
 use Rattle.std.specs.Prelude.{◌-◌, [], ◌∷◌, ◌++◌, eqb, replicate}
-use Rattle.laws.specs.Choice.{if◌then◌else◌}
+use Rattle.laws.specs.Choice.{when◌then◌else◌}
 use Rattle.laws.specs.Tests.{◌and◌}
 use Rattle.track.specs.declared.Route.{Route}
 use Rattle.track.specs.Codes.{leaving, set_route, secure_line, lamp_stop}
@@ -32,16 +32,16 @@ abbrev stays_secured : Box
 stays_secured L s e =
     let first : Answer = box_in_run L s (event secure_line (named L e).line (leaving (named L e).end)) in
     let second : Answer = box_in_run L first.next e in
-    if eqb e.kind set_route and departs s.direction (named L e) then (if eqb first.number 0 then second else box_in_run L s e) else box_in_run L s e
+    when eqb e.kind set_route and departs s.direction (named L e) then (when eqb first.number 0 then second else box_in_run L s e) else box_in_run L s e
 
 -- the box in which a route locks on this state
 abbrev pub sets_on : (State → Route → State) → Box
 sets_on first =
-    step_by refuses (λ L s e. if eqb e.kind set_route then own_lock (first s (named L e)) e.first else does L s e) signals far_sections routes arrivals line_release
+    step_by refuses (λ L s e. when eqb e.kind set_route then own_lock (first s (named L e)) e.first else does L s e) signals far_sections routes arrivals line_release
 
 -- it secures the line the other way
 abbrev secures_other : Box
-secures_other = sets_on (λ s a. if departs s.direction a then own_secure s a.line (3 - leaving a.end) else s)
+secures_other = sets_on (λ s a. when departs s.direction a then own_secure s a.line (3 - leaving a.end) else s)
 
 -- it leaves the line neutral
 abbrev leaves_neutral : Box

@@ -1,6 +1,6 @@
 -- Panels that are wrong in distants (L2), each with a run after which a driver is misled, or is told something else than L2 says.
 use Rattle.std.specs.Prelude.{ℕ, zero, suc, ◌+◌, ◌-◌, ◌<◌, ◌≡◌, ◌≢◌, ◌⊎◌, List, [], ◌∷◌, ◌++◌, not, eqb, get_or}
-use Rattle.laws.specs.Choice.{if◌then◌else◌}
+use Rattle.laws.specs.Choice.{when◌then◌else◌}
 use Rattle.laws.specs.Tests.{◌and◌}
 use Rattle.laws.specs.Tables.{table}
 use Rattle.track.specs.declared.Line.{Line}
@@ -33,27 +33,27 @@ asks_no_carrier L s d = distant_shows (signal_shows L s) 0 (announced_by L d)
 -- the carrier is asked for stop alone: lit on the mast of a dark signal
 abbrev asks_stop_alone : Warnings
 asks_stop_alone L s d =
-    if not (eqb (carrier_of L d) 0) and eqb (signal_shows L s (carrier_of L d - 1)) stop then dark else warning (signal_shows L s (announced_by L d))
+    when not (eqb (carrier_of L d) 0) and eqb (signal_shows L s (carrier_of L d - 1)) stop then dark else warning (signal_shows L s (announced_by L d))
 
 -- the carrier's number is taken without less one
 abbrev carrier_as_it_is : Warnings
-carrier_as_it_is L s d = distant_shows (signal_shows L s) (if eqb (carrier_of L d) 0 then 0 else carrier_of L d + 1) (announced_by L d)
+carrier_as_it_is L s d = distant_shows (signal_shows L s) (when eqb (carrier_of L d) 0 then 0 else carrier_of L d + 1) (announced_by L d)
 
 -- a free-standing distant hangs on signal 0
 abbrev never_free : Warnings
-never_free L s d = distant_shows (signal_shows L s) (if eqb (carrier_of L d) 0 then 1 else carrier_of L d) (announced_by L d)
+never_free L s d = distant_shows (signal_shows L s) (when eqb (carrier_of L d) 0 then 1 else carrier_of L d) (announced_by L d)
 
 -- 25 also of a signal that shows 21
 abbrev as_straight : Warnings
-as_straight L s d = if eqb (distant_byte L s d) 24 then 25 else distant_byte L s d
+as_straight L s d = when eqb (distant_byte L s d) 24 then 25 else distant_byte L s d
 
 -- 23 of a signal that is dark
 abbrev never_dark : Warnings
-never_dark L s d = if carrier_darkens (signal_shows L s) (carrier_of L d) then dark else if eqb (signal_shows L s (announced_by L d)) dark then 23 else distant_byte L s d
+never_dark L s d = when carrier_darkens (signal_shows L s) (carrier_of L d) then dark else when eqb (signal_shows L s (announced_by L d)) dark then 23 else distant_byte L s d
 
 -- dark, and not 23, of a signal that shows 20
 abbrev dark_at_stop : Warnings
-dark_at_stop L s d = if eqb (distant_byte L s d) 23 then dark else distant_byte L s d
+dark_at_stop L s d = when eqb (distant_byte L s d) 23 then dark else distant_byte L s d
 
 -- the block signals of the first n lines, where those of a line come in this order
 abbrev blocks_by : (List Line → ℕ → List Signal) → List Line → ℕ → List Signal

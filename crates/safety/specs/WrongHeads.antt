@@ -1,7 +1,7 @@
 -- Boxes that are wrong in one thing of axle counters (L1): what becomes of a section's heads, what they say, or what is refused by 30, 34
 -- and 35. Each has a short run on branch T with heads on its block. `proofs/WrongHeads` proves that with the box's own parts they are the step of a run.
 use Rattle.std.specs.Prelude.{ℕ, ◌+◌, ◌-◌, ◌%◌, List, [], ◌∷◌, ◌++◌, eqb, ℤ, pos, negsuc, ◌-ℤ◌, set}
-use Rattle.laws.specs.Choice.{if◌then◌else◌}
+use Rattle.laws.specs.Choice.{when◌then◌else◌}
 use Rattle.laws.specs.Tests.{◌and◌, ◌or◌}
 use Rattle.track.specs.Codes.{occupied, reads_none, read_section, axles_in, head_silent, reset_axles}
 use Rattle.tables.specs.declared.Gives.{Gives}
@@ -62,14 +62,14 @@ they_say way s e = way.says (heads_become way s e) (saying_of e)
 -- what an event does itself, its heads going this way
 abbrev pub does_by : Ways → Layout → State → Event → State
 does_by way L s e =
-    if is_of_heads e.kind then
-    (if eqb (they_say way s e) nothing then with_axles s (set s.axles (section_of e) (heads_become way s e))
+    when is_of_heads e.kind then
+    (when eqb (they_say way s e) nothing then with_axles s (set s.axles (section_of e) (heads_become way s e))
     else own_section L.signals L.line L.lines (with_axles s (set s.axles (section_of e) (heads_become way s e))) (section_of e) (they_say way s e))
     else does L s e
 
 -- and what it gives
 abbrev pub gives_by : Ways → Layout → State → Event → Gives
-gives_by way L s e = if is_of_heads e.kind then gives_reading (section_of e) (they_say way s e) else gives_own L s e
+gives_by way L s e = when is_of_heads e.kind then gives_reading (section_of e) (they_say way s e) else gives_own L s e
 
 -- the box whose heads go this way
 abbrev pub heads_go : Ways → Box
@@ -77,23 +77,23 @@ heads_go way = settles_by refuses (does_by way) (gives_by way)
 
 -- where only what the heads say is another: their number is got in this way
 abbrev pub counts_by : (Axles → ℤ) → Box
-counts_by count = heads_go (record { after = axles_after; says = λ y e. if known y then reading_of (count y) else reads_none })
+counts_by count = heads_go (record { after = axles_after; says = λ y e. when known y then reading_of (count y) else reads_none })
 
 -- ---- the boxes
 
 -- a reset reads free at once: it counts as proved
 abbrev pub free_at_once : Box
 free_at_once =
-    heads_go (record { after = λ x e. if resets x e then with_proof (axles_after x e) proved else axles_after x e; says = λ y e. axles_reading y })
+    heads_go (record { after = λ x e. when resets x e then with_proof (axles_after x e) proved else axles_after x e; says = λ y e. axles_reading y })
 
 -- no reset is needed before the first reading: until there is one the number counts from 0
 abbrev pub needs_no_reset : Box
 needs_no_reset =
-    heads_go (record { after = axles_after; says = λ y e. if speaking y and eqb y.proof no_reset then reading_of (number y) else axles_reading y })
+    heads_go (record { after = axles_after; says = λ y e. when speaking y and eqb y.proof no_reset then reading_of (number y) else axles_reading y })
 
 -- one count of a head is enough for it to speak: it is taken to have told both
 abbrev told_both : Head → Head
-told_both h = if eqb h.hasin 1 or eqb h.hasout 1 then record { inward = h.inward; outward = h.outward; hasin = 1; hasout = 1 } else h
+told_both h = when eqb h.hasin 1 or eqb h.hasout 1 then record { inward = h.inward; outward = h.outward; hasin = 1; hasout = 1 } else h
 
 abbrev pub speaks_by_one : Box
 speaks_by_one = heads_go (record {
@@ -104,32 +104,32 @@ speaks_by_one = heads_go (record {
 -- a number in 1 to 255 proves the reset though a head is silent
 abbrev pub proves_in_silence : Box
 proves_in_silence = heads_go (record {
-  after = λ x e. let y = told x e in if eqb y.proof unproved and eqb (reading_of (number y)) occupied then with_proof y proved else y;
+  after = λ x e. let y = told x e in when eqb y.proof unproved and eqb (reading_of (number y)) occupied then with_proof y proved else y;
   says = λ y e. axles_reading y;
 })
 
 -- silence gives none and forgets nothing: the old counts are used again with the next count of either head
 abbrev pub forgets_nothing : Box
 forgets_nothing = heads_go (record {
-  after = λ x e. if eqb e.kind head_silent then x else axles_after x e;
-  says = λ y e. if eqb e.kind head_silent then reads_none else axles_reading y;
+  after = λ x e. when eqb e.kind head_silent then x else axles_after x e;
+  says = λ y e. when eqb e.kind head_silent then reads_none else axles_reading y;
 })
 
 -- silence gives nothing: the section keeps what it read
 abbrev pub keeps_reading : Box
-keeps_reading = heads_go (record { after = axles_after; says = λ y e. if eqb e.kind head_silent then nothing else axles_reading y })
+keeps_reading = heads_go (record { after = axles_after; says = λ y e. when eqb e.kind head_silent then nothing else axles_reading y })
 
 -- -1 is taken as 0
 unfoldable pub minus_one_as_zero : ℤ → ℤ
 minus_one_as_zero (pos n) = pos n
-minus_one_as_zero (negsuc n) = if eqb n 0 then pos 0 else negsuc n
+minus_one_as_zero (negsuc n) = when eqb n 0 then pos 0 else negsuc n
 
 abbrev pub takes_minus_one : Box
 takes_minus_one = counts_by (λ y. minus_one_as_zero (number y))
 
 -- 256 is taken as 255
 unfoldable pub take256_as255 : ℤ → ℤ
-take256_as255 (pos n) = if eqb n 256 then pos 255 else pos n
+take256_as255 (pos n) = when eqb n 256 then pos 255 else pos n
 take256_as255 (negsuc n) = negsuc n
 
 abbrev pub takes256 : Box

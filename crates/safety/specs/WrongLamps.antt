@@ -1,7 +1,7 @@
 -- Boxes that are wrong in one thing of a stop that isn't shown (L3): the lamp of a block's far signal, stage 3 and what opens it, or 31. Each has a short run.
 -- `proofs/WrongLamps` proves that with the box's own parts they are the step of a run.
 use Rattle.std.specs.Prelude.{ℕ, ◌-◌, ◌*◌, ◌/◌, ◌%◌, Bool, true, not, List, [], ◌∷◌, ◌++◌, eqb, replicate}
-use Rattle.laws.specs.Choice.{if◌then◌else◌}
+use Rattle.laws.specs.Choice.{when◌then◌else◌}
 use Rattle.laws.specs.Tests.{◌and◌, ◌or◌, any_below}
 use Rattle.laws.specs.Tables.{each}
 use Rattle.track.specs.Codes.{free, open_block, stage3, entrance_route, secure_line, report_lamp, lamp_stop, lamp_other, lamp_none}
@@ -61,26 +61,26 @@ opens_beside = lamps_by (λ L s l i. stop_lit L s l i or next_open L s l i)
 
 -- another free reading opens a block in stage 3
 abbrev opens_again : Box
-opens_again = reads_by (λ v lit was. if eqb v free and eqb was stage3 then open_block else own_stage v lit was)
+opens_again = reads_by (λ v lit was. when eqb v free and eqb was stage3 then open_block else own_stage v lit was)
 
 -- a block in stage 3 waits on when it is given occupied or none
 abbrev keeps_waiting : Box
-keeps_waiting = reads_by (λ v lit was. if eqb was stage3 then stage3 else own_stage v lit was)
+keeps_waiting = reads_by (λ v lit was. when eqb was stage3 then stage3 else own_stage v lit was)
 
 -- the blocks in stage 3 whose far signal's lamp reports stop are open
 abbrev open_lit : Layout → State → State
 open_lit L s =
     with_lines s s.direction
-    (each (most_blocks * L.lines) (λ k was. if eqb was stage3 and stop_lit L s (k / most_blocks) (k % most_blocks) then open_block else was) s.stage)
+    (each (most_blocks * L.lines) (λ k was. when eqb was stage3 and stop_lit L s (k / most_blocks) (k % most_blocks) then open_block else was) s.stage)
 
 -- a lamp that reports stop later opens a block in stage 3
 abbrev opens_later : Box
 opens_later =
-    step_by refuses (λ L s e. if eqb e.kind report_lamp then open_lit L (does L s e) else does L s e) signals far_sections routes arrivals line_release
+    step_by refuses (λ L s e. when eqb e.kind report_lamp then open_lit L (does L s e) else does L s e) signals far_sections routes arrivals line_release
 
 -- a state as it is seen where stage 3 is taken for open
 abbrev as_open : State → State
-as_open s = with_lines s s.direction (each most_places (λ k was. if eqb was stage3 then open_block else was) s.stage)
+as_open s = with_lines s s.direction (each most_places (λ k was. when eqb was stage3 then open_block else was) s.stage)
 
 -- the box that sees the state so where it refuses and where exit signals fall
 abbrev pub sees_by : (State → State) → Box
@@ -131,7 +131,7 @@ opens_last_alone =
     step_by refuses does signals far_sections routes
     (λ L before s. with_lines s s.direction
     (each (most_blocks * L.lines) (λ k was.
-    if eqb (from_arrival (line_in L (k / most_blocks)) (secured s (k / most_blocks)) (k % most_blocks)) 0 then stage_of (arrivals L before s).stage (k / most_blocks) (k % most_blocks) else was) s.stage))
+    when eqb (from_arrival (line_in L (k / most_blocks)) (secured s (k / most_blocks)) (k % most_blocks)) 0 then stage_of (arrivals L before s).stage (k / most_blocks) (k % most_blocks) else was) s.stage))
     line_release
 
 -- ---- 31

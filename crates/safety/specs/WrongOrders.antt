@@ -1,6 +1,6 @@
 -- Boxes that are wrong in what they refuse of an order (section 3): one reason is not asked, or not of all.
 use Rattle.std.specs.Prelude.{ℕ, [], ◌∷◌, eqb}
-use Rattle.laws.specs.Choice.{if◌then◌else◌}
+use Rattle.laws.specs.Choice.{when◌then◌else◌}
 use Rattle.laws.specs.Tests.{◌and◌}
 use Rattle.laws.specs.Tables.{read, put}
 use Rattle.sets.specs.Sets.{joined}
@@ -29,7 +29,7 @@ use Rattle.safety.specs.WrongBoxes.{Box, step_by, refuses, does}
 abbrev pub asks_by : ℕ → (Row → Refusal) → (Row → Refusal) → Layout → State → Event → Refusal
 asks_by k misfit besides L s e =
     let row : Row = row_of L s k e.first e.second in
-    if eqb e.kind k then first_of (numbers_refusal (asked_in_run L) row.missing e.first (misfit row) row.wrong ∷ besides row ∷ []) else refuses L s e
+    when eqb e.kind k then first_of (numbers_refusal (asked_in_run L) row.missing e.first (misfit row) row.wrong ∷ besides row ∷ []) else refuses L s e
 
 -- where an order of kind k is refused by this
 abbrev pub refuse_by : ℕ → (Layout → State → ℕ → ℕ → Refusal) → Layout → State → Event → Refusal
@@ -78,7 +78,7 @@ asks_lower = set_by (λ L s r. found 5 r (λ q. locked s.phase q and conflict L 
 abbrev pub sets_unsecured : Box
 sets_unsecured =
     set_by (λ L s r. conflicting L s.phase r)
-    (λ L s a. route_refusal L (tables_of (if departs s.direction a then s else with_lines s (put most_lines s.direction a.line (leaving a.end)) s.stage)) a)
+    (λ L s a. route_refusal L (tables_of (when departs s.direction a then s else with_lines s (put most_lines s.direction a.line (leaving a.end)) s.stage)) a)
 
 -- a route without its overlap
 abbrev bare : Route → Route

@@ -8,7 +8,7 @@ use lib.Count.{count_trailing_zeros, trailing_le, under}
 use lib.Dec.{eqb}
 use lib.Pow.{shr-shr}
 use Rattle.laws.specs.Tests.{◌and◌, ◌or◌, any_below, lowest_from, lowest}
-use Rattle.laws.specs.Choice.{if◌then◌else◌}
+use Rattle.laws.specs.Choice.{when◌then◌else◌}
 use Rattle.laws.specs.Tables.{iter}
 use Rattle.laws.proofs.Choice.{if_false, if_true}
 use Rattle.laws.proofs.Searches.{from_here, from_next, from_none}
@@ -48,7 +48,7 @@ lowest_most set = rw (← trailing_lowest set) (trailing_le 64 set)
 
 -- of the numbers below 64, g is in a set with a number more, where a test holds, if it was in it before, or is that number and the test holds
 pub holds_joined_if : (test : Bool) (set x g : ℕ) → g < 64 → holds (joined_if test set x) g ≡ holds set g or (eqb x g and test)
-unfolding joined_if if◌then◌else◌ ◌and◌
+unfolding joined_if when◌then◌else◌ ◌and◌
 holds_joined_if true set x g l = holds_joined set x g l ∙ ap (λ t. holds set g or t) (sym (and-true (eqb x g)))
 holds_joined_if false set x g l = or_false (holds set g) ∙ ap (λ t. holds set g or t) (sym (and-false (eqb x g)))
 

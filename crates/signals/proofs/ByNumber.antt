@@ -8,7 +8,7 @@ use native.Mathlib.Decide.{dec_lt}
 use borrow.Author.Rules.{rules}
 use borrow.Author.Tests.{ltb-true}
 use lib.Dec.{ltb}
-use Rattle.laws.specs.Choice.{if◌then◌else◌}
+use Rattle.laws.specs.Choice.{when◌then◌else◌}
 use Rattle.laws.specs.Tests.{◌or◌}
 use Rattle.laws.specs.Tables.{read}
 use Rattle.laws.proofs.Choice.{if_lt, if_ge, if_both, chosen, passed_over}
@@ -104,7 +104,7 @@ module _ (m n : ℕ) (ls : List Line) (mains directions points stages bars : Lis
       -- it is a block signal's of line l: one for A to B, else one for B to A
       pub past_here : (v : ℕ) → left < own → v ≡ line_signal_shown b directions points stages bars l left
           → v ≡ number_shown_by m n ls mains directions points stages bars k
-      unfolding Past between_blocks line_signal_shown shows_with ◌or◌ if◌then◌else◌
+      unfolding Past between_blocks line_signal_shown shows_with ◌or◌ when◌then◌else◌
       past_here v few e = go (dec_lt left (b.blocks - 1))
         where
           blocks : b.blocks ≡ (line ls l).blocks

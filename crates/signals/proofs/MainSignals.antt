@@ -11,7 +11,7 @@ use borrow.Author.Tests.{eq-eqb, ne_eqb, lt-ltb, le-ltb}
 use lib.Dec.{eqb}
 use lib.ListN.{length, get_or, set, replicate, length-set, get_or-replicate, length-replicate}
 use lib.Seq.{get_or-set_same, get_or-set_other, ext_get_or}
-use Rattle.laws.specs.Choice.{if◌then◌else◌}
+use Rattle.laws.specs.Choice.{when◌then◌else◌}
 use Rattle.laws.specs.Tests.{◌and◌, lowest_from, lowest}
 use Rattle.laws.specs.Tables.{table, read}
 use Rattle.laws.proofs.Choice.{if_lt, if_ge}
@@ -78,12 +78,12 @@ module _ (n : ℕ) (rs : List Route) (phases : List ℕ) where
 
   -- a route past the table is idle, and puts no signal to proceed
   past_table : (r x : ℕ) → most_routes ≤ r → starts x r ≡ false
-  unfolding route_proceeds ◌and◌ read if◌then◌else◌
+  unfolding route_proceeds ◌and◌ read when◌then◌else◌
   past_table r x b = rw (le-ltb r most_routes b)
 
   -- nor does a route that is not at proceed
   not_in_phase : (r x : ℕ) → r < most_routes → (get_or phases r 0 ≡ at_proceed → ⊥) → starts x r ≡ false
-  unfolding route_proceeds ◌and◌ read if◌then◌else◌
+  unfolding route_proceeds ◌and◌ read when◌then◌else◌
   not_in_phase r x b e = rw (lt-ltb r most_routes b, ne_eqb (get_or phases r 0) at_proceed e)
 
   -- a route that starts at another signal does not put signal x to proceed
@@ -93,7 +93,7 @@ module _ (n : ℕ) (rs : List Route) (phases : List ℕ) where
 
   -- a route at proceed that starts at signal x does
   there : (r x : ℕ) → r < most_routes → get_or phases r 0 ≡ at_proceed → (route rs r).entry ≡ x → starts x r ≡ true
-  unfolding route_proceeds ◌and◌ read if◌then◌else◌
+  unfolding route_proceeds ◌and◌ read when◌then◌else◌
   there r x b e q = rw (lt-ltb r most_routes b, eq-eqb (get_or phases r 0) at_proceed e, eq-eqb (route rs r).entry x q)
 
   module _ (shown : List ℕ) (r : ℕ) (h : Lit shown r) (some : 0 < r) (last : r ≤ n) where

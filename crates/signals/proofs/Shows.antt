@@ -5,7 +5,7 @@ use mathlib.Core.Bool.{Bool, true, false}
 use mathlib.Core.List.{List}
 use borrow.Author.Tests.{eq-eqb}
 use lib.Dec.{ltb}
-use Rattle.laws.specs.Choice.{if◌then◌else◌}
+use Rattle.laws.specs.Choice.{when◌then◌else◌}
 use Rattle.laws.specs.Tests.{◌and◌, any_below}
 use Rattle.laws.proofs.Choice.{if_true, if_false, if_both}
 use Rattle.laws.proofs.Tests.{and_both}
@@ -46,7 +46,7 @@ module _ (n : ℕ) (rs : List Route) (phases : List ℕ) (x : ℕ) where
 
 -- a block signal, lit where a and b hold, shows more than 20 just where it is lit and the block may be entered (c)
 lit_free : (a b c : Bool) → ltb stop (light_shown (a and b) c) ≡ b and (a and c)
-unfolding light_shown ◌and◌ if◌then◌else◌
+unfolding light_shown ◌and◌ when◌then◌else◌
 lit_free true true true = refl
 lit_free true true false = refl
 lit_free true false c = refl

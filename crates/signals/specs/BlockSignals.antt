@@ -1,6 +1,6 @@
 -- What a block signal shows (section 4). Block signals stand between blocks, one each way, and each belongs to the block it leads into.
 use Rattle.std.specs.Prelude.{ℕ, Bool, List, [], ◌∷◌, eqb}
-use Rattle.laws.specs.Choice.{if◌then◌else◌}
+use Rattle.laws.specs.Choice.{when◌then◌else◌}
 use Rattle.laws.specs.Tests.{◌and◌, every}
 use Rattle.track.specs.declared.Line.{Line}
 use Rattle.track.specs.Objects.{line}
@@ -12,7 +12,7 @@ use Rattle.signals.specs.Signals.{enterable}
 
 -- section 4: a signal that is lit shows 22 if the block entered may be entered, else 20; any other is dark
 unfoldable pub light_shown : Bool → Bool → ℕ
-light_shown lit may_enter = if lit then (if may_enter then proceed else stop) else dark
+light_shown lit may_enter = when lit then (when may_enter then proceed else stop) else dark
 
 -- section 4: what the signal into block i of line l for direction w shows: on a secured line those of the secured direction are lit
 unfoldable pub block_shows : List Line → List ℕ → List ℕ → List ℕ → List ℕ → ℕ → ℕ → ℕ → ℕ

@@ -1,12 +1,12 @@
 -- What a distant shows (L2): it warns drivers of its main signal.
 use Rattle.std.specs.Prelude.{ℕ, ◌+◌, ◌-◌, ◌≡◌, ◌⊎◌, Bool, not, eqb}
-use Rattle.laws.specs.Choice.{if◌then◌else◌}
+use Rattle.laws.specs.Choice.{when◌then◌else◌}
 use Rattle.laws.specs.Tests.{◌and◌, ◌or◌}
 use Rattle.signals.specs.Aspects.{dark, stop, proceed_diverging, proceed, warns_of_stop, warns_of_diverging, warns_of_proceed}
 
 -- L2: "23 when that shows 20, 24 at 21, 25 at 22, dark when it is dark"
 unfoldable pub warning : ℕ → ℕ
-warning x = if eqb x stop then warns_of_stop else if eqb x proceed_diverging then warns_of_diverging else if eqb x proceed then warns_of_proceed else dark
+warning x = when eqb x stop then warns_of_stop else when eqb x proceed_diverging then warns_of_diverging else when eqb x proceed then warns_of_proceed else dark
 
 -- the signal is at stop or dark
 unfoldable pub stop_or_dark : ℕ → Bool
@@ -19,7 +19,7 @@ carrier_darkens shown carrier = not (eqb carrier 0) and stop_or_dark (shown (car
 
 -- L2: what a distant shows
 unfoldable pub distant_shows : (ℕ → ℕ) → ℕ → ℕ → ℕ
-distant_shows shown carrier announced = if carrier_darkens shown carrier then dark else warning (shown announced)
+distant_shows shown carrier announced = when carrier_darkens shown carrier then dark else warning (shown announced)
 
 -- ---- what that means for a driver
 

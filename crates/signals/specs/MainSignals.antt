@@ -1,6 +1,6 @@
 -- What a main signal shows (section 4), over the n routes and their phases.
 use Rattle.std.specs.Prelude.{ℕ, List, eqb, ltb}
-use Rattle.laws.specs.Choice.{if◌then◌else◌}
+use Rattle.laws.specs.Choice.{when◌then◌else◌}
 use Rattle.laws.specs.Tests.{lowest}
 use Rattle.track.specs.declared.Route.{Route}
 use Rattle.track.specs.Objects.{route}
@@ -9,7 +9,7 @@ use Rattle.signals.specs.Signals.{route_proceeds}
 
 -- section 4: the signal of a set route shows 21 (diverging) or 22
 unfoldable pub proceed_shown : Route → ℕ
-proceed_shown a = if eqb a.diverging 1 then proceed_diverging else proceed
+proceed_shown a = when eqb a.diverging 1 then proceed_diverging else proceed
 
 -- the route for which main signal x shows proceed: the lowest of n; n where there is none.
 -- Routes with one entry signal conflict, so in a run there is at most one; in a state assembled by hand the lowest decides
@@ -18,7 +18,7 @@ shown_by n rs phases x = lowest n (λ r. route_proceeds phases r (route rs r) x)
 
 -- what a main signal shows for route r: 20 where that is none of n
 unfoldable pub shown_for : ℕ → List Route → ℕ → ℕ
-shown_for n rs r = if ltb r n then proceed_shown (route rs r) else stop
+shown_for n rs r = when ltb r n then proceed_shown (route rs r) else stop
 
 -- section 4: what main signal x shows
 unfoldable pub main_shows : ℕ → List Route → List ℕ → ℕ → ℕ

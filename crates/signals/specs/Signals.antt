@@ -1,7 +1,7 @@
 -- When a signal may show proceed and when it falls (section 4), over the tables of a state: what sections and points read, phases of routes,
 -- directions of lines, stages and bars of blocks. What each then shows stands in MainSignals and BlockSignals.
 use Rattle.std.specs.Prelude.{ℕ, Bool, List, [], ◌∷◌, eqb}
-use Rattle.laws.specs.Choice.{if◌then◌else◌}
+use Rattle.laws.specs.Choice.{when◌then◌else◌}
 use Rattle.laws.specs.Tests.{◌and◌, implies, every, any_below}
 use Rattle.track.specs.declared.Line.{Line}
 use Rattle.track.specs.declared.Route.{Route}
@@ -35,7 +35,7 @@ clear ls sections points stages bars a = every (
 
 -- a route's phase: its signal falls, and a fallen signal stays so
 unfoldable pub fallen : List Line → List ℕ → List ℕ → List ℕ → List ℕ → Route → ℕ → ℕ
-fallen ls sections points stages bars a was = if eqb was at_proceed then (if clear ls sections points stages bars a then at_proceed else at_stop) else was
+fallen ls sections points stages bars a was = when eqb was at_proceed then (when clear ls sections points stages bars a then at_proceed else at_stop) else was
 
 -- route r starts at signal x and its signal is at proceed
 unfoldable pub route_proceeds : List ℕ → ℕ → Route → ℕ → Bool

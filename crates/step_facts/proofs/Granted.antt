@@ -5,7 +5,7 @@ use mathlib.Core.Logic.{◌≢◌, ◌⊎◌, inl, inr}
 use mathlib.Core.Bool.{Bool, true, false, not}
 use mathlib.Core.List.{List, [], ◌∷◌}
 use borrow.Author.Tests.{eqb-true, eq-eqb, ne_eqb, lt-leb, le-ltb, not-true}
-use Rattle.laws.specs.Choice.{if◌then◌else◌}
+use Rattle.laws.specs.Choice.{when◌then◌else◌}
 use Rattle.laws.specs.Tests.{◌and◌}
 use Rattle.laws.proofs.Searches.{lowest_past}
 use Rattle.laws.proofs.Tests.{and_left, and_right, and_both, not_both, fails_from, any_some}
@@ -82,19 +82,19 @@ module _ (L : Layout) (s : State) (ok : sound L ≡ true) (ranged : in_range s �
   -- cancel a route that is locked and not cancelling
   pub cancel_granted : (r : ℕ) → r < L.routes → phase s r ≢ 0 → phase s r ≢ 3
       → (refusal (sound L and in_range s) L s 5 r 0).number ≡ 0
-  unfolding row_of row_with cancel_row if◌then◌else◌ cancel_refusal locked no_refusal refused
+  unfolding row_of row_with cancel_row when◌then◌else◌ cancel_refusal locked no_refusal refused
   cancel_granted r b locked standing =
       granted 5 r 0 (lt-leb _ r b) refl refl
       (first_none _ _ _ (when_none _ 13 r (ap (λ t. not (not t)) (ne_eqb _ 0 locked))) (last_none _ (when_none _ 14 r (ne_eqb _ 3 standing))))
 
   -- one second
   pub second_granted : (refusal (sound L and in_range s) L s 10 0 0).number ≡ 0
-  unfolding row_of row_with second_row if◌then◌else◌ ◌and◌ no_refusal refused
+  unfolding row_of row_with second_row when◌then◌else◌ ◌and◌ no_refusal refused
   second_granted = granted 10 0 0 refl refl refl refl
 
   -- a section that has no heads reads, whatever the code
   pub reading_granted : (g code : ℕ) → g < L.sections → is_fitted L g ≡ false → (refusal (sound L and in_range s) L s 1 g code).number ≡ 0
-  unfolding row_of row_with section_row if◌then◌else◌ no_refusal refused has_heads
+  unfolding row_of row_with section_row when◌then◌else◌ no_refusal refused has_heads
   reading_granted g code b f = granted 1 g code (lt-leb _ g b) (when_none _ 34 g f) refl refl
 
   -- 30: of a section that has heads it is not given
@@ -105,44 +105,44 @@ module _ (L : Layout) (s : State) (ok : sound L ≡ true) (ranged : in_range s �
   -- a head of such a section counts axles, in or out
   pub count_granted : (k a count : ℕ) → (k ≡ 11) ⊎ (k ≡ 12) → a < 2 * L.sections → is_fitted L (a / 2) ≡ true → count ≤ 65535
       → (refusal (sound L and in_range s) L s k a count).number ≡ 0
-  unfolding row_of row_with head_row count_row if◌then◌else◌ no_refusal refused
+  unfolding row_of row_with head_row count_row when◌then◌else◌ no_refusal refused
   count_granted k a count (inl q) b f n = rw q (granted 11 a count (lt-leb _ a b) (has_heads_law _ f) (le-ltb _ _ n) refl)
   count_granted k a count (inr q) b f n = rw q (granted 12 a count (lt-leb _ a b) (has_heads_law _ f) (le-ltb _ _ n) refl)
 
   -- it is silent
   pub silence_granted : (a : ℕ) → a < 2 * L.sections → is_fitted L (a / 2) ≡ true → (refusal (sound L and in_range s) L s 13 a 0).number ≡ 0
-  unfolding row_of row_with head_row silent_row if◌then◌else◌ no_refusal refused
+  unfolding row_of row_with head_row silent_row when◌then◌else◌ no_refusal refused
   silence_granted a b f = granted 13 a 0 (lt-leb _ a b) (has_heads_law _ f) refl refl
 
   -- such a section is reset while both its heads speak
   pub reset_granted : (g : ℕ) → g < L.sections → is_fitted L g ≡ true → speaking (heads_at s.axles g) ≡ true → (refusal (sound L and in_range s) L s 14 g 0).number ≡ 0
-  unfolding row_of row_with head_row reset_row still_silent heads_of head_section if◌then◌else◌ no_refusal refused
+  unfolding row_of row_with head_row reset_row still_silent heads_of head_section when◌then◌else◌ no_refusal refused
   reset_granted g b f t = granted 14 g 0 (lt-leb _ g b) (has_heads_law _ f) refl (when_none _ 35 g (ap not t))
 
   -- a point reads, whatever the code
   pub point_granted : (p code : ℕ) → p < L.points → (refusal (sound L and in_range s) L s 2 p code).number ≡ 0
-  unfolding row_of row_with point_row if◌then◌else◌ no_refusal refused
+  unfolding row_of row_with point_row when◌then◌else◌ no_refusal refused
   point_granted p code b = granted 2 p code (lt-leb _ p b) refl refl refl
 
   -- the lamp of a signal reports, whatever the code (L3)
   pub lamp_granted : (x code : ℕ) → x < signals_in L → (refusal (sound L and in_range s) L s 15 x code).number ≡ 0
-  unfolding row_of row_with lamp_row if◌then◌else◌ no_refusal refused signals_in
+  unfolding row_of row_with lamp_row when◌then◌else◌ no_refusal refused signals_in
   lamp_granted x code b = granted 15 x code (lt-leb _ x b) refl refl refl
 
   -- a block that there is is barred
   pub bar_granted : (l i : ℕ) → l < L.lines → i < (line_in L l).blocks → (refusal (sound L and in_range s) L s 8 l i).number ≡ 0
-  unfolding row_of row_with bar_row if◌then◌else◌ no_refusal refused
+  unfolding row_of row_with bar_row when◌then◌else◌ no_refusal refused
   bar_granted l i b c = granted 8 l i (lt-leb _ l b) refl (lt-leb _ i c) refl
 
   -- or unbarred
   pub unbar_granted : (l i : ℕ) → l < L.lines → i < (line_in L l).blocks → (refusal (sound L and in_range s) L s 9 l i).number ≡ 0
-  unfolding row_of row_with bar_row if◌then◌else◌ no_refusal refused
+  unfolding row_of row_with bar_row when◌then◌else◌ no_refusal refused
   unbar_granted l i b c = granted 9 l i (lt-leb _ l b) refl (lt-leb _ i c) refl
 
   -- a manual release, where no route is locked and the line's blocks read free
   pub release_granted : (l : ℕ) → l < L.lines → ((r : ℕ) → r < L.routes → phase s r ≡ 0)
       → ((i : ℕ) → i < (line_in L l).blocks → reading s.section (block L l i) ≡ 1) → (refusal (sound L and in_range s) L s 7 l 1).number ≡ 0
-  unfolding row_of row_with manual_row between if◌then◌else◌ ◌and◌ manual_refusal exit_locked locked_exit locked_exit_by locked line_sections line_in no_refusal refused
+  unfolding row_of row_with manual_row between when◌then◌else◌ ◌and◌ manual_refusal exit_locked locked_exit locked_exit_by locked line_sections line_in no_refusal refused
   release_granted l b idle free =
       granted 7 l 1 (lt-leb _ l b) refl refl
       (first_none _ _ _ (found_none 17 _ _ (λ r c. fails_from _ (λ t. not_both (eq-eqb _ 0 (idle r c)) (not-true _ (and_left _ _ t)))))

@@ -9,7 +9,7 @@ use native.Mathlib.Omega.{arith}
 use borrow.Author.Tests.{eqb-true, eqb-false, eq-eqb, ne_eqb, ltb-false, leb-false, not-true, not-false}
 use lib.Dec.{ltb, leb}
 use lib.ListN.{get_or}
-use Rattle.laws.specs.Choice.{if◌then◌else◌}
+use Rattle.laws.specs.Choice.{when◌then◌else◌}
 use Rattle.laws.specs.Tests.{◌and◌, lowest}
 use Rattle.laws.proofs.Choice.{if_both}
 use Rattle.laws.proofs.Searches.{lowest_none}
@@ -62,7 +62,7 @@ pub all_free : (sections : List ℕ) (set : ℕ) → (not_free sections set).num
 unfolding not_free refused unfree
 all_free sections set e g b h = eqb-true _ _ (not-false _ (not_second _ _ h (lowest_none most_sections (unfree sections set) (past e) g b)))
   where
-    seven_eight : (t : Bool) → ◌≢◌ {A = ℕ} (if t then 7 else 8) 0
+    seven_eight : (t : Bool) → ◌≢◌ {A = ℕ} (when t then 7 else 8) 0
     seven_eight t = if_both (λ n. n ≢ 0) t (λ p. omega arith) (λ p. omega arith)
 
     past : (not_free sections set).number ≡ 0 → ltb (lowest most_sections (unfree sections set)) most_sections ≡ false
@@ -88,25 +88,25 @@ module _ (L : Layout) (s : State) (e : Event) (pass : (refusal (sound L and in_r
 
   -- 2: the route that is set is there
   pub set_there : e.kind ≡ 4 → e.first < L.routes
-  unfolding refusal row_refusal row_of row_with set_row if◌then◌else◌
+  unfolding refusal row_refusal row_of row_with set_row when◌then◌else◌
   set_there k = let n = rw k at (granted_at _ pass 0) in leb-false _ _ (granted_there _ _ _ _ _ n)
 
   -- 5: no route that conflicts with the one set is locked
   pub set_alone : e.kind ≡ 4 → (q : ℕ) → q < L.routes → conflict L e.first q ≡ true → phase s q ≡ 0
-  unfolding row_of row_with set_row if◌then◌else◌ set_refusal conflicting locked
+  unfolding row_of row_with set_row when◌then◌else◌ set_refusal conflicting locked
   set_alone k q b c =
       let five = granted_at _ (order_granted 4 k) 1 in
       eqb-true _ _ (not-false _ (fails_from _ (λ t. not_both (and_both _ _ t c) (found_granted 5 _ _ (omega arith) five q b))))
 
   -- nothing is refused of it as an exit route: its line's way, 6, 11, 10
   set_exit : e.kind ≡ 4 → (route_in L e.first).kind ≡ 2 → (exit_refusal L (tables_of s) (route_in L e.first)).number ≡ 0
-  unfolding row_of row_with set_row if◌then◌else◌ set_refusal route_refusal route_in
+  unfolding row_of row_with set_row when◌then◌else◌ set_refusal route_refusal route_in
   set_exit k x = rw (eq-eqb _ _ x) at (granted_at _ (granted_at _ (order_granted 4 k) 2) 2)
 
   -- 9: an exit route's line is secured its way, unless it is neutral
   pub set_way : e.kind ≡ 4 → (route_in L e.first).kind ≡ 2 → direction s (route_in L e.first).line ≢ 0
       → direction s (route_in L e.first).line ≡ leaving (route_in L e.first).end
-  unfolding exit_refusal way_refusal departs if◌then◌else◌ ◌and◌
+  unfolding exit_refusal way_refusal departs when◌then◌else◌ ◌and◌
   set_way k x d =
       let way = granted_at _ (set_exit k x) 0 in
       eqb-true _ _ (not-false _ (when_granted _ 9 _ (omega arith) (rw (eq-eqb _ 2 x, ne_eqb _ 0 d) at way)))
@@ -114,7 +114,7 @@ module _ (L : Layout) (s : State) (e : Event) (pass : (refusal (sound L and in_r
   -- L5: a neutral line may be secured its way
   pub set_first : e.kind ≡ 4 → (route_in L e.first).kind ≡ 2 → direction s (route_in L e.first).line ≡ 0
       → (secure_refusal L (tables_of s) (route_in L e.first).line (leaving (route_in L e.first).end)).number ≡ 0
-  unfolding exit_refusal way_refusal departs if◌then◌else◌ ◌and◌
+  unfolding exit_refusal way_refusal departs when◌then◌else◌ ◌and◌
   set_first k x z = rw (eq-eqb _ 2 x, eq-eqb _ 0 z) at (granted_at _ (set_exit k x) 0)
 
   -- 10: the block that it enters is open
@@ -125,24 +125,24 @@ module _ (L : Layout) (s : State) (e : Event) (pass : (refusal (sound L and in_r
 
   -- 13: the route that is cancelled is locked
   pub cancel_locked : e.kind ≡ 5 → phase s e.first ≢ 0
-  unfolding row_of row_with cancel_row if◌then◌else◌ cancel_refusal locked
+  unfolding row_of row_with cancel_row when◌then◌else◌ cancel_refusal locked
   cancel_locked k = eqb-false _ _ (not-true _ (not-false _ (when_granted _ 13 _ (omega arith) (granted_at _ (order_granted 5 k) 0))))
 
   -- 12: the line that is secured is neutral
   pub secure_neutral : e.kind ≡ 6 → direction s e.first ≡ 0
-  unfolding row_of row_with secure_row if◌then◌else◌ secure_refusal
+  unfolding row_of row_with secure_row when◌then◌else◌ secure_refusal
   secure_neutral k = eqb-true _ _ (not-false _ (when_granted _ 12 _ (omega arith) (granted_at _ (order_granted 6 k) 0)))
 
   -- 17: no exit route of the line that is released is locked
   pub release_unlocked : e.kind ≡ 7 → (r : ℕ) → r < L.routes → (route_in L r).kind ≡ 2 → (route_in L r).line ≡ e.first → phase s r ≡ 0
-  unfolding row_of row_with manual_row if◌then◌else◌ manual_refusal exit_locked locked_exit locked_exit_by locked route_in
+  unfolding row_of row_with manual_row when◌then◌else◌ manual_refusal exit_locked locked_exit locked_exit_by locked route_in
   release_unlocked k r b x l =
       let t = found_granted 17 _ _ (omega arith) (granted_at _ (order_granted 7 k) 0) r b in
       eqb-true _ _ (not-false _ (fails_from _ (λ p. not_both (and_both _ _ p (and_both _ _ (eq-eqb _ _ x) (eq-eqb _ _ l))) t)))
 
   -- 3: both numbers of a second are 0
   pub second_numbers : e.kind ≡ 10 → (e.first ≡ 0) × (e.second ≡ 0)
-  unfolding refusal row_refusal row_of row_with second_row if◌then◌else◌
+  unfolding refusal row_refusal row_of row_with second_row when◌then◌else◌
   second_numbers k =
       let wrong = granted_second _ _ _ _ _ (granted_at _ (rw k at pass) 0) in
       let both = not-false _ wrong in
@@ -150,14 +150,14 @@ module _ (L : Layout) (s : State) (e : Event) (pass : (refusal (sound L and in_r
 
   -- 7, 8: its blocks read free
   pub release_free : e.kind ≡ 7 → (i : ℕ) → i < (line_in L e.first).blocks → block L e.first i < most_sections → reading s.section (block L e.first i) ≡ 1
-  unfolding row_of row_with manual_row if◌then◌else◌ manual_refusal line_sections line_in
+  unfolding row_of row_with manual_row when◌then◌else◌ manual_refusal line_sections line_in
   release_free k i b c =
       all_free s.section _ (granted_at _ (order_granted 7 k) 1) _ c
       (holds_set_of _ _ _ c ∙ any_at _ _ i b (eq-eqb (block L e.first i) _ refl))
 
   -- 2, 34: the section that is given a reading of kind 1 is there, and has no heads
   pub reading_there : e.kind ≡ 1 → (e.first < L.sections) × (is_fitted L e.first ≡ false)
-  unfolding refusal row_refusal row_of row_with section_row if◌then◌else◌ has_heads
+  unfolding refusal row_refusal row_of row_with section_row when◌then◌else◌ has_heads
   reading_there k =
       let n = rw k at (granted_at _ pass 0) in
       (leb-false _ _ (granted_there _ _ _ _ _ n), when_granted _ 34 _ (omega arith) (granted_fit _ _ _ _ _ n))
@@ -170,7 +170,7 @@ module _ (L : Layout) (s : State) (e : Event) (pass : (refusal (sound L and in_r
   -- 2, 30: the section of an event of heads is there, and has heads
   pub heads_there : (11 ≤ e.kind) × (e.kind ≤ 14)
       → (head_section e.kind e.first < L.sections) × (is_fitted L (head_section e.kind e.first) ≡ true)
-  unfolding refusal row_refusal row_of row_with head_row count_row silent_row reset_row still_silent if◌then◌else◌
+  unfolding refusal row_refusal row_of row_with head_row count_row silent_row reset_row still_silent when◌then◌else◌
   heads_there h = go (ℕ_discrete e.kind 11) (ℕ_discrete e.kind 12) (ℕ_discrete e.kind 13)
     where
       Fits : Type 0
@@ -190,49 +190,49 @@ module _ (L : Layout) (s : State) (e : Event) (pass : (refusal (sound L and in_r
 
   -- 3: a count has 16 bits
   pub count_few : (e.kind ≡ 11) ⊎ (e.kind ≡ 12) → e.second ≤ 65535
-  unfolding refusal row_refusal row_of row_with head_row count_row if◌then◌else◌
+  unfolding refusal row_refusal row_of row_with head_row count_row when◌then◌else◌
   count_few (inl k) = ltb-false _ _ (granted_second _ _ _ _ _ (rw k at (granted_at _ pass 0)))
   count_few (inr k) = ltb-false _ _ (granted_second _ _ _ _ _ (rw k at (granted_at _ pass 0)))
 
   -- 3: the second number of a silence and of a reset is 0
   pub no_count : (e.kind ≡ 13) ⊎ (e.kind ≡ 14) → e.second ≡ 0
-  unfolding refusal row_refusal row_of row_with head_row silent_row reset_row still_silent if◌then◌else◌
+  unfolding refusal row_refusal row_of row_with head_row silent_row reset_row still_silent when◌then◌else◌
   no_count (inl k) = eqb-true _ 0 (not-false _ (granted_second _ _ _ _ _ (rw k at (granted_at _ pass 0))))
   no_count (inr k) = eqb-true _ 0 (not-false _ (granted_second _ _ _ _ _ (rw k at (granted_at _ pass 0))))
 
   -- 35: both heads of a section speak as it is reset
   pub reset_speaking : e.kind ≡ 14 → speaking (heads_at s.axles e.first) ≡ true
-  unfolding row_of row_with head_row reset_row still_silent heads_of head_section if◌then◌else◌
+  unfolding row_of row_with head_row reset_row still_silent heads_of head_section when◌then◌else◌
   reset_speaking k = not-false _ (when_granted _ 35 _ (omega arith) (order_granted 14 k))
 
   -- 2, 3: the block that is barred or unbarred is there
   pub bar_there : (e.kind ≡ 8) ⊎ (e.kind ≡ 9) → (e.first < L.lines) × (e.second < (line_in L e.first).blocks)
-  unfolding refusal row_refusal row_of row_with bar_row if◌then◌else◌
+  unfolding refusal row_refusal row_of row_with bar_row when◌then◌else◌
   bar_there (inl k) = let n = rw k at (granted_at _ pass 0) in (leb-false _ _ (granted_there _ _ _ _ _ n), leb-false _ _ (granted_second _ _ _ _ _ n))
   bar_there (inr k) = let n = rw k at (granted_at _ pass 0) in (leb-false _ _ (granted_there _ _ _ _ _ n), leb-false _ _ (granted_second _ _ _ _ _ n))
 
   -- 2: the point that is thrown is there
   throw_there : e.kind ≡ 3 → e.first < L.points
-  unfolding refusal row_refusal row_of row_with throw_row if◌then◌else◌
+  unfolding refusal row_refusal row_of row_with throw_row when◌then◌else◌
   throw_there k = let n = rw k at (granted_at _ pass 0) in leb-false _ _ (granted_there _ _ _ _ _ n)
 
   -- 15: no locked route lists it
   pub throw_routes : e.kind ≡ 3 → (r i : ℕ) → r < L.routes → i < (route_in L r).points → route_point L r i ≡ e.first → phase s r ≡ 0
-  unfolding row_of row_with throw_row if◌then◌else◌ throw_refusal by_route route_locks among locked route_in route_point
+  unfolding row_of row_with throw_row when◌then◌else◌ throw_refusal by_route route_locks among locked route_in route_point
   throw_routes k r i b c q =
       let t = found_granted 15 _ _ (omega arith) (granted_at _ (order_granted 3 k) 0) r b in
       eqb-true _ _ (not-false _ (fails_from _ (λ p. not_both (and_both _ _ p (any_at _ _ i c (eq-eqb _ _ q))) t)))
 
   -- 16: no secured line does
   pub throw_lines : e.kind ≡ 3 → (l i : ℕ) → l < L.lines → i < (line_in L l).points → line_point L l i ≡ e.first → direction s l ≡ 0
-  unfolding row_of row_with throw_row if◌then◌else◌ throw_refusal by_line line_locks among line_in line_point
+  unfolding row_of row_with throw_row when◌then◌else◌ throw_refusal by_line line_locks among line_in line_point
   throw_lines k l i b c q =
       let t = found_granted 16 _ _ (omega arith) (granted_at _ (order_granted 3 k) 1) l b in
       eqb-true _ _ (not-false _ (fails_from _ (λ p. not_both (and_both _ _ p (any_at _ _ i c (eq-eqb _ _ q))) t)))
 
   -- 7, 8: its own section reads free
   pub throw_free : Sound L → e.kind ≡ 3 → (own_section L e.first < L.sections) × (reading s.section (own_section L e.first) ≡ 1)
-  unfolding row_of row_with throw_row if◌then◌else◌ throw_refusal own_section
+  unfolding row_of row_with throw_row when◌then◌else◌ throw_refusal own_section
   throw_free S k =
       let there = throw_there k in
       let own = S.ranges.points e.first there in

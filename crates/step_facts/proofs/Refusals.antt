@@ -5,7 +5,7 @@ use mathlib.Core.Bool.{Bool, true, false, not}
 use mathlib.Core.List.{List, [], ◌∷◌}
 use mathlib.Core.Logic.{◌≢◌, inl, inr}
 use native.Mathlib.Omega.{arith}
-use Rattle.laws.specs.Choice.{if◌then◌else◌}
+use Rattle.laws.specs.Choice.{when◌then◌else◌}
 use Rattle.laws.proofs.Choice.{if_both}
 use Rattle.track.specs.declared.Route.{Route}
 use Rattle.tables.specs.Tables.{Tables}
@@ -169,7 +169,7 @@ misfit_order L s k a b (no_row_kind u) = none_order
 
 -- where soundness was found, the test for 18 does not refuse
 found_sound : Known (refused_if (not true) 18 0)
-unfolding refused_if if◌then◌else◌
+unfolding refused_if when◌then◌else◌
 found_sound = none_order
 
 -- so no event is refused by 18
@@ -181,5 +181,5 @@ sound_number L s k a b =
 
 -- where it was not, each is, with detail 0
 pub unsound_refused : (L : Layout) (s : State) (k a b : ℕ) → ((refusal false L s k a b).number ≡ 18) × ((refusal false L s k a b).detail ≡ 0)
-unfolding refusal row_refusal numbers_refusal first_of refused_if if◌then◌else◌ refused
+unfolding refusal row_refusal numbers_refusal first_of refused_if when◌then◌else◌ refused
 unsound_refused L s k a b = (refl, refl)

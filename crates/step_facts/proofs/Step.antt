@@ -7,7 +7,7 @@ use native.Mathlib.Omega.{arith}
 use native.Mathlib.Decide.{ℕ_discrete}
 use borrow.Author.Tests.{eq-eqb, ne_eqb, le-leb}
 use lib.Dec.{eqb}
-use Rattle.laws.specs.Choice.{if◌then◌else◌}
+use Rattle.laws.specs.Choice.{when◌then◌else◌}
 use Rattle.laws.specs.Tests.{◌and◌}
 use Rattle.laws.proofs.Tests.{and_left, and_right, and_both, fails_from}
 use Rattle.layout_facts.proofs.Lists.{between_means}
@@ -39,13 +39,13 @@ pub data Ending (is_sound : Bool) (L : Layout) (s : State) (k a b : ℕ) : Answe
 -- nothing is refused: the event is done, and what follows
 pub step_done : (is_sound : Bool) (L : Layout) (s : State) (k a b : ℕ) → (refusal is_sound L s k a b).number ≡ 0
     → step_where is_sound L s k a b ≡ record { number = 0; detail = 0; next = after L s k a b }
-unfolding step_where answered_by refusal own gives after if◌then◌else◌
+unfolding step_where answered_by refusal own gives after when◌then◌else◌
 step_done is_sound L s k a b p = let z : eqb (row_refusal is_sound a (row_of L s k a b)).number 0 ≡ true = eq-eqb _ 0 p in rw z
 
 -- something is: the answer is the refusal, with the state as it was
 pub step_refused : (is_sound : Bool) (L : Layout) (s : State) (k a b : ℕ) → ((refusal is_sound L s k a b).number ≡ 0 → ⊥)
     → step_where is_sound L s k a b ≡ record { number = (refusal is_sound L s k a b).number; detail = (refusal is_sound L s k a b).detail; next = s }
-unfolding step_where answered_by refusal if◌then◌else◌
+unfolding step_where answered_by refusal when◌then◌else◌
 step_refused is_sound L s k a b p = let z : eqb (row_refusal is_sound a (row_of L s k a b)).number 0 ≡ false = ne_eqb _ 0 p in rw z
 
 -- it ends in one of them

@@ -11,7 +11,7 @@ use borrow.Author.Tests.{ltb-true, lt-ltb}
 use lib.Dec.{eqb}
 use lib.ListN.{length, get_or, length-append, get_or-append}
 use lib.Seq.{get_or-append-add}
-use Rattle.laws.specs.Choice.{if◌then◌else◌}
+use Rattle.laws.specs.Choice.{when◌then◌else◌}
 use Rattle.laws.specs.Tables.{table}
 use Rattle.laws.proofs.Choice.{if_eq, if_ne}
 use Rattle.laws.proofs.Tables.{length_table, table_at}
@@ -200,12 +200,12 @@ stands_named m n ls (main x) h = number_main m n ls x h
 stands_named m n ls (into l i w) (b, h, inl e, u) =
     let some : 0 < i = ltb-true 0 i (has_first (line ls l).blocks i w e ∙ u) in
     let back : i - 1 + 1 ≡ i = omega arith in
-    let place : (if eqb w a_to_b then i - 1 else (line ls l).blocks - 1 + i) ≡ i - 1 = sym (if_eq w a_to_b (i - 1) ((line ls l).blocks - 1 + i) (i - 1) e refl) in
+    let place : (when eqb w a_to_b then i - 1 else (line ls l).blocks - 1 + i) ≡ i - 1 = sym (if_eq w a_to_b (i - 1) ((line ls l).blocks - 1 + i) (i - 1) e refl) in
     number_into m n ls _ l (i - 1) (into l i w) b (omega (arith, line_count ls l)) (omega (arith, place, count_all ls m l))
     (λ d. at_first ls l (i - 1) d (omega arith) ∙ ap (λ k. into l k a_to_b) back ∙ ap (into l i) (sym e))
 stands_named m n ls (into l i w) (b, h, inr e, u) =
     let last : i + 1 < (line ls l).blocks = ltb-true (i + 1) _ (has_last (line ls l).blocks i w i (line ls l).blocks other refl refl ∙ u) in
-    let place : (if eqb w a_to_b then i - 1 else (line ls l).blocks - 1 + i) ≡ (line ls l).blocks - 1 + i =
+    let place : (when eqb w a_to_b then i - 1 else (line ls l).blocks - 1 + i) ≡ (line ls l).blocks - 1 + i =
     sym (if_ne w a_to_b (i - 1) ((line ls l).blocks - 1 + i) ((line ls l).blocks - 1 + i) other refl) in
     number_into m n ls _ l ((line ls l).blocks - 1 + i) (into l i w) b (omega (arith, line_count ls l)) (omega (arith, place, count_all ls m l))
     (λ d. at_then ls l i d (omega arith) ∙ ap (into l i) (sym e))

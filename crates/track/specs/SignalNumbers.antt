@@ -1,7 +1,7 @@
 -- Signals by their numbers (L2): main signals first, then block signals line by line, A to B before B to A, each in order of blocks from end A.
 -- There are m main signals and n lines.
 use Rattle.std.specs.Prelude.{ℕ, zero, suc, ◌+◌, ◌-◌, ◌*◌, ◌<◌, ◌≡◌, List, [], ◌++◌, eqb, length, get_or}
-use Rattle.laws.specs.Choice.{if◌then◌else◌}
+use Rattle.laws.specs.Choice.{when◌then◌else◌}
 use Rattle.laws.specs.Tables.{table}
 use Rattle.track.specs.declared.Line.{Line}
 use Rattle.track.specs.Codes.{a_to_b, b_to_a}
@@ -32,7 +32,7 @@ signal_of m n ls k = get_or (all_signals m n ls) k (main k)
 -- the number of a signal: of a block signal after the main signals, the lines before its own, and on its line those that come before it
 unfoldable pub number_of : ℕ → List Line → Signal → ℕ
 number_of m ls (main x) = x
-number_of m ls (into l i w) = m + length (block_signals l ls) + (if eqb w a_to_b then i - 1 else (line ls l).blocks - 1 + i)
+number_of m ls (into l i w) = m + length (block_signals l ls) + (when eqb w a_to_b then i - 1 else (line ls l).blocks - 1 + i)
 
 -- signal x has exactly one number
 pub record OneNumber (m n : ℕ) (ls : List Line) (x : Signal) : Type 0 where

@@ -7,7 +7,7 @@ use mathlib.Core.List.{List}
 use native.Mathlib.Decide.{ℕ_discrete, dec_lt}
 use native.Mathlib.Omega.{arith}
 use borrow.Author.Tests.{eqb-true, eq-eqb, ne_eqb, le-leb, lt-ltb}
-use Rattle.laws.specs.Choice.{if◌then◌else◌}
+use Rattle.laws.specs.Choice.{when◌then◌else◌}
 use Rattle.laws.specs.Tables.{read}
 use Rattle.laws.proofs.Choice.{if_both, chosen, passed_over}
 use Rattle.laws.proofs.Tests.{and_both, or_left, not_both}
@@ -74,7 +74,7 @@ module _ (L : Layout) (S : Sound L) (s : State) (e : Event) (r : ℕ) (b : r < L
 
   -- and so is one that it cancelled
   pub cancelled : e.kind ≡ 5 → e.first ≡ r → Calm (end L s e) r
-  unfolding own row_of row_with cancel_row own_cancel with_routes if◌then◌else◌
+  unfolding own row_of row_with cancel_row own_cancel with_routes when◌then◌else◌
   cancelled k q = calm_then (inr (rw (k, q) (put_here most_routes 0 s.phase r 3 r (omega (arith, S.ranges.route_count)) refl)))
 
 -- in an event that gives a second a cancelling route goes, or counts it
@@ -101,7 +101,7 @@ module _ (L : Layout) (S : Sound L) (s : State) (r : ℕ) (b : r < L.routes) (th
 
   -- its signal is not at proceed, so it does not fall
   still_three : phase far r ≡ 3
-  unfolding far own row_of row_with second_row if◌then◌else◌ far_sections with_lines
+  unfolding far own row_of row_with second_row when◌then◌else◌ far_sections with_lines
   still_three = phase_lit L S.ranges.route_count s (event 10 0 0) r b ∙ fallen_else L s r (phase s r) (omega arith) ∙ three
 
   -- a route that is not idle takes what becomes of it
@@ -111,7 +111,7 @@ module _ (L : Layout) (S : Sound L) (s : State) (r : ℕ) (b : r < L.routes) (th
 
   -- so by the end of a second it goes, or has counted one more
   pub second_on : (phase (end L s (event 10 0 0)) r ≡ 0) ⊎ ((phase (end L s (event 10 0 0)) r ≡ 3) × (second (end L s (event 10 0 0)) r ≡ second s r + 1))
-  unfolding far own gives row_of row_with second_row a_second if◌then◌else◌ after settle line_release with_lines arrivals routes routes_by with_routes far_sections signals route_after locking_of
+  unfolding far own gives row_of row_with second_row a_second when◌then◌else◌ after settle line_release with_lines arrivals routes routes_by with_routes far_sections signals route_after locking_of
   second_on =
       rw (
         read_each most_routes 0 L.routes _ (lit L s (event 10 0 0)).phase r (omega (arith, S.ranges.route_count)) b,
@@ -125,13 +125,13 @@ module _ (L : Layout) (S : Sound L) (s : State) (r : ℕ) (b : r < L.routes) (th
 
 -- a manual release leaves the sections
 pub release_sections : (L : Layout) (s : State) (l : ℕ) → (end L s (event 7 l 1)).section ≡ s.section
-unfolding own row_of row_with manual_row own_manual if◌then◌else◌ after settle line_release with_lines arrivals routes routes_by with_routes far_sections signals
+unfolding own row_of row_with manual_row own_manual when◌then◌else◌ after settle line_release with_lines arrivals routes routes_by with_routes far_sections signals
 release_sections L s l = refl
 
 module _ (L : Layout) (S : Sound L) (s : State) (l : ℕ) (k : ℕ) (b : k < L.lines) where
   -- a manual release makes its line neutral, and leaves neutral what is
   pub neutral_on : (k ≡ l) ⊎ (direction s k ≡ 0) → direction (end L s (event 7 l 1)) k ≡ 0
-  unfolding own row_of row_with manual_row own_manual with_lines if◌then◌else◌
+  unfolding own row_of row_with manual_row own_manual with_lines when◌then◌else◌
   neutral_on c = ⊎_elim (λ q. q ∙ own_neutral c (ℕ_discrete k l)) (λ t. t.0) (released L S.ranges.line_count s (event 7 l 1) k b)
     where
       own_neutral : (k ≡ l) ⊎ (direction s k ≡ 0) → Dec (k ≡ l) → direction (done L s (event 7 l 1)) k ≡ 0
@@ -148,7 +148,7 @@ module _ (L : Layout) (S : Sound L) (s : State) (l : ℕ) (k : ℕ) (b : k < L.l
 
   -- and at its end: an open block does not wait, and far sections do not shut one
   pub open_on : (i : ℕ) → i < (line_in L k).blocks → (k ≡ l) ⊎ (stage s k i ≡ 0) → stage (end L s (event 7 l 1)) k i ≡ 0
-  unfolding own row_of row_with manual_row own_manual with_lines if◌then◌else◌ is_open
+  unfolding own row_of row_with manual_row own_manual with_lines when◌then◌else◌ is_open
   open_on i h c =
       let few : i < most_blocks = omega (arith, (S.ranges.lines k b).block_count) in
       let own = read_block k i few L.lines _ s.stage b S.ranges.line_count ∙ opened i h few c in

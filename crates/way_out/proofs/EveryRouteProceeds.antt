@@ -8,7 +8,7 @@ use native.Mathlib.Omega.{arith}
 use borrow.Author.Tests.{eqb-true}
 use lib.Dec.{eqb}
 use lib.ListN.{length, length-append}
-use Rattle.laws.specs.Choice.{if◌then◌else◌}
+use Rattle.laws.specs.Choice.{when◌then◌else◌}
 use Rattle.laws.specs.Totals.{total, bit, count}
 use Rattle.laws.proofs.Choice.{if_both}
 use Rattle.laws.specs.Tables.{join}
@@ -51,14 +51,14 @@ place_short L cs n p w = let h = free_short L cs n (λ j. own_section L (p j)) i
 module _ (L : Layout) (ok : sound L ≡ true) (r : ℕ) (b : r < L.routes) where
   -- what an exit route asks of its line: at most eight unbars, eight points, and the lamp's report (L3)
   line_short : (cs : CountsOf) → length (line_for L cs r) ≤ 33 + 6 * fitted_for_line L r
-  unfolding line_for fitted_for_line readying unbars if◌then◌else◌
+  unfolding line_for fitted_for_line readying unbars when◌then◌else◌
   line_short cs = go (eqb (route_in L r).kind 2) refl
     where
       l : ℕ
       l = (route_in L r).line
 
       go : (t : Bool) → eqb (route_in L r).kind 2 ≡ t
-          → length (if t then readying L cs l (leaving (route_in L r).end) else []) ≤ 33 + 6 * (if t then fitted_among L (line_in L l).points (λ j. own_section L (line_point L l j)) else 0)
+          → length (when t then readying L cs l (leaving (route_in L r).end) else []) ≤ 33 + 6 * (when t then fitted_among L (line_in L l).points (λ j. own_section L (line_point L l j)) else 0)
       go true e =
           let S : Sound L = sound_says L ok in
           let line : LineRanges L l = S.ranges.lines _ ((S.ranges.routes r b).line (inr (eqb-true _ 2 e))).0 in
@@ -80,7 +80,7 @@ module _ (L : Layout) (ok : sound L ≡ true) (r : ℕ) (b : r < L.routes) where
 
   -- a route at proceed is shown locked
   locked_byte : (p : ℕ) → p ≡ 1 → route_byte p ≡ 1
-  unfolding route_byte if◌then◌else◌
+  unfolding route_byte when◌then◌else◌
   locked_byte p q = rw q
 
   -- from any state of a run

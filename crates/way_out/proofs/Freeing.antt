@@ -7,7 +7,7 @@ use mathlib.Core.List.{List, [], ◌∷◌}
 use native.Mathlib.Decide.{ℕ_discrete}
 use native.Mathlib.Omega.{arith}
 use lib.ListN.{set}
-use Rattle.laws.specs.Choice.{if◌then◌else◌}
+use Rattle.laws.specs.Choice.{when◌then◌else◌}
 use Rattle.laws.specs.Tests.{◌and◌}
 use Rattle.laws.proofs.Choice.{if_both}
 use Rattle.track.specs.Sizes.{most_sections}
@@ -93,7 +93,7 @@ module _ (L : Layout) (ok : sound L ≡ true) (S : Sound L) (cs : CountsOf) (g :
 
   -- one reading, where it has no heads
   by_reading : is_fitted L g ≡ false → Whole s → Q s → Goes L s (event 1 g 1 ∷ []) (Frees g Q s)
-  unfolding recorded if◌then◌else◌
+  unfolding recorded when◌then◌else◌
   by_reading f w q =
       let told : Tells s (event 1 g 1) g 1 s.axles = by_code refl in
       goes L (Frees g Q s) s (event 1 g 1) [] (reading_granted L s ok w.ranged g 1 there f) w

@@ -7,7 +7,7 @@ use mathlib.Core.List.{List}
 use native.Mathlib.Omega.{arith}
 use borrow.Author.Tests.{eqb-true, eq-eqb, leb-false, not-false}
 use lib.ListN.{get_or}
-use Rattle.laws.specs.Choice.{if◌then◌else◌}
+use Rattle.laws.specs.Choice.{when◌then◌else◌}
 use Rattle.laws.specs.Tests.{◌and◌}
 use Rattle.laws.proofs.Searches.{lowest_none}
 use Rattle.laws.proofs.Tests.{and_left, and_both, not_both, fails_from, any_none}
@@ -41,13 +41,13 @@ placed points n ps ws e j b c =
 module _ (L : Layout) (s : State) (r : ℕ) (exit : (route_in L r).kind ≡ 2) (pass : (refusal (sound L and in_range s) L s 4 r 0).number ≡ 0) where
   -- 18, 2: the layout is sound and has the route
   set_there : (sound L ≡ true) × (r < L.routes)
-  unfolding refusal row_refusal row_of row_with set_row if◌then◌else◌
+  unfolding refusal row_refusal row_of row_with set_row when◌then◌else◌
   set_there = (and_left _ _ (granted_sound _ _ _ _ _ (granted_at _ pass 0)), leb-false _ _ (granted_there _ _ _ _ _ (granted_at _ pass 0)))
 
   -- 6: the points of the route and those of its line read their positions
   set_placed : ((not_placed s.point (route_in L r).points (route_in L r).point (route_in L r).position).number ≡ 0)
       × ((not_placed s.point (line_in L (route_in L r).line).points (line_in L (route_in L r).line).point (line_in L (route_in L r).line).position).number ≡ 0)
-  unfolding refusal row_refusal row_of row_with set_row if◌then◌else◌ set_refusal route_refusal exit_refusal route_in line_in
+  unfolding refusal row_refusal row_of row_with set_row when◌then◌else◌ set_refusal route_refusal exit_refusal route_in line_in
   set_placed =
       let lists = granted_at _ (granted_at _ pass 1) 2 in
       (granted_at _ lists 0, granted_at _ (rw (eq-eqb _ _ exit) at (granted_at _ lists 2)) 1)

@@ -7,7 +7,7 @@ use native.Mathlib.Nat.{le_refl}
 use native.Mathlib.Omega.{arith}
 use borrow.Author.Tests.{eq-eqb}
 use lib.ListN.{length, length-append}
-use Rattle.laws.specs.Choice.{if◌then◌else◌}
+use Rattle.laws.specs.Choice.{when◌then◌else◌}
 use Rattle.laws.specs.Totals.{total, bit, count}
 use Rattle.laws.proofs.Arrays.{nothing_at}
 use Rattle.laws.proofs.Choice.{if_both}
@@ -46,10 +46,10 @@ cancels_short L (suc n) s =
 
 -- one reading for a section that has no heads, six events more for one that has
 pub freeing_length : (L : Layout) (cs : CountsOf) (g : ℕ) → length (freeing L cs g) ≡ 1 + 6 * bit (is_fitted L g)
-unfolding freeing axle_passes bit if◌then◌else◌
+unfolding freeing axle_passes bit when◌then◌else◌
 freeing_length L cs g = go (is_fitted L g)
   where
-    go : (t : Bool) → length (if t then axle_passes g (cs g) else (event 1 g 1 ∷ [])) ≡ 1 + 6 * (if t then 1 else 0)
+    go : (t : Bool) → length (when t then axle_passes g (cs g) else (event 1 g 1 ∷ [])) ≡ 1 + 6 * (when t then 1 else 0)
     go true = refl
     go false = refl
 

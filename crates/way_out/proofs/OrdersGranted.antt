@@ -7,7 +7,7 @@ use mathlib.Core.List.{List}
 use native.Mathlib.Omega.{arith}
 use borrow.Author.Tests.{eqb-true, eq-eqb, lt-leb, not-true}
 use lib.ListN.{get_or}
-use Rattle.laws.specs.Choice.{if◌then◌else◌}
+use Rattle.laws.specs.Choice.{when◌then◌else◌}
 use Rattle.laws.specs.Tests.{◌and◌}
 use Rattle.laws.proofs.Arrays.{read_at}
 use Rattle.laws.proofs.Choice.{if_both, chosen}
@@ -92,7 +92,7 @@ module _ (L : Layout) (s : State) (ok : sound L ≡ true) (ranged : in_range s �
   -- throw a point, where no route is locked, no line secured and the point's own section reads free
   pub throw_granted : Sound L → (p w : ℕ) → p < L.points → (w ≡ 1) ⊎ (w ≡ 2) → AtRest L s → reading s.section (own_section L p) ≡ 1
       → (refusal (sound L and in_range s) L s 3 p w).number ≡ 0
-  unfolding row_of row_with throw_row if◌then◌else◌ throw_refusal by_route by_line route_locks line_locks locked own_section no_refusal refused
+  unfolding row_of row_with throw_row when◌then◌else◌ throw_refusal by_route by_line route_locks line_locks locked own_section no_refusal refused
   throw_granted S p w b position rest free =
       granted L s ok ranged 3 p w (lt-leb _ p b) refl (one_of_two w position)
       (first_none _ _ _ (found_none 15 _ _ (λ r c. fails_from _ (λ t. not_both (eq-eqb _ 0 (rest.routes r c)) (not-true _ (and_left _ _ t)))))
@@ -155,7 +155,7 @@ module _ (L : Layout) (s : State) (ok : sound L ≡ true) (S : Sound L) (ranged 
 
   -- it is set
   pub set_granted : (refusal (sound L and in_range s) L s 4 r 0).number ≡ 0
-  unfolding row_of row_with set_row if◌then◌else◌ set_refusal conflicting locked route_refusal no_refusal refused route_point route_position route_in
+  unfolding row_of row_with set_row when◌then◌else◌ set_refusal conflicting locked route_refusal no_refusal refused route_point route_position route_in
   set_granted =
       granted L s ok ranged 4 r 0 (lt-leb _ r b) refl refl
       (first_none _ _ _ (when_none _ 4 r (ap not (eq-eqb _ 0 (P.idle r b))))

@@ -4,7 +4,7 @@ use mathlib.Core.Path.{◌≡◌, refl, ap, ap₂, ◌∙◌}
 use mathlib.Core.Bool.{true}
 use native.Mathlib.Omega.{arith}
 use lib.IntN.{pos, ◌-ℤ◌}
-use Rattle.laws.specs.Choice.{if◌then◌else◌}
+use Rattle.laws.specs.Choice.{when◌then◌else◌}
 use Rattle.laws.specs.Tests.{◌and◌}
 use Rattle.axles.specs.declared.Head.{Head}
 use Rattle.axles.specs.declared.Axles.{Axles}
@@ -44,7 +44,7 @@ module _ (c : FourCounts) where
 
   -- whatever they were, these are the heads then
   told_stand : (x : Axles) → told_by x ≡ stand c.in0 c.out1 (told_by x).sum (told_by x).proof
-  unfolding head_after if◌then◌else◌
+  unfolding head_after when◌then◌else◌
   told_stand x =
       let first : Said = said 11 0 (rolled c.in0) in
       let second : Said = said 12 0 (rolled c.out0) in
@@ -77,7 +77,7 @@ module _ (c : FourCounts) where
 
   -- a reset leaves the counts, not proved: the number is 0
   reset_stand : (sum proof n : ℕ) → axles_after (stand c.in0 c.out1 sum proof) (said 14 n 0) ≡ stand c.in0 c.out1 at_reset 1
-  unfolding axles_after told sum_after proof_after resets speaking speaks net judged proves occupies reading_of ◌and◌ if◌then◌else◌
+  unfolding axles_after told sum_after proof_after resets speaking speaks net judged proves occupies reading_of ◌and◌ when◌then◌else◌
   reset_stand sum proof n =
       rw (
         reset_head (speaking_head c.in0 c.out0) 0 (said 14 n 0) refl,
@@ -88,12 +88,12 @@ module _ (c : FourCounts) where
 
   -- an axle in past head 0: the number is 1, which proves the reset
   axle_in : axles_after (stand c.in0 c.out1 at_reset 1) (said 11 0 (rolled (c.in0 + 1))) ≡ stand (c.in0 + 1) c.out1 at_reset 2
-  unfolding axles_after told head_after sum_after proof_after resets speaking speaks judged with_proof proves occupies reading_of ◌and◌ if◌then◌else◌
+  unfolding axles_after told head_after sum_after proof_after resets speaking speaks judged with_proof proves occupies reading_of ◌and◌ when◌then◌else◌
   axle_in = rw (since_number (c.in0 + 1) c.out1 1 1 (omega arith) (omega arith) (omega arith) (omega arith))
 
   -- and out past head 1: the number is 0, and the section reads free
   axle_out : axles_reading (axles_after (stand (c.in0 + 1) c.out1 at_reset 2) (said 12 1 (rolled (c.out1 + 1)))) ≡ 1
-  unfolding axles_after told head_after sum_after proof_after resets speaking speaks judged proves reading_of known axles_reading ◌and◌ if◌then◌else◌
+  unfolding axles_after told head_after sum_after proof_after resets speaking speaks judged proves reading_of known axles_reading ◌and◌ when◌then◌else◌
   axle_out = rw (since_number (c.in0 + 1) (c.out1 + 1) 0 2 (omega arith) (omega arith) (omega arith) (omega arith))
 
 -- ---- as the events of section g bring them

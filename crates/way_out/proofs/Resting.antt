@@ -9,7 +9,7 @@ use native.Mathlib.Decide.{ℕ_discrete}
 use native.Mathlib.Omega.{arith}
 use borrow.Author.Tests.{eqb-true, eq-eqb}
 use lib.Dec.{eqb}
-use Rattle.laws.specs.Choice.{if◌then◌else◌}
+use Rattle.laws.specs.Choice.{when◌then◌else◌}
 use Rattle.laws.proofs.Choice.{if_both, chosen, passed_over}
 use Rattle.laws.proofs.Tests.{not_both, fails_from, any_at, any_some}
 use Rattle.track.specs.declared.Line.{Line}
@@ -68,7 +68,7 @@ module _ (L : Layout) (g : ℕ) where
 
 -- an open block to which nothing is given stays open, whatever the lamp of its far signal reports
 given_nothing : (lit : Bool) → own_stage 0 lit 0 ≡ 0
-unfolding own_stage if◌then◌else◌
+unfolding own_stage when◌then◌else◌
 given_nothing lit = refl
 
 -- a reading of a section that is not the block's gives it nothing
@@ -108,13 +108,13 @@ module _ (L : Layout) (S : Sound L) (s : State) (e : Event) (told : (g v : ℕ) 
 module _ (L : Layout) (s : State) where
   -- a lamp's report of stop leaves points, and it is what the lamp then reports (L3)
   pub stop_reported : (x : ℕ) → ((end L s (event 15 x 1)).point ≡ s.point) × (x < most_lamps → lamp_of (end L s (event 15 x 1)).lamp x ≡ 1)
-  unfolding own row_of row_with lamp_row own_lamp with_lamps recorded if◌then◌else◌ after settle line_release with_lines arrivals routes routes_by with_routes far_sections signals lamp_of
+  unfolding own row_of row_with lamp_row own_lamp with_lamps recorded when◌then◌else◌ after settle line_release with_lines arrivals routes routes_by with_routes far_sections signals lamp_of
   stop_reported x = (refl, λ b. put_here most_lamps 3 s.lamp x 1 x b refl)
 
   -- after a reading of point p, point q reads v: as it did, or as it is read now
   pub point_reads : (p w q v : ℕ) → q < most_points → (v ≡ 1) ⊎ (v ≡ 2) → (q ≡ p → v ≡ w) → (q ≡ p) ⊎ (point_reading s.point q ≡ v)
       → point_reading (end L s (event 2 p w)).point q ≡ v
-  unfolding own row_of row_with point_row own_point with_points if◌then◌else◌ after settle line_release with_lines arrivals routes routes_by with_routes far_sections signals point_reading recorded
+  unfolding own row_of row_with point_row own_point with_points when◌then◌else◌ after settle line_release with_lines arrivals routes routes_by with_routes far_sections signals point_reading recorded
   point_reads p w q v b position same was = go (ℕ_discrete q p)
     where
       as_told : (v ≡ 1) ⊎ (v ≡ 2) → recorded v ≡ v
@@ -127,7 +127,7 @@ module _ (L : Layout) (s : State) where
 
   -- after a throw of point p, point q reads v as it did, where it is not thrown elsewhere
   throw_reads : (p w q v : ℕ) → q < most_points → (q ≡ p → v ≡ w) → point_reading s.point q ≡ v → point_reading (end L s (event 3 p w)).point q ≡ v
-  unfolding own row_of row_with throw_row own_throw throw_reading with_points if◌then◌else◌ after settle line_release with_lines arrivals routes routes_by with_routes far_sections signals point_reading
+  unfolding own row_of row_with throw_row own_throw throw_reading with_points when◌then◌else◌ after settle line_release with_lines arrivals routes routes_by with_routes far_sections signals point_reading
   throw_reads p w q v b same was = go (ℕ_discrete q p)
     where
       go : Dec (q ≡ p) → point_reading (end L s (event 3 p w)).point q ≡ v
@@ -138,7 +138,7 @@ module _ (L : Layout) (s : State) where
 
   -- an unbarred block is not barred, nor is one that was not
   pub unbar_clears : (k i l j : ℕ) → place l j < most_places → (place l j ≡ place k i) ⊎ (unbarred s.bar l j ≡ true) → unbarred (end L s (event 9 k i)).bar l j ≡ true
-  unfolding own row_of row_with bar_row own_bar with_bars if◌then◌else◌ after settle line_release with_lines arrivals routes routes_by with_routes far_sections signals unbarred
+  unfolding own row_of row_with bar_row own_bar with_bars when◌then◌else◌ after settle line_release with_lines arrivals routes routes_by with_routes far_sections signals unbarred
   unbar_clears k i l j b was = go (ℕ_discrete (place l j) (place k i))
     where
       go : Dec (place l j ≡ place k i) → unbarred (end L s (event 9 k i)).bar l j ≡ true
@@ -167,7 +167,7 @@ quiet (by_point p w a) = omega arith
 
 -- they leave what sections read
 by_sections : (L : Layout) (r : ℕ) (s : State) (e : Event) → Prepares L r e → (end L s e).section ≡ s.section
-unfolding own row_of row_with point_row throw_row bar_row own_point own_throw own_bar with_points with_bars if◌then◌else◌ after settle line_release with_lines arrivals routes routes_by with_routes far_sections signals
+unfolding own row_of row_with point_row throw_row bar_row own_point own_throw own_bar with_points with_bars when◌then◌else◌ after settle line_release with_lines arrivals routes routes_by with_routes far_sections signals
 by_sections L r s e (by_unbar l i) = refl
 by_sections L r s e (by_throw p w a) = refl
 by_sections L r s e (by_point p w a) = refl
@@ -175,14 +175,14 @@ by_sections L r s e (by_point p w a) = refl
 -- they bar no block
 by_bars : (L : Layout) → Sound L → (r : ℕ) (s : State) (e : Event) → Prepares L r e → (l i : ℕ) → l < L.lines → i < (line_in L l).blocks → unbarred s.bar l i ≡ true
     → unbarred (end L s e).bar l i ≡ true
-unfolding own row_of row_with point_row throw_row own_point own_throw with_points if◌then◌else◌ after settle line_release with_lines arrivals routes routes_by with_routes far_sections signals place
+unfolding own row_of row_with point_row throw_row own_point own_throw with_points when◌then◌else◌ after settle line_release with_lines arrivals routes routes_by with_routes far_sections signals place
 by_bars L S r s e (by_unbar k j) l i b c was = unbar_clears L s k j l i (omega (arith, (S.ranges.lines l b).block_count, S.ranges.line_count)) (inr was)
 by_bars L S r s e (by_throw p w a) l i b c was = was
 by_bars L S r s e (by_point p w a) l i b c was = was
 
 -- they take no point of the route out of position
 by_points : (L : Layout) → Sound L → (r : ℕ) → r < L.routes → (s : State) (e : Event) → Prepares L r e → RoutePlaced L r s → RoutePlaced L r (end L s e)
-unfolding own row_of row_with bar_row own_bar with_bars if◌then◌else◌ after settle line_release with_lines arrivals routes routes_by with_routes far_sections signals
+unfolding own row_of row_with bar_row own_bar with_bars when◌then◌else◌ after settle line_release with_lines arrivals routes routes_by with_routes far_sections signals
 by_points L S r b s e (by_unbar l i) was = was
 by_points L S r b s e (by_throw p w a) was =
     λ j c. throw_reads L s p w _ _ (omega (arith, (S.ranges.routes r b).points j c, S.ranges.point_count)) (a j c) (was j c)
@@ -237,7 +237,7 @@ module _ (L : Layout) (S : Sound L) (s : State) (rest : AtRest L s) where
 
   -- so does a lamp's report of stop (L3): it leaves sections, points and bars
   pub stop_onward : (r x : ℕ) → Onward L r s (end L s (event 15 x 1))
-  unfolding own row_of row_with lamp_row own_lamp with_lamps if◌then◌else◌ after settle line_release with_lines arrivals routes routes_by with_routes far_sections signals
+  unfolding own row_of row_with lamp_row own_lamp with_lamps when◌then◌else◌ after settle line_release with_lines arrivals routes routes_by with_routes far_sections signals
   stop_onward r x = record {
     rest = rest_on (event 15 x 1) (omega arith) (λ g v xs told. absurd (tells_nothing told (omega arith))) rest.free;
     free = λ g c was. was;

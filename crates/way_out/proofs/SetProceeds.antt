@@ -8,7 +8,7 @@ use native.Mathlib.Numerals.{add-one}
 use native.Mathlib.Omega.{arith}
 use borrow.Author.Tests.{eqb-true, eq-eqb, ne_eqb, lt-ltb}
 use lib.ListN.{get_or}
-use Rattle.laws.specs.Choice.{if◌then◌else◌}
+use Rattle.laws.specs.Choice.{when◌then◌else◌}
 use Rattle.laws.specs.Tests.{lowest}
 use Rattle.laws.specs.Tables.{read}
 use Rattle.laws.proofs.Arrays.{read_at}
@@ -109,7 +109,7 @@ only_lowest n p r b t others = seek_here n p r (up_to r (omega arith)) b refl t
 module _ (L : Layout) (S : Sound L) (r : ℕ) (b : r < L.routes) (s : State) (P : Prepared L r s) where
   -- what the event itself does: besides what it locks it makes at most the directions anew (L5)
   own_done : done L s (event 4 r 0) ≡ own_lock (with_lines s (first_directions s.direction (route_in L r)) s.stage) r
-  unfolding own row_of row_with set_row if◌then◌else◌ route_in
+  unfolding own row_of row_with set_row when◌then◌else◌ route_in
   own_done = set_lines L.route s r
 
   -- it puts the route to proceed

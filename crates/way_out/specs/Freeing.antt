@@ -1,6 +1,6 @@
 -- How a section comes to read free, whatever it read: one reading, or, where it has heads, an axle that passes after a reset (L1).
 use Rattle.std.specs.Prelude.{ℕ, ◌+◌, ◌*◌, List, [], ◌∷◌, eqb}
-use Rattle.laws.specs.Choice.{if◌then◌else◌}
+use Rattle.laws.specs.Choice.{when◌then◌else◌}
 use Rattle.laws.specs.Totals.{total, count}
 use Rattle.track.specs.Codes.{free, read_section, axles_in, axles_out, reset_axles}
 use Rattle.track.specs.Blocks.{only_section}
@@ -39,7 +39,7 @@ axle_passes g c =
 
 -- section g comes to read free: by those seven events where it has heads, by one reading where it has none
 unfoldable pub freeing : Layout → CountsOf → ℕ → List Event
-freeing L cs g = if is_fitted L g then axle_passes g (cs g) else (event read_section g free ∷ [])
+freeing L cs g = when is_fitted L g then axle_passes g (cs g) else (event read_section g free ∷ [])
 
 -- the counts of a section then: an axle more in past head 0 and out past head 1
 unfoldable pub one_further : FourCounts → FourCounts
@@ -47,7 +47,7 @@ one_further c = record { in0 = c.in0 + 1; out0 = c.out0; in1 = c.in1; out1 = c.o
 
 -- those of every section once section g has come to read free
 unfoldable pub counts_since : CountsOf → ℕ → CountsOf
-counts_since cs g h = if eqb h g then one_further (cs h) else cs h
+counts_since cs g h = when eqb h g then one_further (cs h) else cs h
 
 -- ---- how many of the sections that are freed have heads: for each the way is six events longer
 

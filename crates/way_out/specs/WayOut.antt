@@ -1,6 +1,6 @@
 -- No dead end: a way out of every state that a run can reach. Beside the demands of document 01.
 use Rattle.std.specs.Prelude.{ℕ, zero, suc, ◌+◌, ◌*◌, ◌<◌, ◌≤◌, ◌≡◌, Bool, true, not, List, [], ◌∷◌, ◌++◌, eqb, length, replicate}
-use Rattle.laws.specs.Choice.{if◌then◌else◌}
+use Rattle.laws.specs.Choice.{when◌then◌else◌}
 use Rattle.laws.specs.Tests.{◌and◌}
 use Rattle.track.specs.Codes.{free, neutral, idle, cancelling, cancel_route, release_line, one_second}
 use Rattle.track.specs.Blocks.{only_section}
@@ -24,7 +24,7 @@ standing s r = locked s.phase r and not (eqb (phase s.phase r) cancelling)
 -- cancel each of the first n routes that is locked and not cancelling when its turn comes
 unfoldable pub cancels : Layout → ℕ → State → List Event
 cancels L zero s = []
-cancels L (suc r) s = if standing s r then event cancel_route r 0 ∷ cancels L r (step L s cancel_route r 0).next else cancels L r s
+cancels L (suc r) s = when standing s r then event cancel_route r 0 ∷ cancels L r (step L s cancel_route r 0).next else cancels L r s
 
 -- ninety seconds
 unfoldable pub ninety_seconds : List Event

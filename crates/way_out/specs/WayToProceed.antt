@@ -1,6 +1,6 @@
 -- Every route that can be set at all comes to be, with its signal at proceed: a way to it from every state that a run can reach. Beside the demands of document 01.
 use Rattle.std.specs.Prelude.{ℕ, zero, suc, ◌+◌, ◌*◌, ◌<◌, ◌≤◌, ◌≡◌, List, [], ◌∷◌, ◌++◌, eqb, length}
-use Rattle.laws.specs.Choice.{if◌then◌else◌}
+use Rattle.laws.specs.Choice.{when◌then◌else◌}
 use Rattle.laws.specs.Tables.{table, join}
 use Rattle.track.specs.Codes.{exit_route, leaving, read_point, throw_point, set_route, unbar_block, report_lamp, lamp_stop}
 use Rattle.track.specs.Signal.{main}
@@ -27,7 +27,7 @@ unbars l n = table n (λ i. event unbar_block l i)
 
 -- section g comes to read free. A block reads free since the way out, and is left alone: an axle counted in it would take it again
 unfoldable pub reads_free : Layout → CountsOf → ℕ → List Event
-reads_free L cs g = if is_block L.lines L.line g then [] else freeing L cs g
+reads_free L cs g = when is_block L.lines L.line g then [] else freeing L cs g
 
 -- what the counts stand at once the sections g 0, .., g (n - 1) have: those of a section that is asked for again stand one axle further; of a block they are
 -- not asked
@@ -82,7 +82,7 @@ readying L cs l w =
 -- what an exit route asks besides (section 3, set route: 9, 6, 11, 10): that its line can be secured its way, which setting it does first (L5); the other
 -- kinds ask nothing of a line
 unfoldable pub line_for : Layout → CountsOf → ℕ → List Event
-line_for L cs r = if eqb (route_in L r).kind exit_route then readying L cs (route_in L r).line (leaving (route_in L r).end) else []
+line_for L cs r = when eqb (route_in L r).kind exit_route then readying L cs (route_in L r).line (leaving (route_in L r).end) else []
 
 -- the way out of the state, then what the route asks, then it is set; the way out frees blocks, whose counts are not asked again
 unfoldable pub way_to_proceed : Layout → CountsOf → State → ℕ → List Event
@@ -103,7 +103,7 @@ shown_after L s es = panel L (image L (state_after (box L) s es))
 -- how many of the sections have heads in which the points of its line stand, where it is an exit route: at most 8
 unfoldable pub fitted_for_line : Layout → ℕ → ℕ
 fitted_for_line L r =
-    if eqb (route_in L r).kind exit_route then fitted_among L (line_in L (route_in L r).line).points (λ j. own_section L (line_point L (route_in L r).line j)) else 0
+    when eqb (route_in L r).kind exit_route then fitted_among L (line_in L (route_in L r).line).points (λ j. own_section L (line_point L (route_in L r).line j)) else 0
 
 -- and how many of all that a route asks for, path, overlap and the sections in which points stand: at most 28
 unfoldable pub fitted_asked : Layout → ℕ → ℕ

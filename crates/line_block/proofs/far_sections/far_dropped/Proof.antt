@@ -5,4 +5,4 @@ use Rattle.line_block.proofs.far_sections.far_dropped.Statement.{statement}
 use Rattle.line_block.proofs.far_sections.far_dropped.Tie as tie
 
 pub far_dropped_spec : {M : Type 1} → statement M
-far_dropped_spec = tie.close (tie.spec (λ c κs. search rules) (λ c ls g. search (rules, dropped_stop, c.before.far_proceeds.ensures ls g)) (λ c κs. search rules) (λ c ls g. dropped_now _ _ _ _ (c.before.before.far_proceeds.ensures ls g) _ c.before.if1.false (c.far_proceeds2.ensures ls g)))
+far_dropped_spec = tie.close (tie.spec (λ c κs. search rules) (λ c ls g. search (rules, dropped_stop, c.far_proceeds-was.ensures ls g)) (λ c κs. search rules) (λ c ls g. dropped_now _ _ _ _ (c.far_proceeds-was.ensures ls g) _ c.if-not-was.false (c.far_proceeds-is.ensures ls g)))

@@ -11,4 +11,4 @@ unfolding far_stages
 far_stages_spec =
     tie.close
     (tie.spec (λ c κs. search rules) (λ c. omega (arith, few_fit _ _ c.few_lines_law.ensures))
-    (λ c κs. (omega (arith, few_fit _ _ c.before.few_lines_law.ensures), search rules)) (λ c. simp (c.moved_stages.ensures, c.before.before.few_lines_law.ensures)))
+    (λ c κs. (omega (arith, few_fit _ _ c.few_lines_law.ensures), search rules)) (λ c. simp (c.moved_stages.ensures, c.few_lines_law.ensures)))

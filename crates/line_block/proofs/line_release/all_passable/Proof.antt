@@ -5,11 +5,11 @@ use Rattle.line_block.specs.LineRelease.{passable}
 use Rattle.line_block.proofs.line_release.all_passable.Statement.{statement}
 use Rattle.line_block.proofs.line_release.all_passable.Tie as tie
 
-abbrev invariant-loop : tie.invariant-loop
-invariant-loop stages bars k n i₀ i = SoFar n (passable stages bars k) i
+abbrev invariant-loop-i : tie.invariant-loop-i
+invariant-loop-i stages bars k n i₀ i = SoFar n (passable stages bars k) i
 
-abbrev decreases-loop : tie.decreases-loop
-decreases-loop stages bars k n i₀ i = n - i
+abbrev decreases-loop-i : tie.decreases-loop-i
+decreases-loop-i stages bars k n i₀ i = n - i
 
 pub all_passable_spec : {M : Type 1} → statement M
-all_passable_spec = tie.close (tie.spec invariant-loop decreases-loop (λ c. search alls) (λ c κs. search alls) (λ c. search alls) (λ c. search alls) (λ c. search alls) (λ c. search alls) (λ c. search alls))
+all_passable_spec = tie.close (tie.spec invariant-loop-i decreases-loop-i (λ c. search alls) (λ c κs. search alls) (λ c. search alls) (λ c. search alls) (λ c. search alls) (λ c. search alls) (λ c. search alls))

@@ -15,19 +15,19 @@ own_stages_spec =
     (tie.spec
     (λ c κs. search rules)
     (λ c. omega (arith, few_fit _ _ c.few_lines_law.ensures))
-    (λ c κs. (omega (arith, few_fit _ _ c.before.few_lines_law.ensures), search rules))
+    (λ c κs. (omega (arith, few_fit _ _ c.few_lines_law.ensures), search rules))
     (λ c κs. search rules)
     (λ c.
-    let given = c.before.before.before in
-    let few = given.before.before.few_lines_law.ensures in
+    let given = c in
+    let few = given.few_lines_law.ensures in
     rw (← few)
-    (own_unwaited _ _ _ _ _ _ _ (few_long _ _ given.before.before.before.args.t7 few (search rules)) (few_fit _ _ few) _ given.given_stages.ensures _ c.before.none_waits.ensures
-    c.if1.true))
-    (λ c. omega (arith, few_fit _ _ c.before.before.before.before.before.few_lines_law.ensures))
-    (λ c κs. (omega (arith, few_fit _ _ c.before.before.before.before.before.before.before.few_lines_law.ensures), search rules))
+    (own_unwaited _ _ _ _ _ _ _ (few_long _ _ given.args.t7 few (search rules)) (few_fit _ _ few) _ given.given_stages-own.ensures _ c.none_waits.ensures
+    c.if-none_waits.true))
+    (λ c. omega (arith, few_fit _ _ c.few_lines_law.ensures))
+    (λ c κs. (omega (arith, few_fit _ _ c.few_lines_law.ensures), search rules))
     (λ c.
-    let given = c.before.before.before.before.before.before in
-    let few = given.before.before.few_lines_law.ensures in
+    let given = c in
+    let few = given.few_lines_law.ensures in
     rw (← few)
-    (own_passed _ _ _ _ _ _ _ (few_long _ _ given.before.before.before.args.t7 few (search (rules, given.before.before.before.well-formed))) _ _ given.given_stages.ensures
+    (own_passed _ _ _ _ _ _ _ (few_long _ _ given.args.t7 few (search (rules, given.well_formed))) _ _ given.given_stages-own.ensures
     c.passed_back.ensures)))

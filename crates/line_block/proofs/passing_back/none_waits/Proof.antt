@@ -10,12 +10,12 @@ use Rattle.line_block.specs.Entries.{none_waits}
 use Rattle.line_block.proofs.passing_back.none_waits.Statement.{statement}
 use Rattle.line_block.proofs.passing_back.none_waits.Tie as tie
 
-abbrev invariant-loop : tie.invariant-loop
-invariant-loop stages none₀ k₀ none k = Gathered most_places (λ j. not (eqb (get_or stages j 0) stage3)) none k
+abbrev invariant-loop-k : tie.invariant-loop-k
+invariant-loop-k stages none₀ k₀ none k = Gathered most_places (λ j. not (eqb (get_or stages j 0) stage3)) none k
 
-abbrev decreases-loop : tie.decreases-loop
-decreases-loop stages none₀ k₀ none k = most_places - k
+abbrev decreases-loop-k : tie.decreases-loop-k
+decreases-loop-k stages none₀ k₀ none k = most_places - k
 
 pub none_waits_spec : {M : Type 1} → statement M
 unfolding none_waits
-none_waits_spec = tie.close (tie.spec invariant-loop decreases-loop (λ c. search gathers) (λ c. search gathers) (λ c. search gathers) (λ c. search gathers) (λ c. search gathers) (λ c. search gathers))
+none_waits_spec = tie.close (tie.spec invariant-loop-k decreases-loop-k (λ c. search gathers) (λ c. search gathers) (λ c. search gathers) (λ c. search gathers) (λ c. search gathers) (λ c. search gathers))

@@ -14,29 +14,29 @@ use Rattle.line_block.proofs.PassingBackLaws.{place_idle, place_waits, arrived_i
 use Rattle.line_block.proofs.passing_back.passed_back.Statement.{statement}
 use Rattle.line_block.proofs.passing_back.passed_back.Tie as tie
 
-abbrev invariant-loop : tie.invariant-loop
-invariant-loop m directions old stages ls arrived stage₀ k₀ stage k =
+abbrev invariant-loop-k : tie.invariant-loop-k
+invariant-loop-k m directions old stages ls arrived stage₀ k₀ stage k =
     (length ls ≡ most_lines)
     × Redone most_places m (waited_stage_at ls directions (goes_open old stages) (λ l w. eqb (read most_lines 0 arrived l) 1) stages) stage₀ stage k
 
 -- the places left
-abbrev decreases-loop : tie.decreases-loop
-decreases-loop m directions old stages ls arrived stage₀ k₀ stage k = m - k
+abbrev decreases-loop-k : tie.decreases-loop-k
+decreases-loop-k m directions old stages ls arrived stage₀ k₀ stage k = m - k
 
 -- a block that does not wait
-idle : tie.Need-loop-preserved invariant-loop decreases-loop
-idle c = let j = c.before.before.loop.invariant in (j.0, redo_skip _ _ _ _ _ _ j.1 (search rules) (place_idle _ _ _ _ _ _ _ c.if1.true))
+idle : tie.Need-loop-k-preserved-then-stage-k-ne-STAGE_3 invariant-loop-k decreases-loop-k
+idle c = let j = c.loop-k.invariant in (j.0, redo_skip _ _ _ _ _ _ j.1 (search rules) (place_idle _ _ _ _ _ _ _ c.if-stage-k-ne-STAGE_3.true))
 
 -- a block that waits
-waits : tie.Need-loop-preserved-2 invariant-loop decreases-loop
+waits : tie.Need-loop-k-preserved invariant-loop-k decreases-loop-k
 waits c =
-    let n = c.before.before.before in
-    let j = n.before.before.loop.invariant in
-    let inside = n.before.loop-test.true in
-    let few = n.before.before.before.before.requires.0 in (
+    let n = c in
+    let j = n.loop-k.invariant in
+    let inside = n.loop-k-test.true in
+    let few = n.requires.0 in (
       j.0,
       redo_on _ _ _ _ _ _ _ j.1 inside
-          (place_waits _ _ _ _ _ _ _ _ _ _ n.if1.false (line_in _ _ _ _ j.0 inside few) c.before.direction_of.ensures
+          (place_waits _ _ _ _ _ _ _ _ _ _ n.if-stage-k-ne-STAGE_3.false (line_in _ _ _ _ j.0 inside few) c.direction_of-w.ensures
           (c.waited_stage.ensures _ (arrived_in _ _ _ inside few))),
     )
 
@@ -44,9 +44,9 @@ pub passed_back_spec : {M : Type 1} → statement M
 passed_back_spec =
     tie.close
     (tie.spec
-    invariant-loop
-    decreases-loop
-    (λ c. (search (rules, length_mapped), redo_start _ _ _ _ c.before.requires.0 c.before.requires.1))
+    invariant-loop-k
+    decreases-loop-k
+    (λ c. (search (rules, length_mapped), redo_start _ _ _ _ c.requires.0 c.requires.1))
     (λ c. search redoes)
     (λ c. search redoes)
     (λ c. search redoes)

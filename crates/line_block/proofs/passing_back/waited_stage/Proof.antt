@@ -8,8 +8,8 @@ pub waited_stage_spec : {M : Type 1} → statement M
 waited_stage_spec =
     tie.close
     (tie.spec
-    (λ c f g. waited_out _ _ _ _ _ _ _ c.if1.true)
+    (λ c f g. waited_out _ _ _ _ _ _ _ c.if-b-i.true)
     (λ c κs. search rules)
     (λ c κs. search rules)
-    (λ c f g. search (rules, waited_opens, c.before.opens_beyond.ensures f g))
-    (λ c f g. search (rules, waited_stays, c.before.opens_beyond.ensures f g)))
+    (λ c f g. search (rules, waited_opens, c.opens_beyond.ensures f g))
+    (λ c f g. search (rules, waited_stays, c.opens_beyond.ensures f g)))

@@ -7,15 +7,15 @@ use Rattle.reasons.proofs.searches.lowest_route_locking.Statement.{statement}
 use Rattle.reasons.proofs.searches.lowest_route_locking.Tie as tie
 
 -- the lowest such route is none of those before r
-abbrev invariant-loop : tie.invariant-loop
-invariant-loop phases n p rs r₀ r = Sought n (route_locks rs phases p) r
+abbrev invariant-loop-r : tie.invariant-loop-r
+invariant-loop-r phases n p rs r₀ r = Sought n (route_locks rs phases p) r
 
 -- the routes left
-abbrev decreases-loop : tie.decreases-loop
-decreases-loop phases n p rs r₀ r = n - r
+abbrev decreases-loop-r : tie.decreases-loop-r
+decreases-loop-r phases n p rs r₀ r = n - r
 
 pub lowest_route_locking_spec : {M : Type 1} → statement M
 lowest_route_locking_spec =
     tie.close
-    (tie.spec invariant-loop decreases-loop (λ c. search routes) (λ c. search routes) (λ c. search routes) (λ c. search routes) (λ c. search routes) (λ c. search routes)
+    (tie.spec invariant-loop-r decreases-loop-r (λ c. search routes) (λ c. search routes) (λ c. search routes) (λ c. search routes) (λ c. search routes) (λ c. search routes)
     (λ c. search routes) (λ c κs. search routes) (λ c. search routes) (λ c. search routes) (λ c. search routes) (λ c. search routes) (λ c. search routes))
