@@ -101,11 +101,7 @@ pub fn hiruketawha_power_on(state: &mut State, layout: &mut Layout)
 }
 
 // A layout file into the layout's record, with the state started anew. A refused file leaves every byte of both records as it was.
-pub fn hiruketawha_load(
-    state: &mut State,
-    layout: &mut Layout,
-    bytes: &[u8],
-) -> LoadReply
+pub fn hiruketawha_load(state: &mut State, layout: &mut Layout, bytes: &[u8]) -> LoadReply
     ensures { (result ≡ load_reply (tells (records layout.old state.old) (load_file bytes.now)))
         × (records layout.new state.new ≡ after_call (records layout.old state.old) (load_file bytes.now)) }
 {
