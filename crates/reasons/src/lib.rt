@@ -76,7 +76,7 @@ fn found_at(number: u8, n: u8, at: u8) -> Refusal
 
 // The number of a refusal for a section that does not read free: 7 where it is occupied, else 8.
 fn unfree_number(reading: u8) -> u8
-    ensures { result ≡ if eqb reading occupied then 7 else 8 }
+    ensures { result ≡ when eqb reading occupied then 7 else 8 }
 {
     if reading == OCCUPIED {
         return 7;
@@ -86,7 +86,7 @@ fn unfree_number(reading: u8) -> u8
 
 // 7, 8, by the set of the sections asked for that do not read free (request L4): 7 where the lowest of them is occupied, 8 where it reads none.
 fn not_free(sections: &[u8; SECTIONS], unfree: u64) -> Refusal
-    ensures { result ≡ refused_if (ltb (lowest_in unfree) most_sections) (if eqb (reading sections.now (lowest_in unfree)) occupied then 7 else 8) (lowest_in unfree) }
+    ensures { result ≡ refused_if (ltb (lowest_in unfree) most_sections) (when eqb (reading sections.now (lowest_in unfree)) occupied then 7 else 8) (lowest_in unfree) }
 {
     let g = sets::lowest_in(unfree);
     let number = unfree_number(section_reads(sections, g));

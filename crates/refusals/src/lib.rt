@@ -124,7 +124,7 @@ fn exit_refusal<'a>(
     lamps: &'a [u8; LAMPS],
     a: Route,
 ) -> Refusal
-    ensures { result ≡ if eqb a.kind exit_route then exit_refusal plan (record { section = unasked; point = points.now; phase = unasked; direction = directions.now; stage = stages.now; bar = bars.now; lamp = lamps.now }) a else no_refusal }
+    ensures { result ≡ when eqb a.kind exit_route then exit_refusal plan (record { section = unasked; point = points.now; phase = unasked; direction = directions.now; stage = stages.now; bar = bars.now; lamp = lamps.now }) a else no_refusal }
 {
     if a.kind != EXIT_ROUTE {
         return no_refusal();
