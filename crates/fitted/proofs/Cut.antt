@@ -22,7 +22,7 @@ use Rattle.layout.specs.declared.Layout.{Layout}
 use Rattle.fitted.specs.declared.Told.{Told}
 use Rattle.fitted.specs.declared.Piece.{Piece}
 use Rattle.fitted.specs.Numbers.{Numbers, no_numbers, before, numbers_next, numbers_from, from_place}
-use Rattle.fitted.specs.Fitted.{fit, none_told, tell_all}
+use Rattle.fitted.specs.Fitted.{tell, fit, none_told, tell_all}
 use Rattle.fitted.specs.Pieces.{stop_of, ended, piece_of, in_file, told_in_reads, fit_in_reads}
 use Rattle.fitted.proofs.FromPlace.{more_same, from_value, from_fault}
 use Rattle.fitted.proofs.Whole.{fit_is}
@@ -128,7 +128,7 @@ rest_moved xs ys k h =
 tell_after : (sections : ℕ) (t : Told) (ns ms : List ℕ) → tell_all sections t (ns ++ ms) ≡ tell_all sections (tell_all sections t ns) ms
 unfolding tell_all
 tell_after sections t [] ms = refl
-tell_after sections t (n ∷ ns) ms = tell_after sections _ ns ms
+tell_after sections t (n ∷ ns) ms = tell_after sections (tell sections t n) ns ms
 
 -- 22 ends every piece, the last or not
 stop_bad : (last : Bool) (fault : ℕ) → fault ≡ 22 → stop_of last fault ≡ 22

@@ -7,4 +7,4 @@ use Rattle.refusals.proofs.way_refusal.Tie as tie
 
 pub way_refusal_spec : {M : Type 1} → statement M
 unfolding secure_refusal
-way_refusal_spec = tie.close (tie.spec (λ c κs. search firsts) (λ c κs. search firsts) (λ c κs. search firsts) (λ c. way_first _ _ _ _ c.before.before.before.departs.ensures _ _ c.before.before.if1.true c.before.direction_from.ensures c.secure_refusal.ensures) (λ c κs. search firsts) (λ c. search (firsts, way_asked) depth 6))
+way_refusal_spec = tie.close (tie.spec (λ c κs. search firsts) (λ c κs. search firsts) (λ c κs. search firsts) (λ c. way_first _ _ _ _ c.departs.ensures _ _ c.if-departs.true c.direction_from-w.ensures c.secure_refusal.ensures) (λ c κs. search firsts) (λ c. search (firsts, way_asked) depth 6))

@@ -7,11 +7,11 @@ use Rattle.interlocking.proofs.Core.point_reading.Statement.{statement}
 use Rattle.interlocking.proofs.Core.point_reading.Tie as tie
 
 -- done
-acted : tie.Need-returns-2
+acted : tie.Need-returns
 unfolding point_row
 acted c =
-    moves_plain _ _ _ _ _ _ _ _ _ c.before.before.before.before.before.before.numbers_refusal.ensures refl c.before.before.before.before.before.before.before.no_refusal.ensures refl _ _ c.before.before.before.before.if1.false refl
-    (point_recorded _ _ _ _ _ c.before.before.read_point.ensures c.before.before.before.reading_for.ensures) c.before.Gives-nothing.ensures c.done.ensures
+    moves_plain _ _ _ _ _ _ _ _ _ c.numbers_refusal-numbers.ensures refl c.no_refusal.ensures refl _ _ c.if-numbers-ne0.false refl
+    (point_recorded _ _ _ _ _ c.read_point-t.ensures c.reading_for-reading.ensures) c.gives_nothing-gives.ensures c.done.ensures
 
 pub point_reading_spec : {M : Type 1} → statement M
 unfolding point_row

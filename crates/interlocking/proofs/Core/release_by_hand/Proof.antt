@@ -8,12 +8,12 @@ use Rattle.interlocking.proofs.Core.release_by_hand.Statement.{statement}
 use Rattle.interlocking.proofs.Core.release_by_hand.Tie as tie
 
 -- done
-acted : tie.Need-returns-3
+acted : tie.Need-returns
 unfolding manual_row manual_refusal
 acted c =
-    let early = c.before.before.before.before.before.before.before.before in
-    moves_on _ _ _ _ _ _ _ _ _ early.before.before.before.before.numbers_refusal.ensures refl early.before.before.before.before.before.no_refusal.ensures early.before.before.before.before.before.before.is_outside.ensures _ _ _ early.before.before.if1.false
-    c.before.before.before.before.before.before.manual_refusal.ensures c.before.before.before.before.if2.false c.before.before.release_by_hand.ensures c.before.Gives-nothing.ensures c.done.ensures
+    let early = c in
+    moves_on _ _ _ _ _ _ _ _ _ early.numbers_refusal-numbers.ensures refl early.no_refusal.ensures early.is_outside-wrong.ensures _ _ _ early.if-numbers-ne0.false
+    c.manual_refusal-f.ensures c.if-f-ne0.false c.release_by_hand-t.ensures c.gives_nothing-gives.ensures c.done.ensures
 
 pub release_by_hand_spec : {M : Type 1} → statement M
 unfolding manual_row manual_refusal

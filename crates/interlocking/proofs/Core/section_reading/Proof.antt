@@ -7,13 +7,13 @@ use Rattle.interlocking.proofs.Core.section_reading.Statement.{statement}
 use Rattle.interlocking.proofs.Core.section_reading.Tie as tie
 
 -- done
-acted : tie.Need-returns-2
+acted : tie.Need-returns
 unfolding section_row
 acted c =
-    let recorded = c.before.before.reading_for.ensures in
-    let numbers = c.before.before.before.before.before.before in
-    moves_plain _ _ _ _ _ _ _ _ _ numbers.numbers_refusal.ensures refl (misfit_found _ _ _ _ numbers.before.refused_if.ensures numbers.before.before.is_fitted_law.ensures) refl _ _
-    c.before.before.before.before.if1.false refl (section_recorded _ _ _ _ _ _ _ _ c.before.read_section.ensures recorded) (reading_given _ recorded) c.done.ensures
+    let recorded = c.reading_for-reading.ensures in
+    let numbers = c in
+    moves_plain _ _ _ _ _ _ _ _ _ numbers.numbers_refusal-numbers.ensures refl (misfit_found _ _ _ _ numbers.refused_if-misfit.ensures numbers.is_fitted.ensures) refl _ _
+    c.if-numbers-ne0.false refl (section_recorded _ _ _ _ _ _ _ _ c.read_section-t.ensures recorded) (reading_given _ recorded) c.done.ensures
 
 pub section_reading_spec : {M : Type 1} → statement M
 unfolding section_row

@@ -9,34 +9,34 @@ use Rattle.interlocking.proofs.Core.secure.Statement.{statement}
 use Rattle.interlocking.proofs.Core.secure.Tie as tie
 
 -- the second number fits a byte, where it is asked
-fits : tie.Need-overflow-cast-secure-refusal
+fits : tie.Need-overflow_cast-direction
 unfolding secure_row secure_refusal
 fits c =
-    let numbers = c.before.before.before.before.before.before.before in
-    omega (arith, second_fits _ _ _ _ _ _ numbers.numbers_refusal.ensures c.before.before.before.before.before.if1.false _ numbers.before.before.is_outside.ensures)
+    let numbers = c in
+    omega (arith, second_fits _ _ _ _ _ _ numbers.numbers_refusal-numbers.ensures c.if-numbers-ne0.false _ numbers.is_outside-wrong.ensures)
 
 -- and where it is stored
-small : tie.Need-overflow-cast-secure
+small : tie.Need-overflow_cast-direction-2
 unfolding secure_row secure_refusal
 small c =
-    let numbers = c.before.before.before.before.before.before.before.before.before.before in
-    omega (arith, second_fits _ _ _ _ _ _ numbers.numbers_refusal.ensures c.before.before.before.before.before.before.before.before.if1.false _ numbers.before.before.is_outside.ensures)
+    let numbers = c in
+    omega (arith, second_fits _ _ _ _ _ _ numbers.numbers_refusal-numbers.ensures c.if-numbers-ne0.false _ numbers.is_outside-wrong.ensures)
 
 -- refused besides
-kept : tie.Need-returns-2
+kept : tie.Need-returns-then-f-ne0
 unfolding secure_row secure_refusal
 kept c =
-    let numbers = c.before.before.before.before.before.before.before.before.before.before.before in
-    stays_besides _ _ _ _ _ _ _ _ _ numbers.numbers_refusal.ensures refl numbers.before.no_refusal.ensures numbers.before.before.is_outside.ensures _ c.before.before.before.before.before.before.before.before.before.if1.false
-    c.before.before.before.secure_refusal.ensures c.before.if2.true c.refused2.ensures
+    let numbers = c in
+    stays_besides _ _ _ _ _ _ _ _ _ numbers.numbers_refusal-numbers.ensures refl numbers.no_refusal.ensures numbers.is_outside-wrong.ensures _ c.if-numbers-ne0.false
+    c.secure_refusal-f.ensures c.if-f-ne0.true c.refused-then-f-ne0.ensures
 
 -- done
-acted : tie.Need-returns-3
+acted : tie.Need-returns
 unfolding secure_row secure_refusal
 acted c =
-    let numbers = c.before.before.before.before.before.before.before.before.before.before.before.before.before in
-    moves_on _ _ _ _ _ _ _ _ _ numbers.numbers_refusal.ensures refl numbers.before.no_refusal.ensures numbers.before.before.is_outside.ensures _ _ _ c.before.before.before.before.before.before.before.before.before.before.before.if1.false
-    c.before.before.before.before.before.secure_refusal.ensures c.before.before.before.if2.false (secure_moved _ _ _ _ _ c.before.before.secure.ensures) c.before.Gives-nothing.ensures c.done.ensures
+    let numbers = c in
+    moves_on _ _ _ _ _ _ _ _ _ numbers.numbers_refusal-numbers.ensures refl numbers.no_refusal.ensures numbers.is_outside-wrong.ensures _ _ _ c.if-numbers-ne0.false
+    c.secure_refusal-f.ensures c.if-f-ne0.false (secure_moved _ _ _ _ _ c.secure-t.ensures) c.gives_nothing-gives.ensures c.done.ensures
 
 pub secure_spec : {M : Type 1} → statement M
 unfolding secure_row secure_refusal

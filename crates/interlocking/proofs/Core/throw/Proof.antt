@@ -9,19 +9,19 @@ use Rattle.interlocking.proofs.Core.throw.Statement.{statement}
 use Rattle.interlocking.proofs.Core.throw.Tie as tie
 
 -- the second number fits a byte
-small : tie.Need-overflow-cast-throw
+small : tie.Need-overflow_cast-position
 unfolding throw_row throw_refusal
 small c =
-    let early = c.before.before.before.before.before.before.before.before in
-    omega (arith, second_fits _ _ _ _ _ _ early.before.numbers_refusal.ensures c.before.before.before.before.before.before.before.if1.false _ early.before.before.before.is_outside.ensures)
+    let early = c in
+    omega (arith, second_fits _ _ _ _ _ _ early.numbers_refusal-numbers.ensures c.if-numbers-ne0.false _ early.is_outside-wrong.ensures)
 
 -- done
-acted : tie.Need-returns-3
+acted : tie.Need-returns
 unfolding throw_row throw_refusal
 acted c =
-    let early = c.before.before.before.before.before.before.before.before in
-    moves_on _ _ _ _ _ _ _ _ _ early.before.before.before.before.numbers_refusal.ensures refl early.before.before.before.before.before.no_refusal.ensures early.before.before.before.before.before.before.is_outside.ensures _ _ _ early.before.before.if1.false
-    c.before.before.before.before.before.throw_refusal.ensures c.before.before.before.if2.false c.before.before.throw.ensures c.before.Gives-nothing.ensures c.done.ensures
+    let early = c in
+    moves_on _ _ _ _ _ _ _ _ _ early.numbers_refusal-numbers.ensures refl early.no_refusal.ensures early.is_outside-wrong.ensures _ _ _ early.if-numbers-ne0.false
+    c.throw_refusal-f.ensures c.if-f-ne0.false c.throw-t.ensures c.gives_nothing-gives.ensures c.done.ensures
 
 pub throw_spec : {M : Type 1} → statement M
 unfolding throw_row throw_refusal

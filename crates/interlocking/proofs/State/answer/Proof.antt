@@ -12,23 +12,23 @@ use Rattle.interlocking.proofs.State.answer.Tie as tie
 made : tie.Need-returns
 unfolding together
 made c =
-    let found = c.before.before.before.before.before.before.before.before.before.before.before in
-    let start = found.before in
-    rw (c.whole.ensures, c.before.lamps_then.ensures)
-    (together_is _ _ _ _ _ _ _ _ _ _ _ (λ z. (start.requires z).2) (search (rules, length_mapped, start.well-formed.0.1.1.1.1.1.1.1.1.1.1.1.0)) found.head_place.ensures refl
-    c.before.before.before.before.before.before.before.core_of.ensures c.before.before.before.before.before.answered.ensures)
+    let found = c in
+    let start = found in
+    rw (c.whole-next.ensures, c.lamps_then.ensures)
+    (together_is _ _ _ _ _ _ _ _ _ _ _ (λ z. (start.requires z).2) (search (rules, length_mapped, start.well_formed.0.1.1.1.1.1.1.1.1.1.1.1.0)) found.head_place-place.ensures refl
+    c.core_of-c.ensures c.answered-r.ensures)
 
 pub answer_spec : {M : Type 1} → statement M
 answer_spec =
     tie.close
     (tie.spec
     (λ c κs. search rules)
-    (λ c. search (rules, place_small _ _ _ c.before.before.head_place.ensures))
-    (λ c. search (rules, place_small _ _ _ c.before.before.head_place.ensures))
+    (λ c. search (rules, place_small _ _ _ c.head_place-place.ensures))
+    (λ c. search (rules, place_small _ _ _ c.head_place-place.ensures))
     (λ c κs. search rules)
-    (λ c κs z. let few = c.before.before.before.before.before.before.requires z in (few.0, few.1))
-    (λ c. search (rules, place_small _ _ _ c.before.before.before.before.before.before.before.before.head_place.ensures))
-    (λ c. search (rules, place_small _ _ _ c.before.before.before.before.before.before.before.before.head_place.ensures))
+    (λ c κs z. let few = c.requires z in (few.0, few.1))
+    (λ c. search (rules, place_small _ _ _ c.head_place-place.ensures))
+    (λ c. search (rules, place_small _ _ _ c.head_place-place.ensures))
     (λ c κs. search rules)
     (λ c κs. search rules)
     made)

@@ -7,4 +7,4 @@ use Rattle.interlocking.proofs.State.is_sound.Tie as tie
 
 pub is_sound_spec : {M : Type 1} → statement M
 unfolding ◌and◌
-is_sound_spec = tie.close (tie.spec (λ c κs. search rules) (λ c κs. search rules) (λ c κs. search rules) (λ c. let codes = range_of_core _ _ _ c.before.core_of.ensures c.in_range_law.ensures in cc))
+is_sound_spec = tie.close (tie.spec (λ c κs. search rules) (λ c κs. search rules) (λ c κs. search rules) (λ c. let codes = range_of_core _ _ _ c.core_of-c.ensures c.in_range-codes.ensures in cc))

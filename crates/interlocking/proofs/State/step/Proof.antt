@@ -7,4 +7,4 @@ use Rattle.interlocking.proofs.State.step.Tie as tie
 
 pub step_spec : {M : Type 1} → statement M
 unfolding step
-step_spec = tie.close (tie.spec (λ c κs. search rules) (λ c κs. sound_holds _ _ _ c.is_sound.ensures) (λ c. step_asked _ _ _ _ _ _ _ c.before.is_sound.ensures c.answer.ensures))
+step_spec = tie.close (tie.spec (λ c κs. search rules) (λ c κs. sound_holds _ _ _ c.is_sound-asked.ensures) (λ c. step_asked _ _ _ _ _ _ _ c.is_sound-asked.ensures c.answer.ensures))

@@ -19,8 +19,8 @@ use Rattle.interlocking.proofs.answering.answered.Statement.{statement}
 use Rattle.interlocking.proofs.answering.answered.Tie as tie
 
 -- the five tables, made for the routes before r
-abbrev invariant-loop : tie.invariant-loop
-invariant-loop before lamps sound kind first second ls rs n m then s e entry₀ fallen₀ phase₀ steps₀ seconds₀ r₀ entry fallen phase steps seconds r =
+abbrev invariant-loop-r : tie.invariant-loop-r
+invariant-loop-r before lamps sound kind first second ls rs n m then s e entry₀ fallen₀ phase₀ steps₀ seconds₀ r₀ entry fallen phase steps seconds r =
     (m ≤ most_lines) × (n ≤ most_train_routes) × (length rs ≡ most_train_routes)
     × Redone most_train_routes n (λ i was. (route rs i).entry) entry₀ entry r
     × Redone most_routes n (fallen_at ls rs (bare s)) s.phase fallen r
@@ -29,24 +29,24 @@ invariant-loop before lamps sound kind first second ls rs n m then s e entry₀ 
     × Redone most_train_routes n (λ i was. unless_idle (fell ls rs n (bare s)) i was (route_after ls rs (fell ls rs n (bare s)) e i).seconds) s.seconds seconds r
 
 -- the routes left
-abbrev decreases-loop : tie.decreases-loop
-decreases-loop before lamps sound kind first second ls rs n m then s e entry₀ fallen₀ phase₀ steps₀ seconds₀ r₀ entry fallen phase steps seconds r = n - r
+abbrev decreases-loop-r : tie.decreases-loop-r
+decreases-loop-r before lamps sound kind first second ls rs n m then s e entry₀ fallen₀ phase₀ steps₀ seconds₀ r₀ entry fallen phase steps seconds r = n - r
 
 -- the event is refused
-refused : tie.Need-returns invariant-loop decreases-loop
+refused : tie.Need-returns-then-t-ne0 invariant-loop-r decreases-loop-r
 unfolding core_step
-refused c = answer_refused _ _ _ _ _ _ (heads_given _ _ _ _ _ _ _ _ _ _ _ c.before.before.event_tried.ensures c.before.before.before.heads_then.ensures) _ c.if1.true refl
+refused c = answer_refused _ _ _ _ _ _ (heads_given _ _ _ _ _ _ _ _ _ _ _ c.event_tried-t.ensures c.heads_then-then.ensures) _ c.if-t-ne0.true refl
 
 -- before the first turn
-begins : tie.Need-loop-init invariant-loop decreases-loop
+begins : tie.Need-loop-r-init invariant-loop-r decreases-loop-r
 begins c =
-    let event = c.before.before.before.before.before.before.before.before in
-    let start = event.before.before.before.before in
-    let few = start.requires (done_sound _ _ _ _ _ event.event_tried.ensures c.before.before.before.before.before.before.if1.false) in
-    let tables = event.event_tried.type-inv.1.1.0.1.1.1.1.1 in (
+    let event = c in
+    let start = event in
+    let few = start.requires (done_sound _ _ _ _ _ event.event_tried-t.ensures c.if-t-ne0.false) in
+    let tables = event.event_tried-t.type_inv.1.1.0.1.1.1.1.1 in (
       few.0,
       few.1,
-      search (rules, length_mapped, start.well-formed.0.1.1.1.1.1.1.1.1.1.1.1.1.1.0),
+      search (rules, length_mapped, start.well_formed.0.1.1.1.1.1.1.1.1.1.1.1.1.1.0),
       redo_start _ _ _ _ few.1 (search rules),
       redo_start _ _ _ _ few.1 (search (rules, tables.0)),
       redo_start _ _ _ _ few.1 (search (rules, tables.0)),
@@ -55,11 +55,11 @@ begins c =
     )
 
 -- an idle route stays as it is
-idle : tie.Need-loop-preserved invariant-loop decreases-loop
+idle : tie.Need-loop-r-preserved-then-s-r-eq-IDLE invariant-loop-r decreases-loop-r
 idle c =
-    let i = c.before.before.before.before.loop.invariant in
-    let there = c.before.before.before.loop-test.true in
-    let none = c.if2.true in (
+    let i = c.loop-r.invariant in
+    let there = c.loop-r-test.true in
+    let none = c.if-s-r-eq-IDLE.true in (
       i.0,
       i.1,
       i.2,
@@ -71,13 +71,13 @@ idle c =
     )
 
 -- a locked route takes what becomes of it
-locked : tie.Need-loop-preserved-2 invariant-loop decreases-loop
+locked : tie.Need-loop-r-preserved invariant-loop-r decreases-loop-r
 locked c =
-    let turn = c.before.before.before.before.before.before.before.before.before in
-    let i = turn.before.before.before.before.loop.invariant in
-    let there = turn.before.before.before.loop-test.true in
-    let live = turn.if2.false in
-    let x = c.route_settled.ensures in (
+    let turn = c in
+    let i = turn.loop-r.invariant in
+    let there = turn.loop-r-test.true in
+    let live = turn.if-s-r-eq-IDLE.false in
+    let x = c.route_settled-x.ensures in (
       i.0,
       i.1,
       i.2,
@@ -89,57 +89,57 @@ locked c =
     )
 
 -- the tables are made, and what follows the walk completes them; where no block waits none opens
-answered : tie.Need-returns-2 invariant-loop decreases-loop
+answered : tie.Need-returns invariant-loop-r decreases-loop-r
 unfolding core_step
 answered c =
-    let asked = c.before.before.before in
-    let far = asked.before.before in
-    let i = far.before.before.loop.invariant in
-    let done = far.before.before.before.before.before.before.before.before.before in
-    let heads = done.before.before.before.heads_then.ensures in
-    answer_done _ _ _ _ _ _ (heads_given _ _ _ _ _ _ _ _ _ _ _ done.before.before.event_tried.ensures heads) _ _ done.if1.false
-    (c.put_together.ensures
-    ∙ completed_made _ _ _ _ _ _ _ _ (walk_ended _ _ _ _ _ _ _ _ _ _ i.3 i.4 i.5 i.6 i.7 far.before.loop-test.false) i.0 i.1
-    (search (rules, done.before.before.event_tried.type-inv.1.1.0.1.1.1.1.1.0)) far.far_after.ensures
-    (⊎_elim (λ w. w.2 ∙ w.1.ensures) (λ w. w.1 ∙ passed_idle _ _ _ _ _ _ (search rules) asked.none_waits.ensures w.0.left) c.before.before.if3.branch)) heads
+    let asked = c in
+    let far = asked in
+    let i = far.loop-r.invariant in
+    let done = far in
+    let heads = done.heads_then-then.ensures in
+    answer_done _ _ _ _ _ _ (heads_given _ _ _ _ _ _ _ _ _ _ _ done.event_tried-t.ensures heads) _ _ done.if-t-ne0.false
+    (c.put_together-next.ensures
+    ∙ completed_made _ _ _ _ _ _ _ _ (walk_ended _ _ _ _ _ _ _ _ _ _ i.3 i.4 i.5 i.6 i.7 far.loop-r-test.false) i.0 i.1
+    (search (rules, done.event_tried-t.type_inv.1.1.0.1.1.1.1.1.0)) far.far_after-far.ensures
+    (⊎_elim (λ w. w.2 ∙ w.1.ensures) (λ w. w.1 ∙ passed_idle _ _ _ _ _ _ (search rules) asked.none_waits.ensures w.0.left) c.if-not-none_waits.branch)) heads
 
 pub answered_spec : {M : Type 1} → statement M
 answered_spec =
     tie.close
     (tie.spec
-    invariant-loop
-    decreases-loop
+    invariant-loop-r
+    decreases-loop-r
     (λ c κs. search rules)
-    (λ c κs. λ z. (c.before.before.before.requires z).0)
+    (λ c κs. λ z. (c.requires z).0)
     refused
     begins
     (λ c. search rules)
     (λ c. search rules)
-    (λ c. search (rules, c.before.loop.invariant.1, c.loop-test.true))
+    (λ c. search (rules, c.loop-r.invariant.1, c.loop-r-test.true))
     (λ c. search rules)
-    (λ c. search (rules, c.before.before.loop.invariant.1, c.before.loop-test.true))
+    (λ c. search (rules, c.loop-r.invariant.1, c.loop-r-test.true))
     (λ c. search rules)
-    (λ c. search (rules, c.before.before.loop.invariant.1, c.before.loop-test.true))
-    (λ c. search (rules, c.before.before.before.before.loop.invariant.1, c.before.before.before.loop-test.true))
-    (λ c. search (rules, c.before.before.before.before.loop.invariant.1, c.before.before.before.loop-test.true))
+    (λ c. search (rules, c.loop-r.invariant.1, c.loop-r-test.true))
+    (λ c. search (rules, c.loop-r.invariant.1, c.loop-r-test.true))
+    (λ c. search (rules, c.loop-r.invariant.1, c.loop-r-test.true))
     idle
     (λ c. search rules)
-    (λ c. search (rules, c.before.before.before.before.loop.invariant.1, c.before.before.before.loop-test.true))
+    (λ c. search (rules, c.loop-r.invariant.1, c.loop-r-test.true))
     (λ c. search rules)
-    (λ c. search (rules, c.before.before.before.before.before.loop.invariant.1, c.before.before.before.before.loop-test.true))
+    (λ c. search (rules, c.loop-r.invariant.1, c.loop-r-test.true))
     (λ c. search rules)
-    (λ c. search (rules, c.before.before.before.before.before.before.loop.invariant.1, c.before.before.before.before.before.loop-test.true))
+    (λ c. search (rules, c.loop-r.invariant.1, c.loop-r-test.true))
     (λ c κs. search rules)
     (λ c. search rules)
-    (λ c. let turn = c.before.before.before.before.before.before.before.before.before in search (rules, turn.before.before.before.before.loop.invariant.1, turn.before.before.before.loop-test.true))
+    (λ c. let turn = c in search (rules, turn.loop-r.invariant.1, turn.loop-r-test.true))
     (λ c. search rules)
-    (λ c. let turn = c.before.before.before.before.before.before.before.before.before in search (rules, turn.before.before.before.before.loop.invariant.1, turn.before.before.before.loop-test.true))
+    (λ c. let turn = c in search (rules, turn.loop-r.invariant.1, turn.loop-r-test.true))
     (λ c. search rules)
-    (λ c. let turn = c.before.before.before.before.before.before.before.before.before in search (rules, turn.before.before.before.before.loop.invariant.1, turn.before.before.before.loop-test.true))
+    (λ c. let turn = c in search (rules, turn.loop-r.invariant.1, turn.loop-r-test.true))
     (λ c. search rules)
-    (λ c. let turn = c.before.before.before.before.before.before.before.before.before in search (rules, turn.before.before.before.before.loop.invariant.1, turn.before.before.before.loop-test.true))
-    (λ c. let turn = c.before.before.before.before.before.before.before.before.before in search (rules, turn.before.before.before.before.loop.invariant.1, turn.before.before.before.loop-test.true))
-    (λ c. let turn = c.before.before.before.before.before.before.before.before.before in search (rules, turn.before.before.before.before.loop.invariant.1, turn.before.before.before.loop-test.true))
+    (λ c. let turn = c in search (rules, turn.loop-r.invariant.1, turn.loop-r-test.true))
+    (λ c. let turn = c in search (rules, turn.loop-r.invariant.1, turn.loop-r-test.true))
+    (λ c. let turn = c in search (rules, turn.loop-r.invariant.1, turn.loop-r-test.true))
     locked
     (λ c κs. search rules)
     (λ c κs. search rules)

@@ -6,11 +6,11 @@ use Rattle.track.specs.Sizes.{most_places}
 use Rattle.interlocking.proofs.orders.opened_stages.Statement.{statement}
 use Rattle.interlocking.proofs.orders.opened_stages.Tie as tie
 
-abbrev invariant-loop : tie.invariant-loop
-invariant-loop m ls l stage₀ k₀ stage k = Redone most_places m (open_at ls l) stage₀ stage k
+abbrev invariant-loop-k : tie.invariant-loop-k
+invariant-loop-k m ls l stage₀ k₀ stage k = Redone most_places m (open_at ls l) stage₀ stage k
 
-abbrev decreases-loop : tie.decreases-loop
-decreases-loop m ls l stage₀ k₀ stage k = m - k
+abbrev decreases-loop-k : tie.decreases-loop-k
+decreases-loop-k m ls l stage₀ k₀ stage k = m - k
 
 pub opened_stages_spec : {M : Type 1} → statement M
-opened_stages_spec = tie.close (tie.spec invariant-loop decreases-loop (λ c. search redoes) (λ c. search redoes) (λ c. search redoes) (λ c κs. search redoes) (λ c. search redoes) (λ c. search redoes) (λ c. search redoes) (λ c. search redoes) (λ c. search redoes) (λ c. search redoes))
+opened_stages_spec = tie.close (tie.spec invariant-loop-k decreases-loop-k (λ c. search redoes) (λ c. search redoes) (λ c. search redoes) (λ c κs. search redoes) (λ c. search redoes) (λ c. search redoes) (λ c. search redoes) (λ c. search redoes) (λ c. search redoes) (λ c. search redoes))

@@ -8,4 +8,4 @@ use Rattle.interlocking.proofs.orders.read_section.Tie as tie
 
 pub read_section_spec : {M : Type 1} → statement M
 unfolding with_sections core_of
-read_section_spec = tie.close (tie.spec (λ c. search rules) (λ c κs. search rules) (λ c κs. search rules) (λ c. section_made _ _ _ _ _ _ _ _ _ c.before.before.before.before.before.before.before.before.before.requires c.before.before.before.before.before.before.store.ensures c.own_stages.ensures))
+read_section_spec = tie.close (tie.spec (λ c. search rules) (λ c κs. search rules) (λ c κs. search rules) (λ c. section_made _ _ _ _ _ _ _ _ _ c.requires c.store.ensures c.own_stages-stage.ensures))

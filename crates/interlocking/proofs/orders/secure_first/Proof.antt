@@ -5,4 +5,4 @@ use Rattle.interlocking.proofs.orders.secure_first.Statement.{statement}
 use Rattle.interlocking.proofs.orders.secure_first.Tie as tie
 
 pub secure_first_spec : {M : Type 1} → statement M
-secure_first_spec = tie.close (tie.spec (λ c κs. search rules) (λ c κs. search rules) (λ c κs. search rules) (λ c. first_secured _ _ _ c.before.before.before.departs.ensures _ _ c.before.before.if1.true c.before.direction_from.ensures c.secure.ensures) (λ c. first_stays _ _ _ c.before.departs.ensures c.if1.false))
+secure_first_spec = tie.close (tie.spec (λ c κs. search rules) (λ c κs. search rules) (λ c κs. search rules) (λ c. first_secured _ _ _ c.departs.ensures _ _ c.if-departs.true c.direction_from.ensures c.secure.ensures) (λ c. first_stays _ _ _ c.departs.ensures c.if-departs.false))

@@ -11,5 +11,5 @@ lamps_then_spec =
     (tie.spec
     (λ c κs. search rules)
     (λ c κs. search rules)
-    (λ c. lamp_told_law _ _ _ _ _ _ _ c.before.before.before.if1.true c.before.before.reading_for.ensures c.store.ensures)
-    (λ c. lamp_left _ _ _ _ _ _ c.if1.false refl))
+    (λ c. lamp_told_law _ _ _ _ _ _ _ c.if-number-kind.true c.reading_for-code.ensures c.store.ensures)
+    (λ c. lamp_left _ _ _ _ _ _ c.if-number-kind.false refl))

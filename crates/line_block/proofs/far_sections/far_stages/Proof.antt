@@ -10,5 +10,5 @@ pub far_stages_spec : {M : Type 1} → statement M
 unfolding far_stages
 far_stages_spec =
     tie.close
-    (tie.spec (λ c κs. search rules) (λ c. omega (arith, few_fit _ _ c.few_lines_law.ensures))
-    (λ c κs. (omega (arith, few_fit _ _ c.few_lines_law.ensures), search rules)) (λ c. simp (c.moved_stages.ensures, c.few_lines_law.ensures)))
+    (tie.spec (λ c κs. search rules) (λ c. omega (arith, few_fit _ _ c.few_lines-lines.ensures))
+    (λ c κs. (omega (arith, few_fit _ _ c.few_lines-lines.ensures), search rules)) (λ c. simp (c.moved_stages.ensures, c.few_lines-lines.ensures)))

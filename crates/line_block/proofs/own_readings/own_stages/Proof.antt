@@ -14,20 +14,20 @@ own_stages_spec =
     tie.close
     (tie.spec
     (λ c κs. search rules)
-    (λ c. omega (arith, few_fit _ _ c.few_lines_law.ensures))
-    (λ c κs. (omega (arith, few_fit _ _ c.few_lines_law.ensures), search rules))
+    (λ c. omega (arith, few_fit _ _ c.few_lines-lines.ensures))
+    (λ c κs. (omega (arith, few_fit _ _ c.few_lines-lines.ensures), search rules))
     (λ c κs. search rules)
     (λ c.
     let given = c in
-    let few = given.few_lines_law.ensures in
+    let few = given.few_lines-lines.ensures in
     rw (← few)
-    (own_unwaited _ _ _ _ _ _ _ (few_long _ _ given.args.t7 few (search rules)) (few_fit _ _ few) _ given.given_stages-own.ensures _ c.none_waits.ensures
+    (own_unwaited _ _ _ _ _ _ _ (few_long _ _ given.args.stages few (search rules)) (few_fit _ _ few) _ given.given_stages-own.ensures _ c.none_waits.ensures
     c.if-none_waits.true))
-    (λ c. omega (arith, few_fit _ _ c.few_lines_law.ensures))
-    (λ c κs. (omega (arith, few_fit _ _ c.few_lines_law.ensures), search rules))
+    (λ c. omega (arith, few_fit _ _ c.few_lines-lines.ensures))
+    (λ c κs. (omega (arith, few_fit _ _ c.few_lines-lines.ensures), search rules))
     (λ c.
     let given = c in
-    let few = given.few_lines_law.ensures in
+    let few = given.few_lines-lines.ensures in
     rw (← few)
-    (own_passed _ _ _ _ _ _ _ (few_long _ _ given.args.t7 few (search (rules, given.well_formed))) _ _ given.given_stages-own.ensures
+    (own_passed _ _ _ _ _ _ _ (few_long _ _ given.args.stages few (search (rules, given.well_formed))) _ _ given.given_stages-own.ensures
     c.passed_back.ensures)))

@@ -23,7 +23,7 @@ unreleased c =
     let i = turn.loop-r.invariant in (
       omega (arith, i.0, turn.loop-r-test.true),
       arrived_unreleased _ _ _ _ _ _ i.1 _ _ _ (search (rules, length_mapped)) turn.if-r-ge-MOST_TRAIN_ROUTES.false c.direction_of-w.ensures c.is_released_entrance.ensures
-          (not-true _ c.if-not-is_released_entrance.true),
+          c.if-not-is_released_entrance.true,
     )
 
 -- one of a line that there is not
@@ -43,7 +43,7 @@ here c =
     let i = turn.loop-r.invariant in (
       omega (arith, i.0, turn.loop-r-test.true),
       arrived_here _ _ _ _ _ _ i.1 _ _ _ (search (rules, length_mapped)) turn.if-r-ge-MOST_TRAIN_ROUTES.false c.direction_of-w.ensures
-          c.is_released_entrance.ensures (not-false _ c.if-not-is_released_entrance.false) c.if-a-ge-MOST_LINES.false,
+          c.is_released_entrance.ensures c.if-not-is_released_entrance.false c.if-a-ge-MOST_LINES.false,
     )
 
 pub arrivals_spec : {M : Type 1} → statement M

@@ -14,10 +14,10 @@ stages_after_arrivals_spec =
     (tie.spec
     (λ c κs. search rules)
     (λ c κs. search (rules, few_fit))
-    (λ c. omega (arith, few_fit _ _ c.few_lines_law.ensures))
-    (λ c κs. (omega (arith, few_fit _ _ c.few_lines_law.ensures), search rules))
+    (λ c. omega (arith, few_fit _ _ c.few_lines-lines.ensures))
+    (λ c κs. (omega (arith, few_fit _ _ c.few_lines-lines.ensures), search rules))
     (λ c.
     let start = c in
-    let few = c.few_lines_law.ensures in
+    let few = c.few_lines-lines.ensures in
     rw (← few)
-    (arrivals_pass _ _ _ _ (few_long _ _ start.args.t8 few (search rules)) (few_fit _ _ few) _ _ _ _ _ c.arrivals-arrived.ensures _ c.passed_back.ensures)))
+    (arrivals_pass _ _ _ _ (few_long _ _ start.args.stages few (search rules)) (few_fit _ _ few) _ _ _ _ _ c.arrivals-arrived.ensures _ c.passed_back.ensures)))
