@@ -1,6 +1,6 @@
 -- Soundness is asked, and the kind chooses the row.
 use borrow.Author.Rules.{rules}
-use Rattle.laws.specs.Choice.{if◌then◌else◌}
+use Rattle.laws.specs.Choice.{when◌then◌else◌}
 use Rattle.track.specs.Codes.{bar_block}
 use Rattle.interlocking.specs.Rows.{row_with, row_of}
 use Rattle.interlocking.specs.Step.{step_where}
@@ -9,5 +9,5 @@ use Rattle.interlocking.proofs.State.bar_block.Statement.{statement}
 use Rattle.interlocking.proofs.State.bar_block.Tie as tie
 
 pub bar_block_spec : {M : Type 1} → statement M
-unfolding step_where row_of row_with if◌then◌else◌
+unfolding step_where row_of row_with when◌then◌else◌
 bar_block_spec = tie.close (tie.spec (λ c κs. search rules) (λ c κs. sound_holds _ _ _ c.is_sound-asked.ensures) (λ c. step_asked _ _ bar_block _ _ _ _ c.is_sound-asked.ensures c.answer.ensures))

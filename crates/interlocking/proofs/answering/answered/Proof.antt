@@ -1,9 +1,11 @@
 -- The walk over the routes makes their tables; from these comes what follows the event, and where no block waits none opens.
-use Prim.Native.Nat.{◌-◌, ◌≤◌}
+use Rattle.std.proofs.Common.{Fits, w8}
+use Prim.Native.Nat.{ℕ, ◌+◌, ◌-◌, ◌<◌, ◌≤◌}
 use borrow.Author.Rules.{rules}
+use native.Mathlib.Omega.{arith}
 use lib.ListN.{length}
 use mathlib.Core.Path.{◌≡◌, refl, ap, ◌∙◌}
-use mathlib.Core.Logic.{⊎_elim}
+use mathlib.Core.Bool.{not}
 use Rattle.laws.proofs.Arrays.{length_mapped}
 use Rattle.laws.proofs.Each.{Redone, redo_start, redo_on, redo_skip}
 use Rattle.track.specs.declared.Route.{Route}
@@ -15,8 +17,13 @@ use Rattle.interlocking.specs.Parts.{bare, core_step}
 use Rattle.interlocking.proofs.Walk.{fell, walk_ended}
 use Rattle.interlocking.proofs.Settled.{route_in, completed_made, idle_stays, signal_falls, phase_takes, step_takes, second_takes, idle_kept, falls_on}
 use Rattle.interlocking.proofs.Trying.{heads_given, answer_refused, answer_done, done_sound}
+use Rattle.interlocking.proofs.answering.answered.Lts.{then-not-none_waits, else-not-none_waits}
 use Rattle.interlocking.proofs.answering.answered.Statement.{statement}
 use Rattle.interlocking.proofs.answering.answered.Tie as tie
+
+-- the number after a route's is a byte
+next_fits : (r n : ℕ) → n ≤ most_train_routes → r < n → Fits w8 (r + 1)
+next_fits r n few here = search (rules, few, here)
 
 -- the five tables, made for the routes before r
 abbrev invariant-loop-r : tie.invariant-loop-r
@@ -101,7 +108,10 @@ answered c =
     (c.put_together-next.ensures
     ∙ completed_made _ _ _ _ _ _ _ _ (walk_ended _ _ _ _ _ _ _ _ _ _ i.3 i.4 i.5 i.6 i.7 far.loop-r-test.false) i.0 i.1
     (search (rules, done.event_tried-t.type_inv.1.1.0.1.1.1.1.1.0)) far.far_after-far.ensures
-    (⊎_elim (λ w. w.2 ∙ w.1.ensures) (λ w. w.1 ∙ passed_idle _ _ _ _ _ _ (search rules) asked.none_waits.ensures w.0.left) c.if-not-none_waits.branch)) heads
+    (elim c.if-not-none_waits.branch [
+      then-not-none_waits w ↦ w.stage-is ∙ w.arrivals_after-stage.ensures
+    | else-not-none_waits w ↦ w.stage-is ∙ passed_idle _ _ _ _ _ _ (search rules) asked.none_waits.ensures (ap not w.if-not-none_waits.false)
+    ])) heads
 
 pub answered_spec : {M : Type 1} → statement M
 answered_spec =
@@ -138,8 +148,8 @@ answered_spec =
     (λ c. let turn = c in search (rules, turn.loop-r.invariant.1, turn.loop-r-test.true))
     (λ c. search rules)
     (λ c. let turn = c in search (rules, turn.loop-r.invariant.1, turn.loop-r-test.true))
-    (λ c. let turn = c in search (rules, turn.loop-r.invariant.1, turn.loop-r-test.true))
-    (λ c. let turn = c in search (rules, turn.loop-r.invariant.1, turn.loop-r-test.true))
+    (λ c. next_fits _ _ c.loop-r.invariant.1 c.loop-r-test.true)
+    (λ c. omega (arith, c.loop-r-test.true))
     locked
     (λ c κs. search rules)
     (λ c κs. search rules)

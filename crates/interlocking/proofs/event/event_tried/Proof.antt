@@ -1,7 +1,7 @@
 -- Kind by kind, the row of the method that is called.
 use mathlib.Core.Path.{◌∙◌}
 use borrow.Author.Rules.{rules}
-use Rattle.laws.specs.Choice.{if◌then◌else◌}
+use Rattle.laws.specs.Choice.{when◌then◌else◌}
 use Rattle.interlocking.specs.Rows.{row_with}
 use Rattle.interlocking.proofs.Rows.{row_at}
 use Rattle.interlocking.proofs.Trying.{point_dark, throw_dark, cancel_dark, manual_dark, bar_dark, second_dark}
@@ -11,7 +11,7 @@ use Rattle.interlocking.proofs.event.event_tried.Tie as tie
 -- none of the kinds that have a method of their own
 other : tie.Need-of_heads_or_unknown-requires
 other c κs =
-    let n = c.in-1.rest in (
+    let n = c.in_default.in_default-own.rest in (
       c.requires,
       record {
         no_section = n.0.0.0.0.0.0.0.0.0.0.1;
@@ -29,7 +29,7 @@ other c κs =
     )
 
 pub event_tried_spec : {M : Type 1} → statement M
-unfolding row_with if◌then◌else◌
+unfolding row_with when◌then◌else◌
 event_tried_spec =
     tie.close
     (tie.spec
