@@ -8,27 +8,27 @@ use Rattle.panel.proofs.draw.Statement.{statement}
 use Rattle.panel.proofs.draw.Tie as tie
 
 -- the readings have room
-put_readings_requires : tie.Need-put-readings-requires
+put_readings_requires : tie.Need-put_readings-objects-requires
 unfolding panel_length
-put_readings_requires c κs = (search rules, omega (arith, c.before.before.before.requires.1))
+put_readings_requires c κs = (search rules, omega (arith, c.requires.1))
 
 -- what is left after the readings has room for signals, routes and lines
-put_objects_requires : tie.Need-put-objects-requires
+put_objects_requires : tie.Need-put_objects-blocks-requires
 unfolding panel_length
 put_objects_requires c κs =
-    let done = c.before.before.before in
-    let readings = done.put_readings.ensures in
-    (search rules, omega (arith, done.before.before.before.before.requires.1, readings_next _ _ readings, wrote_length readings))
+    let done = c in
+    let readings = done.put_readings-objects.ensures in
+    (search rules, omega (arith, done.requires.1, readings_next _ _ readings, wrote_length readings))
 
 -- what is left after these has room for the blocks
-put_lines_requires : tie.Need-put-lines-requires
+put_lines_requires : tie.Need-put_lines-requires
 unfolding panel_length
 put_lines_requires c κs =
-    let then = c.before.before.before.before.before.before.before.before in
-    let done = then.before.before.before.before in
-    let objects = then.put_objects.ensures in
-    let readings = done.put_readings.ensures in
-    let room = done.before.before.before.before.requires.1 in
+    let then = c in
+    let done = then in
+    let objects = then.put_objects-blocks.ensures in
+    let readings = done.put_readings-objects.ensures in
+    let room = done.requires.1 in
     (search rules, omega (arith, room, readings_next _ _ readings, wrote_length readings, objects_next _ _ objects, wrote_length objects))
 
 pub draw_spec : {M : Type 1} → statement M

@@ -5,23 +5,23 @@ use Rattle.panel.proofs.panel.Statement.{statement}
 use Rattle.panel.proofs.panel.Tie as tie
 
 -- 18: the state is not in range
-returns : tie.Need-returns
-returns c = unsound_state _ _ _ _ c.before.in_range_law.ensures c.if1.true
+returns : tie.Need-returns-then-not-in_range
+returns c = unsound_state _ _ _ _ c.in_range.ensures c.if-not-in_range.true-raw
 
 -- 18: the layout is not sound
-returns_2 : tie.Need-returns-2
-returns_2 c = unsound_layout _ _ _ _ c.before.sound.ensures c.if2.true
+returns_2 : tie.Need-returns-then-not-sound
+returns_2 c = unsound_layout _ _ _ _ c.sound.ensures c.if-not-sound.true-raw
 
 -- a sound layout is within the tables
-draw_in_requires : tie.Need-draw-in-requires
-draw_in_requires c κs = let asked = c.before.before in sound_holds _ _ asked.before.sound.ensures asked.if2.false
+draw_in_requires : tie.Need-draw_in-requires
+draw_in_requires c κs = let asked = c in sound_holds _ _ asked.sound.ensures asked.if-not-sound.false-raw
 
 -- both are in order
-returns_3 : tie.Need-returns-3
+returns_3 : tie.Need-returns
 returns_3 c =
-    let asked = c.before.before.before.before.before in
-    sound_drawn _ _ _ _ _ _ _ asked.before.before.before.in_range_law.ensures asked.before.before.if1.false asked.before.sound.ensures
-    asked.if2.false (core_drawn _ _ _ _ _ _ c.before.before.before.before.core_of.ensures c.before.before.draw_in.ensures)
+    let asked = c in
+    sound_drawn _ _ _ _ _ _ _ asked.in_range.ensures asked.if-not-in_range.false-raw asked.sound.ensures
+    asked.if-not-sound.false-raw (core_drawn _ _ _ _ _ _ c.core_of-core.ensures c.draw_in.ensures)
 
 pub panel_spec : {M : Type 1} → statement M
 panel_spec =

@@ -5,18 +5,18 @@ use Rattle.panel.proofs.panel_in_run.Statement.{statement}
 use Rattle.panel.proofs.panel_in_run.Tie as tie
 
 -- 18: the layout is not within the tables
-returns : tie.Need-returns
-returns c = run_unsound _ _ _ _ c.before.is_drawable.ensures c.if1.true
+returns : tie.Need-returns-then-not-is_drawable
+returns c = run_unsound _ _ _ _ c.is_drawable.ensures c.if-not-is_drawable.true-raw
 
 -- it is
-draw_in_requires : tie.Need-draw-in-requires
-draw_in_requires c κs = let asked = c.before in asked_holds _ _ asked.before.is_drawable.ensures asked.if1.false
+draw_in_requires : tie.Need-draw_in-requires
+draw_in_requires c κs = let asked = c in asked_holds _ _ asked.is_drawable.ensures asked.if-not-is_drawable.false-raw
 
 -- so it is drawn
-returns_2 : tie.Need-returns-2
+returns_2 : tie.Need-returns
 returns_2 c =
-    let asked = c.before.before.before.before in
-    run_drawn _ _ _ _ _ _ asked.before.is_drawable.ensures asked.if1.false c.before.before.draw_in.ensures
+    let asked = c in
+    run_drawn _ _ _ _ _ _ asked.is_drawable.ensures asked.if-not-is_drawable.false-raw c.draw_in.ensures
 
 pub panel_in_run_spec : {M : Type 1} → statement M
 panel_in_run_spec = tie.close (tie.spec (λ c κs. search rules) returns draw_in_requires (λ c. search rules) returns_2)

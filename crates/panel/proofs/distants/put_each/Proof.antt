@@ -13,29 +13,29 @@ use Rattle.panel.proofs.distants.put_each.Statement.{statement}
 use Rattle.panel.proofs.distants.put_each.Tie as tie
 
 -- the bytes of the first d distants are written, and the next place is d further on
-abbrev invariant-loop : tie.invariant-loop
-invariant-loop m n ls mains directions points stages bars count carriers announced buffer₀ at d₀ next₀ buffer d next =
+abbrev invariant-loop-d : tie.invariant-loop-d
+invariant-loop-d m n ls mains directions points stages bars count carriers announced buffer₀ at d₀ next₀ buffer d next =
     (d ≤ count) × (next ≡ at + d) × (length buffer ≡ length buffer₀)
     × Wrote buffer₀ at (table d (λ k. distant_shows (number_shown_by m n ls mains directions points stages bars) (get_or carriers k 0) (get_or announced k 0))) buffer next
 
 -- the distants left
-abbrev decreases-loop : tie.decreases-loop
-decreases-loop m n ls mains directions points stages bars count carriers announced buffer₀ at d₀ next₀ buffer d next = count - d
+abbrev decreases-loop-d : tie.decreases-loop-d
+decreases-loop-d m n ls mains directions points stages bars count carriers announced buffer₀ at d₀ next₀ buffer d next = count - d
 
 -- before the first distant nothing is written
-loop-holds : tie.Need-loop-init invariant-loop decreases-loop
+loop-holds : tie.Need-loop-d-init invariant-loop-d decreases-loop-d
 loop-holds c = (omega arith, omega arith, refl, search writes)
 
 -- distant d is written after those before it
-loop-again : tie.Need-loop-preserved invariant-loop decreases-loop
+loop-again : tie.Need-loop-d-preserved invariant-loop-d decreases-loop-d
 loop-again c = (omega arith, omega arith, search rules, search writes)
 
 pub put_each_spec : {M : Type 1} → statement M
 put_each_spec =
     tie.close
     (tie.spec
-    invariant-loop
-    decreases-loop
+    invariant-loop-d
+    decreases-loop-d
     loop-holds
     (λ c. search rules)
     (λ c. search rules)

@@ -9,20 +9,20 @@ use Rattle.panel.proofs.lines.count_blocks.Statement.{statement}
 use Rattle.panel.proofs.lines.count_blocks.Tie as tie
 
 -- the blocks of the first l lines are counted
-abbrev invariant-loop : tie.invariant-loop
-invariant-loop n ls count₀ l₀ count l = (l ≤ n) × (count ≡ blocks l ls) × (count ≤ 255 * l)
+abbrev invariant-loop-l : tie.invariant-loop-l
+invariant-loop-l n ls count₀ l₀ count l = (l ≤ n) × (count ≡ blocks l ls) × (count ≤ 255 * l)
 
 -- the lines left
-abbrev decreases-loop : tie.decreases-loop
-decreases-loop n ls count₀ l₀ count l = n - l
+abbrev decreases-loop-l : tie.decreases-loop-l
+decreases-loop-l n ls count₀ l₀ count l = n - l
 
 -- before the first line none is counted
-loop-holds : tie.Need-loop-init invariant-loop decreases-loop
+loop-holds : tie.Need-loop-l-init invariant-loop-l decreases-loop-l
 loop-holds c = (omega arith, sym (blocks_none _), omega arith)
 
 -- line l adds its own
-loop-again : tie.Need-loop-preserved invariant-loop decreases-loop
+loop-again : tie.Need-loop-l-preserved invariant-loop-l decreases-loop-l
 loop-again c = (omega arith, search (rules, count_on), search rules)
 
 pub count_blocks_spec : {M : Type 1} → statement M
-count_blocks_spec = tie.close (tie.spec invariant-loop decreases-loop loop-holds (λ c. search rules) (λ c. search rules) (λ c. search rules) (λ c. search rules) (λ c. search rules) (λ c. search rules) (λ c. search rules) loop-again (λ c. search (rules, count_end)))
+count_blocks_spec = tie.close (tie.spec invariant-loop-l decreases-loop-l loop-holds (λ c. search rules) (λ c. search rules) (λ c. search rules) (λ c. search rules) (λ c. search rules) (λ c. search rules) (λ c. search rules) loop-again (λ c. search (rules, count_end)))

@@ -12,25 +12,25 @@ use Rattle.panel.proofs.lines.put_blocks.Statement.{statement}
 use Rattle.panel.proofs.lines.put_blocks.Tie as tie
 
 -- the bytes of the first i blocks are written, and the next place is three further on for each
-abbrev invariant-loop : tie.invariant-loop
-invariant-loop stages bars n way placed l buffer₀ at i₀ next₀ buffer i next =
+abbrev invariant-loop-i : tie.invariant-loop-i
+invariant-loop-i stages bars n way placed l buffer₀ at i₀ next₀ buffer i next =
     (i ≤ n) × (next ≡ at + 3 * i) × (length buffer ≡ length buffer₀) × Wrote buffer₀ at (join i (block_by stages bars n way placed l)) buffer next
 
 -- the blocks left
-abbrev decreases-loop : tie.decreases-loop
-decreases-loop stages bars n way placed l buffer₀ at i₀ next₀ buffer i next = n - i
+abbrev decreases-loop-i : tie.decreases-loop-i
+decreases-loop-i stages bars n way placed l buffer₀ at i₀ next₀ buffer i next = n - i
 
 -- before the first block nothing is written
-loop-holds : tie.Need-loop-init invariant-loop decreases-loop
+loop-holds : tie.Need-loop-i-init invariant-loop-i decreases-loop-i
 loop-holds c = (omega arith, omega arith, refl, search writes)
 
 -- there is room for block i
-put_block_requires : tie.Need-put-block-requires invariant-loop decreases-loop
+put_block_requires : tie.Need-put_block-next-requires invariant-loop-i decreases-loop-i
 put_block_requires c κs = omega arith
 
 -- block i is written after those before it
-loop-again : tie.Need-loop-preserved invariant-loop decreases-loop
-loop-again c = (omega arith, omega (arith, block_next _ _ _ _ _ _ _ c.before.before.put_block.ensures), search (rules, wrote_length), search writes)
+loop-again : tie.Need-loop-i-preserved invariant-loop-i decreases-loop-i
+loop-again c = (omega arith, omega (arith, block_next _ _ _ _ _ _ _ c.put_block-next.ensures), search (rules, wrote_length), search writes)
 
 pub put_blocks_spec : {M : Type 1} → statement M
-put_blocks_spec = tie.close (tie.spec invariant-loop decreases-loop loop-holds put_block_requires (λ c. search rules) (λ c. search rules) loop-again (λ c. search rules) (λ c. search writes))
+put_blocks_spec = tie.close (tie.spec invariant-loop-i decreases-loop-i loop-holds put_block_requires (λ c. search rules) (λ c. search rules) loop-again (λ c. search rules) (λ c. search writes))

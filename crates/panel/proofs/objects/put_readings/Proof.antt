@@ -7,9 +7,9 @@ use Rattle.panel.proofs.objects.put_readings.Statement.{statement}
 use Rattle.panel.proofs.objects.put_readings.Tie as tie
 
 -- what is left after the sections has room for the points
-copy_requires_2 : tie.Need-copy-requires-2
+copy_requires_2 : tie.Need-copy-requires
 copy_requires_2 c κs =
-    let sections = c.before.before.before.before.before.before.copy.ensures in
+    let sections = c.copy-next.ensures in
     (search rules, omega (arith, table_next _ _ sections, wrote_length sections))
 
 pub put_readings_spec : {M : Type 1} → statement M

@@ -12,21 +12,21 @@ use Rattle.panel.proofs.objects.put_routes.Statement.{statement}
 use Rattle.panel.proofs.objects.put_routes.Tie as tie
 
 -- the bytes of the first i routes are written, and the next place is i further on
-abbrev invariant-loop : tie.invariant-loop
-invariant-loop phases n buffer₀ at i₀ next₀ buffer i next =
+abbrev invariant-loop-i : tie.invariant-loop-i
+invariant-loop-i phases n buffer₀ at i₀ next₀ buffer i next =
     (i ≤ n) × (next ≡ at + i) × (length buffer ≡ length buffer₀) × Wrote buffer₀ at (table i (λ k. route_byte (get_or phases k 0))) buffer next
 
 -- the routes left
-abbrev decreases-loop : tie.decreases-loop
-decreases-loop phases n buffer₀ at i₀ next₀ buffer i next = n - i
+abbrev decreases-loop-i : tie.decreases-loop-i
+decreases-loop-i phases n buffer₀ at i₀ next₀ buffer i next = n - i
 
 -- before the first route nothing is written
-loop-holds : tie.Need-loop-init invariant-loop decreases-loop
+loop-holds : tie.Need-loop-i-init invariant-loop-i decreases-loop-i
 loop-holds c = (omega arith, omega arith, refl, search writes)
 
 -- route i is written after those before it
-loop-again : tie.Need-loop-preserved invariant-loop decreases-loop
+loop-again : tie.Need-loop-i-preserved invariant-loop-i decreases-loop-i
 loop-again c = (omega arith, omega arith, search rules, search writes)
 
 pub put_routes_spec : {M : Type 1} → statement M
-put_routes_spec = tie.close (tie.spec invariant-loop decreases-loop loop-holds (λ c. search rules) (λ c. search rules) (λ c κs. search rules) (λ c. omega arith) (λ c. search rules) (λ c. search rules) (λ c. search rules) loop-again (λ c. search rules) (λ c. search writes))
+put_routes_spec = tie.close (tie.spec invariant-loop-i decreases-loop-i loop-holds (λ c. search rules) (λ c. search rules) (λ c κs. search rules) (λ c. omega arith) (λ c. search rules) (λ c. search rules) (λ c. search rules) loop-again (λ c. search rules) (λ c. search writes))
