@@ -95,7 +95,7 @@ step_heads L s e = answer_heads L s e (ending _ L s e.kind e.first e.second)
 run_heads : (L : Layout) (s : State) (es : List Event) → length (state_after (box L) s es).axles ≡ length s.axles
 unfolding state_after box
 run_heads L s [] = refl
-run_heads L s (e ∷ es) = run_heads L _ es ∙ step_heads L s e
+run_heads L s (e ∷ es) = run_heads L (box L s e).next es ∙ step_heads L s e
 
 -- so from the cold start every section has its heads
 pub cold_run_heads : (L : Layout) (es : List Event) → length (from_cold L es).axles ≡ most_sections

@@ -23,7 +23,7 @@ use Rattle.step_facts.proofs.Step.{step_in_range, unsound_18, sound_numbers, run
 run_in_range : (L : Layout) (s : State) (es : List Event) → in_range s ≡ true → in_range (state_after (box L) s es) ≡ true
 unfolding state_after box
 run_in_range L s [] h = h
-run_in_range L s (e ∷ es) h = run_in_range L _ es (step_in_range L s _ _ _ h)
+run_in_range L s (e ∷ es) h = run_in_range L (box L s e).next es (step_in_range L s _ _ _ h)
 
 -- from the cold start, after every list of events, on any layout
 pub cold_run_in_range : (L : Layout) (es : List Event) → in_range (from_cold L es) ≡ true
@@ -55,7 +55,7 @@ module _ (L : Layout) (h : sound L ≡ true) where
   unfolding answers box box_in_run
   same_answers s [] g = refl
   same_answers s (e ∷ es) g =
-      rw (run_step_same L s e.kind e.first e.second h g) (ap (λ (rs : List Answer). box L s e ∷ rs) (same_answers _ es (step_in_range L s _ _ _ g)))
+      rw (run_step_same L s e.kind e.first e.second h g) (ap (λ (rs : List Answer). box L s e ∷ rs) (same_answers (box L s e).next es (step_in_range L s _ _ _ g)))
 
   -- from the cold start it is enough to ask soundness once: every answer, with the state that it leaves, is the same
   pub asked_once : (es : List Event) → answers (box_in_run L) cold es ≡ answers (box L) cold es
