@@ -18,7 +18,7 @@ module _ (L : Layout) (ok : sound L ≡ true) (P : Moment → History → Type 0
   throughout : (s : State) (h : History) → Inv L s h → Throughout P h → (es : List Event) → Throughout P (goes_on L (box L) s h es)
   unfolding goes_on Throughout
   throughout s h I t [] = t
-  throughout s h I t (e ∷ es) = throughout _ _ (kept L ok (sound_says L ok) s h I e) (holds s h I e, t) es
+  throughout s h I t (e ∷ es) = throughout (box L s e).next (moment L e (box L s e) ∷ h) (kept L ok (sound_says L ok) s h I e) (holds s h I e, t) es
 
   -- from the cold start
   pub in_every_event : (es : List Event) → Throughout P (history L es)

@@ -155,7 +155,7 @@ ran : (L : Layout) → sound L ≡ true → Sound L → (s : State) (h : History
     → Inv L (state_after (box L) s es) (goes_on L (box L) s h es)
 unfolding goes_on state_after
 ran L ok S s h I [] = I
-ran L ok S s h I (e ∷ es) = ran L ok S _ _ (kept L ok S s h I e) es
+ran L ok S s h I (e ∷ es) = ran L ok S (box L s e).next (moment L e (box L s e) ∷ h) (kept L ok S s h I e) es
 
 -- from the cold start, on any sound layout, loaded or assembled by hand
 pub run_has : (L : Layout) → sound L ≡ true → (es : List Event) → Inv L (from_cold L es) (history L es)

@@ -1,7 +1,7 @@
 -- Stage 3 (L3): through an accepted event a block is in it just where the history tells that it waits until what lies beyond it is freed, and its line is
 -- secured that way.
 use Prim.Native.Nat.{ℕ, ◌<◌, ◌≤◌}
-use mathlib.Core.Path.{◌≡◌, refl, ◌∙◌}
+use mathlib.Core.Path.{◌≡◌, refl, ◌∙◌, sym, subst}
 use mathlib.Core.Logic.{◌≢◌, ◌↔◌, inl, inr}
 use mathlib.Core.Bool.{true}
 use mathlib.Core.List.{◌∷◌}
@@ -40,7 +40,7 @@ module _ (L : Layout) (S : Sound L) (s : State) (h : History) (I : Inv L s h) (e
   -- a block in stage 3 came there by this event, or was there and nothing took it: it waits, in the direction of its line
   pub holds_then : stage (end L s e) l i ≡ 4 → (direction (end L s e) l ≢ 0) × Waits L l i (direction (end L s e) l) (granted L s e ∷ h)
   unfolding Since
-  holds_then z = rw unmoved (go (case_of L S s h I e pass l b i c))
+  holds_then z = subst (λ w. (w ≢ 0) × Waits L l i w (granted L s e ∷ h)) (sym unmoved) (go (case_of L S s h I e pass l b i c))
     where
       unmoved : direction (end L s e) l ≡ direction (done L s e) l
       unmoved = direction_held L S.ranges.line_count s e l b i c (omega arith)
@@ -60,8 +60,9 @@ module _ (L : Layout) (S : Sound L) (s : State) (h : History) (I : Inv L s h) (e
           let kept = way_kept L S s h I e pass l b i c (omega (arith, w.1)) n in
           let W = ((I.blocks l i b c).holds w.1).1 in
           let f = left_free L l i (granted L s e) h (omega (arith, w.0)) (omega (arith, w.0)) (waits_free L l i _ _ h W) in
+          let V : Waits L l i (direction (done L s e) l) h = rw kept.1 W in
           rw kept.1
-          (kept.0, inr ((f, (λ u. n (u.1, u.2)), λ q. B ((beyond_told L S s h I e pass locks l b n i c (omega (arith, w.1))).0 q)), W))
+          (kept.0, inr ((f, (λ u. n (u.1, u.2)), λ q. B ((beyond_told L S s h I e pass locks l b n i c (omega (arith, w.1))).0 q)), V))
       go (shut n v x) = absurd (omega arith)
       go (entered n y v few far) = absurd (let k = far_leaves L S s h I e pass l b i c few far in omega arith)
 

@@ -128,8 +128,8 @@ some_passage_test L l i h = way_test L l i (λ w. passage_test L l i w h) h
 -- the direction that passes the test has a passage, and that of a passage was shown
 pub some_passage_means : (L : Layout) (l i : ℕ) (h : History) → some_passage_test L l i h ≡ true ↔ (w : ℕ) × Passage L l i w h
 some_passage_means L l i h = (
-  λ t. let (w, u) = some_way L l i _ h t in (w, (passage_means L l i w h).0 u),
-  λ (w, p). way_shown L l i w _ ((passage_means L l i w h).1 p) h p,
+  λ t. let (w, u) = some_way L l i (λ x. passage_test L l i x h) h t in (w, (passage_means L l i w h).0 u),
+  λ (w, p). way_shown L l i w (λ x. passage_test L l i x h) ((passage_means L l i w h).1 p) h p,
 )
 
 -- ---- the free reading that closes it

@@ -123,8 +123,8 @@ module _ (L : Layout) (l i : ℕ) where
   -- so it does just where the test says so
   pub some_waits_means : (h : History) → some_waits_test h ≡ true ↔ (w : ℕ) × Waits L l i w h
   some_waits_means h = (
-    λ t. let (w, u) = some_way L l i _ h t in (w, (waits_for_means L l i w _ (beyond_means w) h).0 u),
-    λ (w, x). wait_shown w _ ((waits_for_means L l i w _ (beyond_means w) h).1 x) h x,
+    λ t. let (w, u) = some_way L l i (λ x. waits_for_test L l i x (beyond_test x) h) h t in (w, (waits_for_means L l i w _ (beyond_means w) h).0 u),
+    λ (w, x). wait_shown w (λ y. waits_for_test L l i y (beyond_test y) h) ((waits_for_means L l i w _ (beyond_means w) h).1 x) h x,
   )
 
   -- the event completed its passage in direction w
@@ -141,12 +141,15 @@ module _ (L : Layout) (l i : ℕ) where
 
   -- whatever the direction: after it the block reads free, and that direction was shown
   pub some_completed_means : (m : Moment) (h : History) → some_completed_test m h ≡ true ↔ (w : ℕ) × Completed L l i w m h
-  some_completed_means m h = (λ t. let (w, u) = some_way L l i _ h (and_right _ _ t) in (w, (completed_means w m h).0 u), λ (w, c). both w c ((completed_means w m h).1 c))
+  some_completed_means m h = (
+    λ t. let (w, u) = some_way L l i (λ x. completed_test x m h) h (and_right _ _ t) in (w, (completed_means w m h).0 u),
+    λ (w, c). both w c ((completed_means w m h).1 c),
+  )
     where
       both : (w : ℕ) → Completed L l i w m h → completed_test w m h ≡ true → some_completed_test m h ≡ true
-      both w (while_lit c s) t = and_both _ _ ((eqb_means _ free).1 c.ends.1) (way_shown L l i w _ t h c.passage)
-      both w (with_beyond c b) t = and_both _ _ ((eqb_means _ free).1 c.ends.1) (way_shown L l i w _ t h c.passage)
-      both w (later x f b) t = and_both _ _ ((eqb_means _ free).1 f) (wait_shown w _ t h x)
+      both w (while_lit c s) t = and_both _ _ ((eqb_means _ free).1 c.ends.1) (way_shown L l i w (λ x. completed_test x m h) t h c.passage)
+      both w (with_beyond c b) t = and_both _ _ ((eqb_means _ free).1 c.ends.1) (way_shown L l i w (λ x. completed_test x m h) t h c.passage)
+      both w (later x f b) t = and_both _ _ ((eqb_means _ free).1 f) (wait_shown w (λ y. completed_test y m h) t h x)
 
 -- ---- a block that was cleared
 

@@ -173,7 +173,7 @@ module _ (L : Layout) (S : Sound L) where
   run_trim : (s : State) → Trim L s → (es : List Event) → Trim L (state_after (box L) s es)
   unfolding state_after
   run_trim s T [] = T
-  run_trim s T (e ∷ es) = run_trim _ (trim_next T e) es
+  run_trim s T (e ∷ es) = run_trim (box L s e).next (trim_next T e) es
 
   pub cold_run_trim : (es : List Event) → Trim L (from_cold L es)
   unfolding from_cold

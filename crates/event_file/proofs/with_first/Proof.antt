@@ -5,12 +5,12 @@ use Rattle.event_file.proofs.with_first.Statement.{statement}
 use Rattle.event_file.proofs.with_first.Tie as tie
 
 -- the number fits
-cast_with_second : tie.Need-overflow-cast-with-second
-cast_with_second c = omega (arith, c.before.before.before.before.before.requires _ _ c.before.before.n.given.1)
+cast_with_second : tie.Need-overflow_cast-value
+cast_with_second c = omega (arith, c.requires _ _ c.in-Value.is)
 
 -- and so does the one after it
-with_second_requires : tie.Need-with-second-requires
-with_second_requires c κs = read_small _ _ _ c.read.ensures
+with_second_requires : tie.Need-with_second-requires
+with_second_requires c κs = read_small _ _ _ c.read-second.ensures
 
 pub with_first_spec : {M : Type 1} → statement M
 with_first_spec =

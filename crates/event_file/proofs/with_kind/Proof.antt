@@ -5,12 +5,12 @@ use Rattle.event_file.proofs.with_kind.Statement.{statement}
 use Rattle.event_file.proofs.with_kind.Tie as tie
 
 -- the number fits
-cast_with_first : tie.Need-overflow-cast-with-first
-cast_with_first c = omega (arith, c.before.before.before.before.before.requires _ _ c.before.before.n.given.1)
+cast_with_first : tie.Need-overflow_cast-value
+cast_with_first c = omega (arith, c.requires _ _ c.in-Value.is)
 
 -- and so does the one after it
-with_first_requires : tie.Need-with-first-requires
-with_first_requires c κs = read_small _ _ _ c.read.ensures
+with_first_requires : tie.Need-with_first-requires
+with_first_requires c κs = read_small _ _ _ c.read-first.ensures
 
 pub with_kind_spec : {M : Type 1} → statement M
 with_kind_spec =

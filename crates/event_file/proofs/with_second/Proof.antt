@@ -5,8 +5,8 @@ use Rattle.event_file.proofs.with_second.Statement.{statement}
 use Rattle.event_file.proofs.with_second.Tie as tie
 
 -- the number fits
-cast_t9 : tie.Need-overflow-cast-t9
-cast_t9 c = omega (arith, c.before.before.before.requires _ _ c.before.n.given.1)
+cast_t9 : tie.Need-overflow_cast-result
+cast_t9 c = omega (arith, c.requires _ _ c.in-Value.is)
 
 pub with_second_spec : {M : Type 1} → statement M
 with_second_spec = tie.close (tie.spec (λ c. search events) cast_t9 (λ c. search events) (λ c. search events) (λ c. search events))

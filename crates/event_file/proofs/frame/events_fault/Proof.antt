@@ -7,4 +7,8 @@ use Rattle.event_file.proofs.frame.events_fault.Tie as tie
 
 pub events_fault_spec : {M : Type 1} → statement M
 unfolding events_word ascii
-events_fault_spec = tie.close (tie.spec (λ c. search faults) (λ c. search faults) (λ c κs. search faults) (λ c. search faults) (λ c. search faults))
+events_fault_spec = tie.close (tie.spec
+    (λ c. search faults)
+    (λ c κs. search faults)
+    (λ c. search faults)
+    (λ c. search faults))

@@ -8,4 +8,7 @@ use Rattle.event_file.proofs.frame.put_header.Tie as tie
 
 pub put_header_spec : {M : Type 1} → statement M
 unfolding header ascii
-put_header_spec = tie.close (tie.spec (λ c. search rules) (λ c κs. search rules) (λ c. search rules) (λ c. search (rules, put_fitting)))
+put_header_spec = tie.close (tie.spec
+    (λ c κs. search rules)
+    (λ c. search rules)
+    (λ c. search (rules, put_fitting)))

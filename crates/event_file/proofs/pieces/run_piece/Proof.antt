@@ -2,7 +2,6 @@
 use Prim.Native.Nat.{◌-◌, ◌≤◌}
 use mathlib.Core.Path.{◌≡◌, refl, sym, subst}
 use mathlib.Core.Bool.{true}
-use mathlib.Core.Logic.{⊎_elim}
 use native.Mathlib.Omega.{arith}
 use borrow.Author.Rules.{rules}
 use lib.ListN.{length}
@@ -18,6 +17,7 @@ use Rattle.event_file.proofs.PanelText.{most_panel, most_plain, line_plain, line
 use Rattle.event_file.proofs.Reading.{next_same}
 use Rattle.event_file.proofs.Turns.{runs, run_full, run_halted, run_taken, run_done}
 use Rattle.event_file.proofs.Parted.{from_parts, so_far_whole, so_far_tables, line_of_whole, run_together, heads_kept}
+use Rattle.event_file.proofs.pieces.run_piece.Lts.{then-panel, else-panel, then-kind-ge-AXLES_IN, else-kind-ge-AXLES_IN}
 use Rattle.event_file.proofs.pieces.run_piece.Statement.{statement}
 use Rattle.event_file.proofs.pieces.run_piece.Tie as tie
 
@@ -33,68 +33,70 @@ decreases-loop panel layout count₀ bytes at₀ last out₀ core₀ axles₀ la
 -- no turn is made yet, and the table of heads is as long as its array
 loop-holds : tie.Need-loop-init invariant-loop decreases-loop
 loop-holds c =
-    let start = c.before.before.before.before.before in
-    (omega arith, search (rules, length_mapped, start.well-formed.1.1.0.1.1.1.1.1.1.1.1.1.1.1.0), search runs)
+    let start = c in
+    (omega arith, search (rules, length_mapped, start.well_formed.1.1.0.1.1.1.1.1.1.1.1.1.1.1.0), search runs)
 
 -- no room for another line
-full : tie.Need-returns invariant-loop decreases-loop
+full : tie.Need-returns-then-out-written invariant-loop decreases-loop
 full c =
-    let asked = c.before.before.before in
-    let turn = asked.before.before.before in
-    from_parts _ _ _ _ _ _ _ _ _ _ _ _ _ turn.before.before.before.core_of.ensures
-    (run_full _ _ _ _ _ _ _ _ _ _ _ _ _ _ _ turn.loop.invariant.2 asked.before.before.loop-test.true _ asked.before.most_line.ensures _ _ asked.if1.true
-    (so_far_whole _ _ _ _ _ _ c.before.before.whole.ensures c.before.so_far.ensures) c.halt.ensures)
+    let asked = c in
+    let turn = asked in
+    from_parts _ _ _ _ _ _ _ _ _ _ _ _ _ turn.core_of-core.ensures
+    (run_full _ _ _ _ _ _ _ _ _ _ _ _ _ _ _ turn.loop.invariant.2 asked.loop-test.true _ asked.most_line.ensures _ _ asked.if-out-written.true
+    (so_far_whole _ _ _ _ _ _ c.whole.ensures c.so_far.ensures) c.halt.ensures)
 
 -- no event stands at the next place
-halted : tie.Need-returns-2 invariant-loop decreases-loop
+halted : tie.Need-returns-in_default invariant-loop decreases-loop
 halted c =
-    let found = c.before.before.before.before in
-    let asked = found.before in
-    let turn = asked.before.before.before in
-    from_parts _ _ _ _ _ _ _ _ _ _ _ _ _ turn.before.before.before.core_of.ensures
-    (run_halted _ _ _ _ _ _ _ _ _ _ _ _ _ _ _ turn.loop.invariant.2 asked.before.before.loop-test.true _ asked.before.most_line.ensures _ asked.if1.false
-    (next_same _ _ found.next_event.ensures) _ _ (search rules)
-    (so_far_whole _ _ _ _ _ _ c.before.before.whole2.ensures c.before.so_far2.ensures) c.halt_by.ensures)
+    let found = c in
+    let asked = found in
+    let turn = asked in
+    from_parts _ _ _ _ _ _ _ _ _ _ _ _ _ turn.core_of-core.ensures
+    (run_halted _ _ _ _ _ _ _ _ _ _ _ _ _ _ _ turn.loop.invariant.2 asked.loop-test.true _ asked.most_line.ensures _ asked.if-out-written.false
+    (next_same _ _ found.next_event-there.ensures) _ _ (search rules)
+    (so_far_whole _ _ _ _ _ _ c.whole-in_default.ensures c.so_far-in_default.ensures) c.halt_by.ensures)
 
 -- all turns are made
-done : tie.Need-returns-3 invariant-loop decreases-loop
+done : tie.Need-returns invariant-loop decreases-loop
 done c =
-    let turn = c.before.before.before in
-    from_parts _ _ _ _ _ _ _ _ _ _ _ _ _ turn.before.before.before.core_of.ensures
-    (run_done _ _ _ _ _ _ _ _ _ _ _ _ _ turn.loop.invariant.2 (so_far_whole _ _ _ _ _ _ c.before.whole3.ensures c.so_far3.ensures) turn.loop.invariant.0
-    (omega (arith, c.before.before.loop-test.false)))
+    let turn = c in
+    from_parts _ _ _ _ _ _ _ _ _ _ _ _ _ turn.core_of-core.ensures
+    (run_done _ _ _ _ _ _ _ _ _ _ _ _ _ turn.loop.invariant.2 (so_far_whole _ _ _ _ _ _ c.whole-2.ensures c.so_far-2.ensures) turn.loop.invariant.0
+    (omega (arith, c.loop-test.false)))
 
 -- a line that has room, with the panel
-put_panel_line_requires : tie.Need-put-panel-line-requires invariant-loop decreases-loop
+put_panel_line_requires : tie.Need-put_panel_line-written-requires invariant-loop decreases-loop
 put_panel_line_requires c κs =
-    let asked = c.before.before.before.before.before.before.before.before.before.before.before.before.before.before.before in
-    omega (arith, asked.if1.false, asked.before.most_line.ensures, most_panel _ c.before.if3.true, most_panel true refl)
+    let asked = c in
+    omega (arith, asked.if-out-written.false, asked.most_line.ensures, most_panel _ c.if-panel.true, most_panel true refl)
 
 -- without it
-put_line_requires : tie.Need-put-line-requires invariant-loop decreases-loop
+put_line_requires : tie.Need-put_line-written-requires invariant-loop decreases-loop
 put_line_requires c κs =
-    let asked = c.before.before.before.before.before.before.before.before.before.before.before.before.before.before.before in
-    omega (arith, asked.if1.false, asked.before.most_line.ensures, most_plain _ c.before.if3.false)
+    let asked = c in
+    omega (arith, asked.if-out-written.false, asked.most_line.ensures, most_plain _ c.if-panel.false)
 
 -- the event that stands there is answered, the heads that it leaves and the lamp that it reports are stored, and its line is written, with the panel or without
 loop-again : tie.Need-loop-preserved invariant-loop decreases-loop
 unfolding together
 loop-again c =
-    let answered = c.before.before.before.before.before.before in
-    let named = answered.before.before.before in
-    let found = named.before.before.before.before in
-    let turn = found.before.before.before.before in
-    let less = found.before.before.before.loop-test.true in
-    let kept = heads_kept _ _ _ _ _ _ _ _ _ _ _ _ turn.loop.invariant.1 named.head_place.ensures refl answered.step_in_run.ensures in
-    let stored = ⊎_elim (λ w. w.2) (λ w. kept w.0.left w.1) c.before.before.before.before.if2.branch in (
+    let answered = c in
+    let named = answered in
+    let found = named in
+    let turn = found in
+    let less = found.loop-test.true in
+    let kept = heads_kept _ _ _ _ _ _ _ _ _ _ _ _ turn.loop.invariant.1 named.head_place-place.ensures refl answered.step_in_run-a.ensures in
+    let stored : c.if-kind-ge-AXLES_IN.axles ≡ _ = elim c.if-kind-ge-AXLES_IN.branch [ then-kind-ge-AXLES_IN w ↦ w.axles-is | else-kind-ge-AXLES_IN w ↦ kept w.if-kind-ge-AXLES_IN.false w.axles-is ] in (
       omega (arith, less),
       subst (λ zs. length zs ≡ most_sections) (sym stored) (search (rules, turn.loop.invariant.1)),
-      so_far_tables _ _ _ _ _ _ _ _ _ _ _ stored c.before.before.lamps_then.ensures
-          (run_taken _ _ _ _ _ _ _ _ _ _ _ _ _ _ _ turn.loop.invariant.2 less _ found.before.before.most_line.ensures _ found.before.if1.false
-          (next_same _ _ found.next_event.ensures) _ _ _ _ _ _ _ _ (search rules)
-          (run_together _ _ _ _ _ _ _ _ _ _ _ turn.loop.invariant.1 named.head_place.ensures refl answered.step_in_run.ensures) c.before.next_count.ensures
-          (⊎_elim (λ w. line_panel _ _ _ _ _ _ _ _ _ _ _ w.0.taken w.5 w.6 (line_of_whole _ _ _ _ _ _ _ _ _ _ _ w.2.ensures))
-          (λ w. line_plain _ _ _ _ _ _ _ _ _ _ _ w.0.left w.5 w.6 w.2.ensures) c.if3.branch)),
+      so_far_tables _ _ _ _ _ _ _ _ _ _ _ stored c.lamps_then.ensures
+          (run_taken _ _ _ _ _ _ _ _ _ _ _ _ _ _ _ turn.loop.invariant.2 less _ found.most_line.ensures _ found.if-out-written.false
+          (next_same _ _ found.next_event-there.ensures) _ _ _ _ _ _ _ _ (search rules)
+          (run_together _ _ _ _ _ _ _ _ _ _ _ turn.loop.invariant.1 named.head_place-place.ensures refl answered.step_in_run-a.ensures) c.next_count-count.ensures
+          (elim c.if-panel.branch [
+            then-panel w ↦ line_panel _ _ _ _ _ _ _ _ _ _ _ w.if-panel.true w.out-is w.written-is (line_of_whole _ _ _ _ _ _ _ _ _ _ _ w.put_panel_line-written.ensures)
+          | else-panel w ↦ line_plain _ _ _ _ _ _ _ _ _ _ _ w.if-panel.false w.out-is w.written-is w.put_line-written.ensures
+          ])),
     )
 
 pub run_piece_spec : {M : Type 1} → statement M
@@ -117,14 +119,14 @@ run_piece_spec =
     (λ c κs. search rules)
     (λ c κs. search rules)
     (λ c κs. search rules)
-    (λ c. c.before.before.before.before.before.before.before.before.loop.invariant.2.text.long)
+    (λ c. c.loop.invariant.2.text.long)
     halted
     (λ c κs. search rules)
-    (λ c. search (rules, place_small _ _ _ c.head_place.ensures))
-    (λ c. search (rules, place_small _ _ _ c.head_place.ensures))
+    (λ c. search (rules, place_small _ _ _ c.head_place-place.ensures))
+    (λ c. search (rules, place_small _ _ _ c.head_place-place.ensures))
     (λ c κs. search rules)
-    (λ c. search (rules, place_small _ _ _ c.before.before.before.before.before.before.head_place.ensures))
-    (λ c. search (rules, place_small _ _ _ c.before.before.before.before.before.before.head_place.ensures))
+    (λ c. search (rules, place_small _ _ _ c.head_place-place.ensures))
+    (λ c. search (rules, place_small _ _ _ c.head_place-place.ensures))
     (λ c κs. search rules)
     (λ c κs. search rules)
     put_panel_line_requires
