@@ -4,8 +4,9 @@
 // `main`, which ends. That a line could not be said on standard error is said nowhere.
 #![tactic(auto)]
 
-ghost use Rattle.std.specs.Prelude.{◌≡◌, ◌≤◌, Ok, IfOk, IfSome, vec_len};
+ghost use Rattle.std.specs.Prelude.{◌≡◌, ◌<◌, ◌≤◌, length, take, Ok, IfOk, OnErr, IsErr, IfSome, vec_len};
 ghost use Rattle.std.specs.Io.{ReadsAtMost};
+ghost use Rattle.std.specs.Io.KnownBytes.{Consumes, IsAtEnd, ReadConsumes};
 
 use std::env::{Env, FillError};
 use std::fmt::Display;
@@ -14,7 +15,7 @@ use std::io;
 use std::io::{ErrorKind, Read};
 
 // Something failed, which was said on standard error.
-#[derive(Clone, Copy, Debug)]
+#[derive(Clone, Copy, Debug, PartialEq, Eq)]
 pub struct Reported;
 
 // How long an argument may be.
@@ -47,7 +48,8 @@ pub fn fail(rt: &HostRuntime, what: &[u8], error: &io::Error) -> Reported {
 
 // What a call answered; where it failed, that is said.
 fn or_told<T: Drop>(rt: &HostRuntime, what: &[u8], answer: io::Result<T>) -> Result<T, Reported>
-    ensures { IfOk result (λ value. answer ≡ Ok value) }
+    ensures ok { IfOk answer (λ value. result ≡ Ok value) }
+    ensures err { OnErr answer (IsErr result) }
 {
     match answer {
         Ok(value) => Ok(value),
@@ -98,14 +100,15 @@ pub fn open(rt: &HostRuntime, path: &[u8]) -> Result<File, Reported> {
     or_told(rt, path, opened)
 }
 
-// One read to the start of `buf`; 0 is the file's end.
+// One read to the start of `buf`; 0 is the file's end. Of a reader whose bytes are known they are the next ones.
 pub fn read<R: Read>(
     rt: &HostRuntime,
     file: &mut R,
     path: &[u8],
     buf: &mut [u8],
 ) -> Result<usize, Reported>
-    ensures { ReadsAtMost result buf.new }
+    ensures bound { ReadsAtMost result buf.new }
+    ensures bytes { ReadConsumes (R.remaining file.old) (R.remaining file.new) result buf.new }
 {
     or_told(rt, path, file.read(buf))
 }
@@ -117,15 +120,64 @@ pub fn fill<R: Read>(
     path: &[u8],
     buf: &mut [u8],
 ) -> Result<usize, Reported>
-    ensures { ReadsAtMost result buf.new }
+    ensures bound { ReadsAtMost result buf.new }
+    ensures bytes { IfOk result (λ n. Consumes (R.remaining file.old) (R.remaining file.new) (take n buf.new)) }
+    ensures end { IfOk result (λ n. n < length buf.new → IsAtEnd (R.remaining file.new)) }
 {
     let mut done = 0;
     while done < buf.len() {
         let n = read(rt, file, path, &mut buf[done..])?;
         if n == 0 {
-            break;
+            return Ok(done);
         }
         done += n;
     }
     Ok(done)
+}
+
+#[cfg(test)]
+mod tests {
+    use super::*;
+
+    // Gives a byte a read, so many, and then fails.
+    #[derive(Drop)]
+    struct Failing(u8);
+
+    impl Read for Failing {
+        fn read(&mut self, buf: &mut [u8]) -> io::Result<usize> {
+            if self.0 == 0 || buf.is_empty() {
+                return Err(io::Error::from(ErrorKind::NotFound));
+            }
+            self.0 -= 1;
+            buf[0] = b'x';
+            Ok(1)
+        }
+    }
+
+    #[test]
+    fn fill_goes_on_to_the_end(rt: HostRuntime) {
+        let mut text: &[u8] = b"abcde";
+        let mut buf = [0u8; 3];
+        assert_eq!(rt; fill(&rt, &mut text, b"text", &mut buf), Ok(3));
+        assert_eq!(rt; buf, *b"abc");
+        assert_eq!(rt; fill(&rt, &mut text, b"text", &mut buf), Ok(2));
+        assert_eq!(rt; buf, *b"dec");
+        assert_eq!(rt; fill(&rt, &mut text, b"text", &mut buf), Ok(0));
+    }
+
+    #[test]
+    fn fill_answers_a_read_that_fails(rt: HostRuntime) {
+        let mut buf = [0u8; 3];
+        assert_eq!(rt; fill(&rt, &mut Failing(3), b"text", &mut buf), Ok(3));
+        assert_eq!(rt;
+            fill(&rt, &mut Failing(2), b"text", &mut buf),
+            Err(Reported)
+        );
+    }
+
+    #[test]
+    fn a_file_that_is_missing_is_said(rt: HostRuntime) {
+        assert!(rt; open(&rt, b"no-such-file").is_err());
+        assert!(rt; open(&rt, b"no-such-file-\xff").is_err());
+    }
 }
