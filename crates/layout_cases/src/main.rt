@@ -1,62 +1,74 @@
 // Loads each file of the archive `layouts`, where two bytes, lowest first, say how long the next file is, and writes answer and detail.
+#![tactic(auto)]
+
 ghost use Rattle.std.specs.Prelude.{◌≤◌};
 
-use libc::STDOUT_FILENO;
+use console::Reported;
+use std::fs::File;
+
+// The archive's name.
+const ARCHIVE: &[u8] = b"layouts";
 
 // Writes what loading a file answers.
-fn show(file: &[u8]) {
+fn show(rt: &HostRuntime, file: &[u8]) -> Result<(), Reported> {
     let r = layout::load(file);
-    io::print_decimal(STDOUT_FILENO, r.number as u64);
-    io::write_all(STDOUT_FILENO, b" ");
-    io::print_decimal(STDOUT_FILENO, r.detail as u64);
-    io::write_all(STDOUT_FILENO, b"\n");
+    let number = r.number;
+    let detail = r.detail;
+    console::print_value(rt, format_args!("{number} {detail}\n"))
 }
 
 // Reads a file of n bytes into the room lent and shows it, and answers whether it was there whole.
-fn show_file(archive: i32, n: usize, room: &mut [u8]) -> bool {
+fn show_file(
+    rt: &HostRuntime,
+    archive: &mut File,
+    n: usize,
+    room: &mut [u8],
+) -> Result<bool, Reported> {
     if room.len() < n {
-        return false;
+        return Ok(false);
     }
-    if io::read_full(archive, &mut room[0..n]) < n {
-        return false;
+    if console::fill(rt, archive, ARCHIVE, &mut room[..n])? < n {
+        return Ok(false);
     }
-    show(&room[0..n]);
-    true
+    show(rt, &room[..n])?;
+    Ok(true)
 }
 
 // A byte, as a number to count with.
 fn wide(x: u8) -> usize
     ensures { result ≤ 255 }
 {
-    x as usize
+    usize::from(x)
 }
 
 // Shows the next file of the archive, and answers whether there was one.
-fn show_next(archive: i32) -> bool {
+fn show_next(rt: &HostRuntime, archive: &mut File) -> Result<bool, Reported> {
     let mut head = [0u8; 2];
-    if io::read_full(archive, &mut head) < 2 {
-        return false;
+    if console::fill(rt, archive, ARCHIVE, &mut head)? < 2 {
+        return Ok(false);
     }
     let n = wide(head[0]) + 256 * wide(head[1]);
-    let mut room = io::large_buffer();
-    show_file(archive, n, &mut room)
+    let mut room = [0u8; 65536];
+    show_file(rt, archive, n, &mut room)
 }
 
-// A loop that is proved has to end, so this one counts its turns down from a number that no archive uses up.
-fn show_all(archive: i32) {
-    let mut turns = u64::MAX;
-    while turns > 0 && show_next(archive) {
-        turns -= 1;
+// A loop that is proved has to end, so this one has more turns than any archive uses up.
+fn show_all(rt: &HostRuntime, archive: &mut File) -> Result<(), Reported> {
+    for _ in 0..u64::MAX {
+        if !show_next(rt, archive)? {
+            break;
+        }
     }
+    Ok(())
 }
 
 // Every file of the archive `layouts`.
-fn main() {
-    let archive = os::open_read(b"layouts");
-    if archive < 0 {
-        os::fail(b"layouts");
-        return;
-    }
-    show_all(archive);
-    libc::close(archive);
+fn run(rt: &HostRuntime) -> Result<(), Reported> {
+    let mut archive = console::open(rt, ARCHIVE)?;
+    show_all(rt, &mut archive)
+}
+
+// What failed was said on standard error: the exit status stays 0.
+fn main(rt: HostRuntime) {
+    let _ = run(&rt);
 }

@@ -1,29 +1,24 @@
 // How long two blocks one after the other may be (request L13): lengths [HEADWAY SPEED]
 // For a headway in seconds and a speed in km/h it prints both tables' lengths in metres with millimetres; without numbers both tables, a row for
 // each minute of headway. A refusal is said on standard error, in words and with its number, in one line: `./lengths` goes by it.
-use libc::{STDERR_FILENO, STDOUT_FILENO};
+#![tactic(auto)]
 
-// Writes the first n bytes, or says on standard error why it cannot.
-fn print(out: &[u8], n: usize) {
-    if out.len() < n {
-        return;
-    }
-    if !io::write_all(STDOUT_FILENO, &out[0..n]) {
-        os::fail(b"standard output");
-    }
+use console::Reported;
+
+// Writes the first n bytes, as far as there are so many.
+fn print(rt: &HostRuntime, out: &[u8], n: usize) -> Result<(), Reported> {
+    console::print(rt, &out[..n.min(out.len())])
 }
 
-// Says the first n bytes on standard error.
-fn tell(out: &[u8], n: usize) {
-    if n <= out.len() {
-        io::write_all(STDERR_FILENO, &out[0..n]);
-    }
+// Says the first n bytes on standard error, as far as there are so many.
+fn tell(rt: &HostRuntime, out: &[u8], n: usize) {
+    console::tell(rt, &out[..n.min(out.len())]);
 }
 
 // How the program is called.
-fn usage() {
-    io::write_all(
-        STDERR_FILENO,
+fn usage(rt: &HostRuntime) {
+    console::tell(
+        rt,
         b"usage: lengths [HEADWAY SPEED], in whole seconds and km/h\n",
     );
 }
@@ -37,47 +32,53 @@ fn small(n: u64) -> u32 {
 }
 
 // Both lengths, or the refusal.
-fn answer(headway: u32, speed: u32) {
-    let mut out = io::buffer();
+fn answer(rt: &HostRuntime, headway: u32, speed: u32) -> Result<(), Reported> {
+    let mut out = [0u8; 4096];
     let n = lengths_text::put_answer(headway, speed, &mut out);
     if block_lengths::lengths(headway, speed).number == 0 {
-        print(&out, n);
-        return;
+        return print(rt, &out, n);
     }
-    tell(&out, n);
+    tell(rt, &out, n);
+    Ok(())
 }
 
 // Both tables.
-fn sheet() {
-    let mut out = io::buffer();
+fn sheet(rt: &HostRuntime) -> Result<(), Reported> {
+    let mut out = [0u8; 4096];
     let n = lengths_text::put_sheet(&mut out);
-    print(&out, n);
+    print(rt, &out, n)
 }
 
 // The headway and the speed, by the two arguments.
-fn with_arguments() {
-    let mut first = io::buffer();
-    let mut second = io::buffer();
-    let f = os::arg(1, &mut first);
-    let s = os::arg(2, &mut second);
-    let headway = number_text::read_word(&first[..f]);
-    let speed = number_text::read_word(&second[..s]);
-    if headway.good & speed.good {
-        answer(small(headway.value), small(speed.value));
-        return;
+fn with_arguments(rt: &HostRuntime, first: &[u8], second: &[u8]) -> Result<(), Reported> {
+    let headway = number_text::read_word(first);
+    let speed = number_text::read_word(second);
+    if headway.good && speed.good {
+        return answer(rt, small(headway.value), small(speed.value));
     }
-    usage();
+    usage(rt);
+    Ok(())
 }
 
 // With two arguments or with none.
-fn main() {
-    if os::arg_count() == 1 {
-        sheet();
-        return;
+fn run(rt: &HostRuntime) -> Result<(), Reported> {
+    match console::argument_count(rt) {
+        1 => return sheet(rt),
+        3 => {
+            if let (Some(first), Some(second)) = (
+                console::argument(rt, 1)?,
+                console::argument(rt, 2)?,
+            ) {
+                return with_arguments(rt, &first, &second);
+            }
+        }
+        _ => {}
     }
-    if os::arg_count() == 3 {
-        with_arguments();
-        return;
-    }
-    usage();
+    usage(rt);
+    Ok(())
+}
+
+// What failed was said on standard error, by which `./lengths` goes: the exit status stays 0.
+fn main(rt: HostRuntime) {
+    let _ = run(&rt);
 }

@@ -1,6 +1,8 @@
 // Asks for the lengths of every headway of 119 to 601 s with the six speeds and another, and of odd numbers. A line for each pair: headway and speed asked
 // for, answer, headway and speed of the record, and of each table the bits of its length and the length in metres with millimetres.
-use libc::STDOUT_FILENO;
+#![tactic(auto)]
+
+use console::Reported;
 
 // The bits of a length; 0 where it is no number below a million.
 fn bits(x: f64) -> u64 {
@@ -11,64 +13,62 @@ fn bits(x: f64) -> u64 {
 }
 
 // A number, after a space.
-fn put(n: u32) {
-    io::write_all(STDOUT_FILENO, b" ");
-    io::print_decimal(STDOUT_FILENO, n as u64);
+fn put(rt: &HostRuntime, n: u32) -> Result<(), Reported> {
+    console::print_value(rt, format_args!(" {n}"))
 }
 
 // A length: its bits, metres and millimetres.
-fn put_length(x: f64) {
+fn put_length(rt: &HostRuntime, x: f64) -> Result<(), Reported> {
+    let bits = bits(x);
     let mm = block_lengths::millimetres(x);
-    io::write_all(STDOUT_FILENO, b" ");
-    io::print_hex(STDOUT_FILENO, bits(x), 16);
-    io::write_all(STDOUT_FILENO, b" ");
-    io::print_decimal(STDOUT_FILENO, mm / 1000);
-    io::write_all(STDOUT_FILENO, b".");
-    io::print_decimal(STDOUT_FILENO, mm / 100 % 10);
-    io::print_decimal(STDOUT_FILENO, mm / 10 % 10);
-    io::print_decimal(STDOUT_FILENO, mm % 10);
+    let metres = mm / 1000;
+    let rest = mm % 1000;
+    console::print_value(rt, format_args!(" {bits:016x} {metres}.{rest:03}"))
 }
 
 // A line.
-fn line(headway: u32, speed: u32) {
+fn line(rt: &HostRuntime, headway: u32, speed: u32) -> Result<(), Reported> {
     let a = block_lengths::lengths(headway, speed);
-    io::print_decimal(STDOUT_FILENO, headway as u64);
-    put(speed);
-    put(a.number as u32);
-    put(a.lengths.headway);
-    put(a.lengths.speed);
-    put_length(a.lengths.plain);
-    put_length(a.lengths.stopping);
-    io::write_all(STDOUT_FILENO, b"\n");
+    console::print_value(rt, headway)?;
+    put(rt, speed)?;
+    put(rt, u32::from(a.number))?;
+    put(rt, a.lengths.headway)?;
+    put(rt, a.lengths.speed)?;
+    put_length(rt, a.lengths.plain)?;
+    put_length(rt, a.lengths.stopping)?;
+    console::print(rt, b"\n")
 }
 
 // The six speeds, and one that is none of them.
-fn lines(headway: u32) {
-    line(headway, 70);
-    line(headway, 90);
-    line(headway, 100);
-    line(headway, 130);
-    line(headway, 160);
-    line(headway, 200);
-    line(headway, 201);
+fn lines(rt: &HostRuntime, headway: u32) -> Result<(), Reported> {
+    for speed in [70, 90, 100, 130, 160, 200, 201] {
+        line(rt, headway, speed)?;
+    }
+    Ok(())
 }
 
 // Headways and speeds far out of the tables.
-fn odd_lines() {
-    lines(0);
-    lines(65536);
-    lines(4294967295);
-    line(120, 0);
-    line(120, 69);
-    line(600, 326);
-    line(600, 65606);
-    line(600, 4294967295);
-    line(4294967295, 4294967295);
+fn odd_lines(rt: &HostRuntime) -> Result<(), Reported> {
+    lines(rt, 0)?;
+    lines(rt, 65536)?;
+    lines(rt, 4294967295)?;
+    line(rt, 120, 0)?;
+    line(rt, 120, 69)?;
+    line(rt, 600, 326)?;
+    line(rt, 600, 65606)?;
+    line(rt, 600, 4294967295)?;
+    line(rt, 4294967295, 4294967295)
 }
 
-fn main() {
-    for headway in 119u32..=601u32 {
-        lines(headway);
+// All lines.
+fn run(rt: &HostRuntime) -> Result<(), Reported> {
+    for headway in 119u32..=601 {
+        lines(rt, headway)?;
     }
-    odd_lines();
+    odd_lines(rt)
+}
+
+// What failed was said on standard error: the exit status stays 0.
+fn main(rt: HostRuntime) {
+    let _ = run(&rt);
 }

@@ -1,114 +1,86 @@
 // A text into the number form.
 use crate::written;
-use libc::STDERR_FILENO;
+use console::Reported;
 use number_text::Reader;
+use std::fs::File;
+use std::io;
+use std::io::ErrorKind;
 
-// Where the walk over a text stands: the reading, whether there is more to do, and whether all went well so far.
-#[derive(Clone, Copy)]
-struct Walk {
-    reader: Reader,
-    going: bool,
-    good: bool,
-}
-
-// The walk has ended, well or not.
-fn ended(w: Walk, good: bool) -> Walk {
-    let reader = w.reader;
-    Walk {
-        reader,
-        going: false,
-        good,
-    }
-}
-
-// Writes so many bytes of a word to standard error; a word that has no more room may go on.
-fn show(word: &[u8], size: usize) {
+// Says so many bytes of a word on standard error; a word that has no more room may go on.
+fn show(rt: &HostRuntime, word: &[u8], size: usize) {
     if size < word.len() {
-        io::write_all(STDERR_FILENO, &word[0..size]);
+        console::tell(rt, &word[..size]);
         return;
     }
-    io::write_all(STDERR_FILENO, word);
-    io::write_all(STDERR_FILENO, b"..");
+    console::tell(rt, word);
+    console::tell(rt, b"..");
 }
 
 // Says which word of the file is no number.
-fn tell(path: &[u8], reader: Reader) {
+fn tell(rt: &HostRuntime, path: &[u8], reader: Reader) -> Reported {
     let word = reader.word;
-    io::write_all(STDERR_FILENO, path);
-    io::write_all(STDERR_FILENO, b": line ");
-    io::print_decimal(STDERR_FILENO, reader.line);
-    io::write_all(STDERR_FILENO, b": ");
-    show(&word, reader.size as usize);
+    console::tell(rt, path);
+    console::tell(rt, b": line ");
+    console::tell_value(rt, reader.line);
+    console::tell(rt, b": ");
+    show(rt, &word, reader.size as usize);
     if reader.doing == 5 {
-        io::write_all(STDERR_FILENO, b" is above 65535\n");
+        console::tell(rt, b" is above 65535\n");
     } else {
-        io::write_all(STDERR_FILENO, b" is no number\n");
+        console::tell(rt, b" is no number\n");
     }
+    Reported
 }
 
-// A piece of the text, of which the buffer has room for all numbers.
-fn walk_piece(path: &[u8], w: Walk, bytes: &[u8], writes: bool) -> Walk {
-    let mut out = io::large_buffer();
-    let before = w.reader;
+// A piece of the text, of which the buffer has room for all numbers, and how the reading stands after it.
+fn walk_piece(
+    rt: &HostRuntime,
+    path: &[u8],
+    before: Reader,
+    bytes: &[u8],
+    writes: bool,
+) -> Result<Reader, Reported> {
+    let mut out = [0u8; 65536];
     let p = number_text::pack_piece(before, bytes, &mut out);
     let reader = p.reader;
     if reader.doing > 3 {
-        tell(path, reader);
-        return ended(w, false);
+        return Err(tell(rt, path, reader));
     }
-    if !written(&out, p.written, writes) {
-        return ended(w, false);
-    }
-    Walk {
-        reader,
-        going: true,
-        good: true,
-    }
+    written(rt, &out, p.written, writes)?;
+    Ok(reader)
 }
 
-// The next piece of the file, or its end, which ends a word as a line's end does.
-fn walk_on(fd: i32, path: &[u8], w: Walk, writes: bool) -> Walk {
-    let mut buf = io::buffer();
-    let got = libc::read(fd, &mut buf);
-    if got < 0 {
-        os::fail(path);
-        return ended(w, false);
+// The next piece of the file, with how the reading stands after it; or its end, which ends a word as a line's end does.
+fn walk_on(
+    rt: &HostRuntime,
+    file: &mut File,
+    path: &[u8],
+    reader: Reader,
+    writes: bool,
+) -> Result<Option<Reader>, Reported> {
+    let mut buf = [0u8; 4096];
+    let n = console::read(rt, file, path, &mut buf)?;
+    if n == 0 {
+        walk_piece(rt, path, reader, b"\n", writes)?;
+        return Ok(None);
     }
-    if got == 0 {
-        let last = walk_piece(path, w, b"\n", writes);
-        return ended(last, last.good);
-    }
-    let n = io::count(got, &buf);
-    walk_piece(path, w, &buf[..n], writes)
+    Ok(Some(walk_piece(rt, path, reader, &buf[..n], writes)?))
 }
 
-// The whole file. A loop that is proved has to end, so this one counts its turns down from a number that no file uses up.
-fn walk_all(fd: i32, path: &[u8], writes: bool) -> bool {
-    let mut w = Walk {
-        reader: number_text::start(),
-        going: true,
-        good: true,
-    };
-    let mut turns = u64::MAX;
-    while turns > 0 {
-        if !w.going {
-            return w.good;
+// The whole file. A loop that is proved has to end, so this one has more turns than any file uses up.
+fn walk_all(rt: &HostRuntime, file: &mut File, path: &[u8], writes: bool) -> Result<(), Reported> {
+    let mut reader = number_text::start();
+    for _ in 0..u64::MAX {
+        match walk_on(rt, file, path, reader, writes)? {
+            Some(next) => reader = next,
+            None => return Ok(()),
         }
-        w = walk_on(fd, path, w, writes);
-        turns -= 1;
     }
-    false
+    Err(console::fail(rt, path, &io::Error::from(ErrorKind::FileTooLarge)))
 }
 
-// Reads a text to its end, printing its numbers in the number form where that is asked for, and answers whether all went well. What did not
-// is said on standard error.
-pub fn pack_file(path: &[u8], writes: bool) -> bool {
-    let fd = os::open_read(path);
-    if fd < 0 {
-        os::fail(path);
-        return false;
-    }
-    let good = walk_all(fd, path, writes);
-    libc::close(fd);
-    good
+// Reads a text to its end, printing its numbers in the number form where that is asked for.
+pub fn pack_file(rt: &HostRuntime, path: &[u8], writes: bool) -> Result<(), Reported> {
+    let mut file = console::open(rt, path)?;
+    walk_all(rt, &mut file, path, writes)
 }

@@ -1,173 +1,134 @@
 // A file in the number form into text.
 use crate::written;
-use libc::STDERR_FILENO;
+use console::Reported;
+use std::fs::File;
+use std::io;
+use std::io::ErrorKind;
 
-// Where the walk over a file stands: how many numbers stand in the last line, how many bytes are left over from the piece before and how many
-// the file had before them, whether there is more to do, and whether all went well so far.
+// Where the walk over a file stands: how many numbers stand in the last line, how many of the buffer's bytes are read, how many it holds, and how
+// many the file had before them.
 #[derive(Clone, Copy)]
 struct Walk {
     column: u64,
     at: usize,
     have: usize,
     before: usize,
-    going: bool,
-    good: bool,
-}
-
-// A sum, as far as a place goes.
-fn sum(a: usize, b: usize) -> usize {
-    if b <= 18446744073709551615 - a {
-        return a + b;
-    }
-    18446744073709551615
-}
-
-// The walk has ended, well or not.
-fn ended(w: Walk, good: bool) -> Walk {
-    Walk {
-        column: w.column,
-        at: w.at,
-        have: w.have,
-        before: w.before,
-        going: false,
-        good,
-    }
 }
 
 // Says what is wrong at a byte of the file.
-fn tell(path: &[u8], number: u8, place: usize) {
-    io::write_all(STDERR_FILENO, path);
-    io::write_all(STDERR_FILENO, b": byte ");
-    io::print_decimal(STDERR_FILENO, place as u64);
+fn tell(rt: &HostRuntime, path: &[u8], number: u8, place: usize) -> Reported {
+    console::tell(rt, path);
+    console::tell(rt, b": byte ");
+    console::tell_value(rt, place);
     if number == 21 {
-        io::write_all(STDERR_FILENO, b": 21, the file ends inside a number\n");
+        console::tell(rt, b": 21, the file ends inside a number\n");
     } else {
-        io::write_all(
-            STDERR_FILENO,
-            b": 22, a number badly formed or above 65535\n",
-        );
+        console::tell(rt, b": 22, a number badly formed or above 65535\n");
     }
+    Reported
 }
 
 // A byte is copied to an earlier place, where there are both.
 fn bring(buf: &mut [u8], to: usize, from: usize) {
-    if buf.len() <= from {
-        return;
+    if from < buf.len() && to < buf.len() {
+        buf[to] = buf[from];
     }
-    if buf.len() <= to {
-        return;
-    }
-    buf[to] = buf[from];
 }
 
 // The bytes from a place on are brought to the front. What is left of a piece is less than one number, two bytes at most.
 fn bring_rest(buf: &mut [u8], at: usize) {
     bring(buf, 0, at);
-    bring(buf, 1, sum(at, 1));
+    bring(buf, 1, at.saturating_add(1));
 }
 
 // The file ended: the last line is ended, or a number was cut.
-fn last_line(path: &[u8], w: Walk, at: usize, writes: bool) -> Walk {
-    if at < w.have {
-        tell(path, 21, sum(w.before, at));
-        return ended(w, false);
+fn last_line(rt: &HostRuntime, path: &[u8], w: Walk, writes: bool) -> Result<(), Reported> {
+    if w.at < w.have {
+        return Err(tell(rt, path, 21, w.before.saturating_add(w.at)));
     }
     if w.column == 0 {
-        return ended(w, true);
+        return Ok(());
     }
-    ended(w, written(b"\n", 1, writes))
+    written(rt, b"\n", 1, writes)
 }
 
-// More of the file is read behind what is left of the piece.
-fn read_on(fd: i32, path: &[u8], w: Walk, buf: &mut [u8], writes: bool) -> Walk {
-    if w.have < w.at {
-        return ended(w, false);
-    }
-    let rest = w.have - w.at;
+// More of the file is read behind what is left of the piece, or the file ended.
+fn read_on(
+    rt: &HostRuntime,
+    file: &mut File,
+    path: &[u8],
+    w: Walk,
+    buf: &mut [u8],
+    writes: bool,
+) -> Result<Option<Walk>, Reported> {
+    let rest = w.have.saturating_sub(w.at).min(buf.len());
     bring_rest(buf, w.at);
-    let end = buf.len();
-    if end < rest {
-        return ended(w, false);
+    let more = console::read(rt, file, path, &mut buf[rest..])?;
+    if more == 0 {
+        last_line(rt, path, w, writes)?;
+        return Ok(None);
     }
-    let got = libc::read(fd, &mut buf[rest..end]);
-    if got < 0 {
-        os::fail(path);
-        return ended(w, false);
-    }
-    if got == 0 {
-        return last_line(path, w, w.at, writes);
-    }
-    let more = io::count(got, buf);
-    Walk {
+    Ok(Some(Walk {
         column: w.column,
         at: 0,
-        have: sum(rest, more),
-        before: sum(w.before, w.at),
-        going: true,
-        good: true,
-    }
+        have: rest.saturating_add(more),
+        before: w.before.saturating_add(w.at),
+    }))
 }
 
 // The numbers of the buffer for which there is room to write, and then more of the file.
-fn walk_on(fd: i32, path: &[u8], per: u64, w: Walk, buf: &mut [u8], writes: bool) -> Walk {
-    let mut out = io::large_buffer();
-    let have = w.have;
-    if buf.len() < have {
-        return ended(w, false);
-    }
-    let p = number_text::unpack_piece(per, w.column, &buf[0..have], w.at, &mut out);
-    if !written(&out, p.written, writes) {
-        return ended(w, false);
-    }
+fn walk_on(
+    rt: &HostRuntime,
+    file: &mut File,
+    path: &[u8],
+    per: u64,
+    w: Walk,
+    buf: &mut [u8],
+    writes: bool,
+) -> Result<Option<Walk>, Reported> {
+    let mut out = [0u8; 65536];
+    let have = w.have.min(buf.len());
+    let p = number_text::unpack_piece(per, w.column, &buf[..have], w.at, &mut out);
+    written(rt, &out, p.written, writes)?;
     let next = Walk {
         column: p.column,
         at: p.at,
-        have: w.have,
+        have,
         before: w.before,
-        going: true,
-        good: true,
     };
-    if p.stop == 0 {
-        return next;
+    match p.stop {
+        0 => Ok(Some(next)),
+        21 => read_on(rt, file, path, next, buf, writes),
+        stop => Err(tell(rt, path, stop, w.before.saturating_add(p.at))),
     }
-    if p.stop == 21 {
-        return read_on(fd, path, next, buf, writes);
-    }
-    tell(path, p.stop, sum(w.before, p.at));
-    ended(w, false)
 }
 
-// The whole file. A loop that is proved has to end, so this one counts its turns down from a number that no file uses up.
-fn walk_all(fd: i32, path: &[u8], per: u64, buf: &mut [u8], writes: bool) -> bool {
+// The whole file. A loop that is proved has to end, so this one has more turns than any file uses up.
+fn walk_all(
+    rt: &HostRuntime,
+    file: &mut File,
+    path: &[u8],
+    per: u64,
+    writes: bool,
+) -> Result<(), Reported> {
+    let mut buf = [0u8; 65536];
     let mut w = Walk {
         column: 0,
         at: 0,
         have: 0,
         before: 0,
-        going: true,
-        good: true,
     };
-    let mut turns = u64::MAX;
-    while turns > 0 {
-        if !w.going {
-            return w.good;
+    for _ in 0..u64::MAX {
+        match walk_on(rt, file, path, per, w, &mut buf, writes)? {
+            Some(next) => w = next,
+            None => return Ok(()),
         }
-        w = walk_on(fd, path, per, w, buf, writes);
-        turns -= 1;
     }
-    false
+    Err(console::fail(rt, path, &io::Error::from(ErrorKind::FileTooLarge)))
 }
 
-// Reads a file to its end, printing its numbers where that is asked for, and answers whether all went well. What did not is said on standard
-// error.
-pub fn unpack_file(path: &[u8], per: u64, writes: bool) -> bool {
-    let fd = os::open_read(path);
-    if fd < 0 {
-        os::fail(path);
-        return false;
-    }
-    let mut buf = io::large_buffer();
-    let good = walk_all(fd, path, per, &mut buf, writes);
-    libc::close(fd);
-    good
+// Reads a file to its end, printing its numbers where that is asked for.
+pub fn unpack_file(rt: &HostRuntime, path: &[u8], per: u64, writes: bool) -> Result<(), Reported> {
+    let mut file = console::open(rt, path)?;
+    walk_all(rt, &mut file, path, per, writes)
 }
