@@ -2,9 +2,11 @@
 // The archive is entries: a byte, 3 for a file of fitted sections, 2 for a layout file, 1 for an event file of which the panels are to be printed and 0
 // for one without; the file's length in two bytes, lowest first; and the file. An event file is played on the layout before it, with the sections that
 // are told as fitted between; a refused layout prints its line, and so does a bad file of fitted sections, which leaves the layout as it was.
+#![tactic(auto)]
+
+use console::Reported;
 use interlocking::State;
 use layout::Layout;
-use libc::{STDERR_FILENO, STDOUT_FILENO};
 
 // A sum, as far as a place goes.
 fn sum(a: usize, b: usize) -> usize {
@@ -33,23 +35,25 @@ fn length_at(archive: &[u8], at: usize) -> usize {
 }
 
 // The first n bytes of a buffer are printed.
-fn print_first(out: &[u8], n: usize) {
+fn print_first(rt: &HostRuntime, out: &[u8], n: usize) -> Result<(), Reported> {
     if n <= out.len() {
-        io::write_all(STDOUT_FILENO, &out[0..n]);
+        console::print(rt, &out[0..n])?;
     }
+    Ok(())
 }
 
 // The list of a file, all of whose lines have room in the buffer.
-fn play(panel: bool, layout: Layout, file: &[u8]) {
-    let mut out = io::large_buffer();
+fn play(rt: &HostRuntime, panel: bool, layout: Layout, file: &[u8]) -> Result<(), Reported> {
+    let mut out = [0u8; 65536];
     let opened = event_file::opening_line(panel, layout, &mut out);
-    print_first(&out, opened);
+    print_first(rt, &out, opened)?;
     let p = event_file::run_piece(panel, layout, State::cold(), 0, file, 0, true, &mut out);
-    print_first(&out, p.written);
+    print_first(rt, &out, p.written)?;
     if p.stop > 3 {
         let closed = event_file::events_fault(p.stop as u64, p.at as u64, &mut out);
-        print_first(&out, closed);
+        print_first(rt, &out, closed)?;
     }
+    Ok(())
 }
 
 // The place after the entry at a place.
@@ -58,95 +62,97 @@ fn entry_end(archive: &[u8], at: usize) -> usize {
 }
 
 // The line of a layout file that was refused.
-fn refuse(number: u8, detail: usize) {
-    let mut out = io::buffer();
+fn refuse(rt: &HostRuntime, number: u8, detail: usize) -> Result<(), Reported> {
+    let mut out = [0u8; 4096];
     let end = event_file::layout_fault(number as u64, detail as u64, &mut out);
-    print_first(&out, end);
+    print_first(rt, &out, end)
 }
 
 // The layout of a file.
-fn layout_of(file: &[u8]) -> Layout {
+fn layout_of(rt: &HostRuntime, file: &[u8]) -> Result<Layout, Reported> {
     let loaded = layout::load(file);
     if loaded.number != 0 {
-        refuse(loaded.number, loaded.detail);
+        refuse(rt, loaded.number, loaded.detail)?;
     }
-    loaded.layout
+    Ok(loaded.layout)
 }
 
 // The line of a file of fitted sections that is no numbers.
-fn refuse_fitted(number: u8, detail: usize) {
-    let mut out = io::buffer();
+fn refuse_fitted(rt: &HostRuntime, number: u8, detail: usize) -> Result<(), Reported> {
+    let mut out = [0u8; 4096];
     let end = event_file::fitted_fault(number as u64, detail as u64, &mut out);
-    print_first(&out, end);
+    print_first(rt, &out, end)
 }
 
 // The layout with the fitted sections of a file.
-fn equipped(layout: Layout, file: &[u8]) -> Layout {
+fn equipped(rt: &HostRuntime, layout: Layout, file: &[u8]) -> Result<Layout, Reported> {
     let fitting = fitted::fit(layout, file);
     if fitting.number != 0 {
-        refuse_fitted(fitting.number, fitting.detail);
+        refuse_fitted(rt, fitting.number, fitting.detail)?;
     }
-    fitting.layout
+    Ok(fitting.layout)
 }
 
 // The layout after the entry at a place: its own, where it is a layout file, and with its sections, where it is a file of fitted ones.
-fn layout_after(before: Layout, archive: &[u8], at: usize) -> Layout {
+fn layout_after(
+    rt: &HostRuntime,
+    before: Layout,
+    archive: &[u8],
+    at: usize,
+) -> Result<Layout, Reported> {
     let from = sum(at, 3);
     let to = entry_end(archive, at);
     if archive.len() < to || to < from {
-        return before;
+        return Ok(before);
     }
     if byte_at(archive, at) == 2 {
-        return layout_of(&archive[from..to]);
+        return layout_of(rt, &archive[from..to]);
     }
     if byte_at(archive, at) == 3 {
-        return equipped(before, &archive[from..to]);
+        return equipped(rt, before, &archive[from..to]);
     }
-    before
+    Ok(before)
 }
 
 // The entry at a place is played, where it is an event file.
-fn play_at(layout: Layout, archive: &[u8], at: usize) {
+fn play_at(rt: &HostRuntime, layout: Layout, archive: &[u8], at: usize) -> Result<(), Reported> {
     let from = sum(at, 3);
     let to = entry_end(archive, at);
     if byte_at(archive, at) > 1 || archive.len() < to || to < from {
-        return;
+        return Ok(());
     }
-    play(byte_at(archive, at) == 1, layout, &archive[from..to]);
+    play(rt, byte_at(archive, at) == 1, layout, &archive[from..to])
 }
 
 // All entries; before the first layout file there is no layout.
-fn play_all(archive: &[u8]) {
+fn play_all(rt: &HostRuntime, archive: &[u8]) -> Result<(), Reported> {
     let none = layout::load(b"");
     let mut layout = none.layout;
     let mut at: usize = 0;
-    let mut turns: u32 = 65536;
-    while turns > 0 {
+    for _ in 0u32..65536 {
         if archive.len() <= at {
-            return;
+            return Ok(());
         }
-        layout = layout_after(layout, archive, at);
-        play_at(layout, archive, at);
+        layout = layout_after(rt, layout, archive, at)?;
+        play_at(rt, layout, archive, at)?;
         at = entry_end(archive, at);
-        turns -= 1;
     }
+    Ok(())
 }
 
 // Every event file of the archive that the first argument names.
-fn main() {
-    let mut path = io::buffer();
-    let n = os::arg(1, &mut path);
-    if os::errno() != 0 {
-        io::write_all(STDERR_FILENO, b"usage: event_cases ARCHIVE\n");
-        return;
-    }
-    let fd = os::open_read(&path[..n]);
-    if fd < 0 {
-        os::fail(&path[..n]);
-        return;
-    }
-    let mut room = io::large_buffer();
-    let size = io::read_full(fd, &mut room);
-    libc::close(fd);
-    play_all(&room[..size]);
+fn play_named(rt: &HostRuntime) -> Result<(), Reported> {
+    let Some(path) = console::argument(rt, 1)? else {
+        console::tell(rt, b"usage: event_cases ARCHIVE\n");
+        return Ok(());
+    };
+    let mut archive = console::open(rt, &path)?;
+    let mut room = [0u8; 65536];
+    let size = console::fill(rt, &mut archive, &path, &mut room)?;
+    play_all(rt, &room[..size])
+}
+
+// The exit status tells nothing: where something failed, standard error has said so.
+fn main(rt: HostRuntime) {
+    let _ = play_named(&rt);
 }

@@ -4,259 +4,264 @@
 // at a time.
 // Without an event file it only loads the layout, and prints `layout`, the answer and its detail.
 // Where the list is not whole, standard error says why, in one line: `./run` goes by it.
+#![tactic(auto)]
+
 mod files;
 mod heads;
 mod listing;
 mod words;
 
+use console::Reported;
 use layout::Layout;
-use libc::{STDERR_FILENO, STDOUT_FILENO};
+use std::fs::File;
 
 // Says on standard error what is wrong with a file.
-fn tell(path: &[u8], what: &[u8]) {
-    io::write_all(STDERR_FILENO, path);
-    io::write_all(STDERR_FILENO, what);
+fn tell(rt: &HostRuntime, path: &[u8], what: &[u8]) {
+    console::tell(rt, path);
+    console::tell(rt, what);
 }
 
-// Writes the first n bytes, or says on standard error why it cannot.
-fn written(out: &[u8], n: usize) -> bool {
+// Writes the first n bytes, or says on standard error why it cannot; whether there are so many.
+fn written(rt: &HostRuntime, out: &[u8], n: usize) -> Result<bool, Reported> {
     if out.len() < n {
-        return false;
+        return Ok(false);
     }
-    if io::write_all(STDOUT_FILENO, &out[0..n]) {
-        return true;
-    }
-    os::fail(b"standard output");
-    false
+    console::print(rt, &out[0..n])?;
+    Ok(true)
 }
 
 // Prints what loading answers.
-fn print_loaded(path: &[u8], number: u8, detail: usize, out: &mut [u8]) {
+fn print_loaded(
+    rt: &HostRuntime,
+    path: &[u8],
+    number: u8,
+    detail: usize,
+    out: &mut [u8],
+) -> Result<(), Reported> {
     let end = event_file::layout_fault(number as u64, detail as u64, out);
-    if written(out, end) & (number != 0) {
-        tell(path, b": the layout is refused\n");
+    if written(rt, out, end)? & (number != 0) {
+        tell(rt, path, b": the layout is refused\n");
     }
+    Ok(())
 }
 
 // Prints the line of a fault in the file of fitted sections, in place of a list.
-fn print_fault(path: &[u8], number: u8, place: usize, out: &mut [u8]) {
+fn print_fault(
+    rt: &HostRuntime,
+    path: &[u8],
+    number: u8,
+    place: usize,
+    out: &mut [u8],
+) -> Result<(), Reported> {
     let end = event_file::fitted_fault(number as u64, place as u64, out);
-    if written(out, end) {
-        tell(path, b": the file of fitted sections ends in a fault\n");
+    if written(rt, out, end)? {
+        tell(rt, path, b": the file of fitted sections ends in a fault\n");
     }
+    Ok(())
 }
 
 // The open event file, of which the first bytes were read, is run on a layout.
 fn list(
+    rt: &HostRuntime,
     layout: Layout,
-    fd: i32,
+    events: &mut File,
     path: &[u8],
     panel: bool,
     held: files::Held,
     buf: &mut [u8],
     out: &mut [u8],
-) {
+) -> Result<(), Reported> {
     let end = event_file::opening_line(panel, layout, out);
-    if written(out, end) {
-        listing::walk_all(fd, path, panel, layout, held, buf, out);
+    if written(rt, out, end)? {
+        listing::walk_all(rt, events, path, panel, layout, held, buf, out)?;
     }
+    Ok(())
 }
 
 // The layout file is loaded, equipped with the sections of the open file of fitted sections, if there is one, and the events are run on it.
 fn run(
+    rt: &HostRuntime,
     file: &[u8],
     layout_path: &[u8],
-    heads: i32,
+    heads: Option<&mut File>,
     heads_path: &[u8],
-    fd: i32,
+    events: &mut File,
     path: &[u8],
     panel: bool,
     held: files::Held,
     buf: &mut [u8],
-) {
+) -> Result<(), Reported> {
     let loaded = layout::load(file);
     let layout = loaded.layout;
-    let mut out = io::large_buffer();
+    let mut out = [0u8; 65536];
     if loaded.number != 0 {
-        print_loaded(layout_path, loaded.number, loaded.detail, &mut out);
-        return;
+        return print_loaded(rt, layout_path, loaded.number, loaded.detail, &mut out);
     }
-    if heads < 0 {
-        list(layout, fd, path, panel, held, buf, &mut out);
-        return;
-    }
-    let r = heads::tell_all(heads, heads_path, layout.sections, &mut out);
+    let Some(heads) = heads else {
+        return list(rt, layout, events, path, panel, held, buf, &mut out);
+    };
+    let r = heads::tell_all(rt, heads, heads_path, layout.sections, &mut out)?;
     if r.stop == 3 {
         let told = r.told;
-        list(
-            fitted::equip(layout, told),
-            fd,
-            path,
-            panel,
-            held,
-            buf,
-            &mut out,
-        );
-        return;
+        let layout = fitted::equip(layout, told);
+        return list(rt, layout, events, path, panel, held, buf, &mut out);
     }
     if r.stop > 3 {
-        print_fault(heads_path, r.stop, r.at, &mut out);
+        return print_fault(rt, heads_path, r.stop, r.at, &mut out);
     }
+    Ok(())
 }
 
 // The file of fitted sections is opened, where one is named.
 fn with_heads(
+    rt: &HostRuntime,
     file: &[u8],
     layout_path: &[u8],
     fits: bool,
     heads_path: &[u8],
-    fd: i32,
+    events: &mut File,
     path: &[u8],
     panel: bool,
     held: files::Held,
     buf: &mut [u8],
-) {
-    let mut heads: i32 = -1;
-    if fits {
-        heads = os::open_read(heads_path);
-        if heads < 0 {
-            os::fail(heads_path);
-            return;
-        }
+) -> Result<(), Reported> {
+    if !fits {
+        return run(
+            rt,
+            file,
+            layout_path,
+            None,
+            heads_path,
+            events,
+            path,
+            panel,
+            held,
+            buf,
+        );
     }
+    let mut heads = console::open(rt, heads_path)?;
     run(
+        rt,
         file,
         layout_path,
-        heads,
+        Some(&mut heads),
         heads_path,
-        fd,
+        events,
         path,
         panel,
         held,
         buf,
-    );
-    if fits {
-        libc::close(heads);
-    }
+    )
 }
 
 // The event file is opened, and its first bytes are read before anything is printed.
 fn with_events(
+    rt: &HostRuntime,
     file: &[u8],
     layout_path: &[u8],
     path: &[u8],
     panel: bool,
     fits: bool,
     heads_path: &[u8],
-) {
-    let fd = os::open_read(path);
-    if fd < 0 {
-        os::fail(path);
-        return;
-    }
-    let mut buf = io::large_buffer();
-    let held = files::read_on(fd, path, &mut buf, 0);
-    if held.good {
-        with_heads(
-            file,
-            layout_path,
-            fits,
-            heads_path,
-            fd,
-            path,
-            panel,
-            held,
-            &mut buf,
-        );
-    }
-    libc::close(fd);
+) -> Result<(), Reported> {
+    let mut events = console::open(rt, path)?;
+    let mut buf = [0u8; 65536];
+    let held = files::read_on(rt, &mut events, path, &mut buf, 0)?;
+    with_heads(
+        rt,
+        file,
+        layout_path,
+        fits,
+        heads_path,
+        &mut events,
+        path,
+        panel,
+        held,
+        &mut buf,
+    )
 }
 
 // The layout is only loaded, and its answer printed.
-fn load_alone(file: &[u8], path: &[u8]) {
+fn load_alone(rt: &HostRuntime, file: &[u8], path: &[u8]) -> Result<(), Reported> {
     let loaded = layout::load(file);
-    let mut out = io::buffer();
-    print_loaded(path, loaded.number, loaded.detail, &mut out);
+    let mut out = [0u8; 4096];
+    print_loaded(rt, path, loaded.number, loaded.detail, &mut out)
 }
 
 // The layout file is read, and loaded alone or with an event file that is run on it. Its first 65,536 bytes answer for a longer one.
 fn with_layout(
+    rt: &HostRuntime,
     path: &[u8],
     alone: bool,
     events: &[u8],
     panel: bool,
     fits: bool,
     heads_path: &[u8],
-) {
-    let mut room = io::large_buffer();
-    let held = files::read_file(path, &mut room);
+) -> Result<(), Reported> {
+    let mut room = [0u8; 65536];
+    let held = files::read_file(rt, path, &mut room)?;
     let n = held.have;
-    if !held.good {
-        return;
-    }
     if room.len() < n {
-        return;
+        return Ok(());
     }
     if alone {
-        load_alone(&room[0..n], path);
-        return;
+        return load_alone(rt, &room[0..n], path);
     }
-    with_events(&room[0..n], path, events, panel, fits, heads_path);
+    with_events(rt, &room[0..n], path, events, panel, fits, heads_path)
 }
 
 // How the program is called.
-fn usage() {
-    io::write_all(
-        STDERR_FILENO,
-        b"usage: events LAYOUT [EVENTS [panel] [fitted FILE]]\n",
-    );
+fn usage(rt: &HostRuntime) {
+    console::tell(rt, b"usage: events LAYOUT [EVENTS [panel] [fitted FILE]]\n");
 }
 
 // The word `fitted` and its file, where the arguments go on after the event file and the word `panel`.
-fn with_words(layout: &[u8], events: &[u8], panel: bool, next: usize) {
-    if os::arg_count() == next {
-        with_layout(layout, false, events, panel, false, b"");
-        return;
+fn with_words(
+    rt: &HostRuntime,
+    layout: &[u8],
+    events: &[u8],
+    panel: bool,
+    next: usize,
+) -> Result<(), Reported> {
+    if console::argument_count(rt) == next {
+        return with_layout(rt, layout, false, events, panel, false, b"");
     }
-    let mut file = io::buffer();
-    let f = os::arg(files::sum(next, 1), &mut file);
-    if os::errno() != 0 {
-        usage();
-        return;
+    let Some(file) = console::argument(rt, files::sum(next, 1))? else {
+        usage(rt);
+        return Ok(());
+    };
+    if words::fitted_at(rt, next)? & (console::argument_count(rt) == files::sum(next, 2)) {
+        return with_layout(rt, layout, false, events, panel, true, &file);
     }
-    if words::fitted_at(next) & (os::arg_count() == files::sum(next, 2)) {
-        with_layout(layout, false, events, panel, true, &file[..f]);
-        return;
-    }
-    usage();
+    usage(rt);
+    Ok(())
 }
 
 // The event file and the word `panel`, by the arguments after the layout.
-fn with_arguments(layout: &[u8]) {
-    let mut events = io::buffer();
-    let e = os::arg(2, &mut events);
-    if os::errno() != 0 {
-        usage();
-        return;
+fn with_arguments(rt: &HostRuntime, layout: &[u8]) -> Result<(), Reported> {
+    let Some(events) = console::argument(rt, 2)? else {
+        usage(rt);
+        return Ok(());
+    };
+    if words::panel_at(rt, 3)? {
+        return with_words(rt, layout, &events, true, 4);
     }
-    if words::panel_at(3) {
-        with_words(layout, &events[..e], true, 4);
-        return;
-    }
-    with_words(layout, &events[..e], false, 3);
+    with_words(rt, layout, &events, false, 3)
 }
 
 // The layout, and whether there is more than it.
-fn main() {
-    let mut layout = io::buffer();
-    let l = os::arg(1, &mut layout);
-    if os::errno() != 0 {
-        usage();
-        return;
+fn start(rt: &HostRuntime) -> Result<(), Reported> {
+    let Some(layout) = console::argument(rt, 1)? else {
+        usage(rt);
+        return Ok(());
+    };
+    if console::argument_count(rt) == 2 {
+        return with_layout(rt, &layout, true, b"", false, false, b"");
     }
-    if os::arg_count() == 2 {
-        with_layout(&layout[..l], true, b"", false, false, b"");
-        return;
-    }
-    with_arguments(&layout[..l]);
+    with_arguments(rt, &layout)
+}
+
+// The exit status tells nothing: where something failed, standard error has said so.
+fn main(rt: HostRuntime) {
+    let _ = start(&rt);
 }

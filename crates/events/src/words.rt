@@ -1,36 +1,28 @@
 // The words among the program's arguments.
+use console::Reported;
 
 // Whether a word is `panel`.
 fn is_panel(word: &[u8]) -> bool {
-    if word.len() != 5 {
-        return false;
-    }
-    (word[0] == 112) & (word[1] == 97) & (word[2] == 110) & (word[3] == 101) & (word[4] == 108)
+    matches!(word, b"panel")
 }
 
 // Whether a word is `fitted`.
 fn is_fitted(word: &[u8]) -> bool {
-    if word.len() != 6 {
-        return false;
-    }
-    (word[0] == 102)
-        & (word[1] == 105)
-        & (word[2] == 116)
-        & (word[3] == 116)
-        & (word[4] == 101)
-        & (word[5] == 100)
+    matches!(word, b"fitted")
 }
 
 // Whether an argument is the word `panel`.
-pub fn panel_at(i: usize) -> bool {
-    let mut word = io::buffer();
-    let w = os::arg(i, &mut word);
-    is_panel(&word[..w])
+pub fn panel_at(rt: &HostRuntime, i: usize) -> Result<bool, Reported> {
+    match console::argument(rt, i)? {
+        Some(word) => Ok(is_panel(&word)),
+        None => Ok(false),
+    }
 }
 
 // Whether an argument is the word `fitted`.
-pub fn fitted_at(i: usize) -> bool {
-    let mut word = io::buffer();
-    let w = os::arg(i, &mut word);
-    is_fitted(&word[..w])
+pub fn fitted_at(rt: &HostRuntime, i: usize) -> Result<bool, Reported> {
+    match console::argument(rt, i)? {
+        Some(word) => Ok(is_fitted(&word)),
+        None => Ok(false),
+    }
 }

@@ -5,13 +5,15 @@
 // tables, the heads and the lamps apart, so that an event copies only the heads that it names (request L1), and of lamps none (request L3). With a second call
 // the compiler would not fold the step into the loop, and a run would take longer here than there. An event is three words of four bytes, lowest byte first.
 // Of a file the first 65,536 bytes are read.
+#![tactic(auto)]
+
 ghost use Rattle.std.specs.Prelude.{◌≤◌};
 
 use axles::Axles;
+use console::Reported;
 use interlocking::parts::{core_of, head_place, lamps_then, whole};
 use interlocking::{Core, State};
 use layout::Layout;
-use libc::{STDERR_FILENO, STDOUT_FILENO};
 use track::sizes::{LAMPS, SECTIONS};
 
 // A state and the sum over the answers that led to it.
@@ -72,14 +74,14 @@ fn is_sound(plan: Layout, core: Core, axles: [Axles; SECTIONS], lamp: [u8; LAMPS
 }
 
 // Plays the events of a file so many times, each with soundness asked or not. It ends where that fails.
+#[tactic(auto, using(interlocking::proofs::Lifted::place_below))]
 fn play(plan: Layout, asking: bool, events: &[u8], turns: u64, given: Played) -> Played {
     let s = given.state;
     let mut core = core_of(s);
     let mut axles = s.axles;
     let mut lamp = s.lamp;
     let mut sum = given.sum;
-    let mut left = turns;
-    while left > 0 {
+    for _ in 0..turns {
         let mut at = 0;
         while at < events.len() {
             if events.len() - at < 12 {
@@ -105,7 +107,6 @@ fn play(plan: Layout, asking: bool, events: &[u8], turns: u64, given: Played) ->
             lamps_then(&mut lamp, r.number, e.kind, e.first, e.second);
             sum = mixed(mixed(sum, r.number as u32), r.detail);
         }
-        left -= 1;
     }
     let state = whole(core, axles, lamp);
     Played { state, sum }
@@ -126,25 +127,35 @@ fn play_file(
     play(plan, asking, &file[0..n - n % 12], turns, given)
 }
 
-// Reads the file that an argument names into the room lent, and answers how many bytes there are.
-fn read_named(argument: usize, room: &mut [u8]) -> usize {
-    let mut path = io::buffer();
-    let n = os::arg(argument, &mut path);
-    let fd = os::open_read(&path[..n]);
-    if fd < 0 {
-        os::fail(&path[..n]);
-        return 0;
+// An argument, empty where it is missing or too long.
+fn word_named(rt: &HostRuntime, argument: usize) -> Result<Vec<u8>, Reported> {
+    match console::argument(rt, argument)? {
+        Some(word) => Ok(word),
+        None => Ok(Vec::new(rt.alloc())),
     }
-    let got = io::read_full(fd, room);
-    libc::close(fd);
-    got
+}
+
+// Reads the file that an argument names into the room lent, and answers how many bytes there are: none, where it cannot be opened.
+fn read_named(rt: &HostRuntime, argument: usize, room: &mut [u8]) -> Result<usize, Reported> {
+    let path = word_named(rt, argument)?;
+    let Ok(mut file) = console::open(rt, &path) else {
+        return Ok(0);
+    };
+    console::fill(rt, &mut file, &path, room)
 }
 
 // Plays the file that an argument names so many times.
-fn play_named(plan: Layout, asking: bool, argument: usize, turns: u64, given: Played) -> Played {
-    let mut room = io::large_buffer();
-    let n = read_named(argument, &mut room);
-    play_file(plan, asking, &room, n, turns, given)
+fn play_named(
+    rt: &HostRuntime,
+    plan: Layout,
+    asking: bool,
+    argument: usize,
+    turns: u64,
+    given: Played,
+) -> Result<Played, Reported> {
+    let mut room = [0u8; 65536];
+    let n = read_named(rt, argument, &mut room)?;
+    Ok(play_file(plan, asking, &room, n, turns, given))
 }
 
 // The layout in the first n bytes of a file.
@@ -167,17 +178,17 @@ fn equipped(plan: Layout, file: &[u8], n: usize) -> Layout {
 }
 
 // The layout in the file that an argument names.
-fn layout_named(argument: usize) -> Layout {
-    let mut room = io::large_buffer();
-    let n = read_named(argument, &mut room);
-    layout_of(&room, n)
+fn layout_named(rt: &HostRuntime, argument: usize) -> Result<Layout, Reported> {
+    let mut room = [0u8; 65536];
+    let n = read_named(rt, argument, &mut room)?;
+    Ok(layout_of(&room, n))
 }
 
 // The layout with the sections that the file that an argument names tells as fitted.
-fn equipped_named(plan: Layout, argument: usize) -> Layout {
-    let mut room = io::large_buffer();
-    let n = read_named(argument, &mut room);
-    equipped(plan, &room, n)
+fn equipped_named(rt: &HostRuntime, plan: Layout, argument: usize) -> Result<Layout, Reported> {
+    let mut room = [0u8; 65536];
+    let n = read_named(rt, argument, &mut room)?;
+    Ok(equipped(plan, &room, n))
 }
 
 // A number with one more digit; other bytes than digits leave it as it was.
@@ -191,35 +202,32 @@ fn with_digit(n: u64, digit: u8) -> u64 {
 // The number that is written in digits.
 fn number_of(text: &[u8]) -> u64 {
     let mut n = 0;
-    let mut i = 0;
-    while i < text.len() {
-        n = with_digit(n, text[i]);
-        i += 1;
+    for digit in text {
+        n = with_digit(n, *digit);
     }
     n
 }
 
-// The number that an argument is.
-fn number_named(argument: usize) -> u64 {
-    let mut text = [0u8; 20];
-    let n = os::arg(argument, &mut text);
-    number_of(&text[..n])
+// The number that an argument is, 0 where it has more than twenty bytes.
+fn number_named(rt: &HostRuntime, argument: usize) -> Result<u64, Reported> {
+    let text = word_named(rt, argument)?;
+    if text.len() > 20 {
+        return Ok(0);
+    }
+    Ok(number_of(&text))
 }
 
 // Whether an argument begins with the letter.
-fn begins_with(argument: usize, letter: u8) -> bool {
-    let mut text = [0u8; 20];
-    os::arg(argument, &mut text);
-    text[0] == letter
+fn begins_with(rt: &HostRuntime, argument: usize, letter: u8) -> Result<bool, Reported> {
+    let text = word_named(rt, argument)?;
+    Ok(text.first() == Some(&letter))
 }
 
 // The sum with the codes of a table.
 fn mixed_codes(sum: u64, codes: &[u8]) -> u64 {
     let mut all = sum;
-    let mut i = 0;
-    while i < codes.len() {
-        all = mixed(all, wide(codes[i]));
-        i += 1;
+    for code in codes {
+        all = mixed(all, wide(*code));
     }
     all
 }
@@ -252,30 +260,35 @@ fn mixed_state(sum: u64, s: State) -> u64 {
 }
 
 // Plays what the arguments name, from a state on.
-fn play_arguments(plan: Layout, state: State) {
-    let asking = begins_with(6, b's');
-    let turns = number_named(5);
-    let first = play_named(plan, asking, 3, 1, Played { state, sum: 0 });
-    let played = play_named(plan, asking, 4, turns, first);
+fn play_arguments(rt: &HostRuntime, plan: Layout, state: State) -> Result<(), Reported> {
+    let asking = begins_with(rt, 6, b's')?;
+    let turns = number_named(rt, 5)?;
+    let first = play_named(rt, plan, asking, 3, 1, Played { state, sum: 0 })?;
+    let played = play_named(rt, plan, asking, 4, turns, first)?;
     let last = played.state;
-    io::print_decimal(STDOUT_FILENO, mixed_state(played.sum, last));
-    io::write_all(STDOUT_FILENO, b"\n");
+    console::print_value(rt, mixed_state(played.sum, last))?;
+    console::print(rt, b"\n")
 }
 
 // The layout first: events on one that is not sound are not timed.
-fn main() {
-    if os::arg_count() != 7 {
-        io::write_all(
-            STDERR_FILENO,
+fn start(rt: &HostRuntime) -> Result<(), Reported> {
+    if console::argument_count(rt) != 7 {
+        console::tell(
+            rt,
             b"usage: step_bench LAYOUT FITTED PREFIX EVENTS TURNS step|run\n",
         );
-        return;
+        return Ok(());
     }
-    let plan = equipped_named(layout_named(1), 2);
+    let plan = equipped_named(rt, layout_named(rt, 1)?, 2)?;
     let state = State::cold();
     if !(plan.sound() & state.in_range()) {
-        io::write_all(STDERR_FILENO, b"the layout is not sound\n");
-        return;
+        console::tell(rt, b"the layout is not sound\n");
+        return Ok(());
     }
-    play_arguments(plan, state);
+    play_arguments(rt, plan, state)
+}
+
+// The exit status tells nothing: where something failed, standard error has said so.
+fn main(rt: HostRuntime) {
+    let _ = start(&rt);
 }

@@ -105,14 +105,12 @@ fn same_axles(a: Axles, b: Axles) -> bool {
 pub fn same_heads(s: State, t: State) -> bool {
     let xs = s.axles;
     let ys = t.axles;
-    let mut g = 0;
-    while g < SECTIONS {
+    for g in 0..SECTIONS {
         let x = xs[g];
         let y = ys[g];
         if !same_axles(x, y) {
             return false;
         }
-        g += 1;
     }
     true
 }
@@ -170,12 +168,10 @@ fn put_all(
     xs: [Axles; SECTIONS],
 ) -> usize {
     let mut at = 0;
-    let mut g = 0;
-    while g < SECTIONS {
+    for g in 0..SECTIONS {
         let has = (g < sections) & (fitted[g] == 1);
         let x = xs[g];
         at = put_where(line, at, has, x);
-        g += 1;
     }
     at
 }

@@ -4,6 +4,8 @@
 // In the archive a run is the length of its layout file and the file; the same of the file that tells the fitted sections; the number of its changes by
 // hand, and six bytes for each; the number of its events, and three words of four bytes for each. Lengths and numbers take two bytes. All stand lowest
 // byte first.
+#![tactic(auto)]
+
 mod by_hand;
 mod heads;
 mod states;
@@ -13,9 +15,10 @@ mod tracks;
 ghost use Rattle.std.specs.Prelude.{◌≤◌};
 
 use by_hand::{Change, Records};
+use console::Reported;
 use interlocking::State;
 use layout::Layout;
-use libc::STDOUT_FILENO;
+use std::fs::File;
 use text::{put, put_number};
 
 // An event: its kind and its two numbers.
@@ -52,39 +55,44 @@ fn word(a: u8, b: u8, c: u8, d: u8) -> u32 {
     wide(a) + 256 * wide(b) + 65536 * wide(c) + 16777216 * wide(d)
 }
 
+// Reads from the archive until the room lent is full or the archive ends; how many bytes there are.
+fn read_full(rt: &HostRuntime, archive: &mut File, room: &mut [u8]) -> Result<usize, Reported> {
+    console::fill(rt, archive, b"runs", room)
+}
+
 // The next number of two bytes, 0 where the archive has ended.
-fn next_number(archive: i32) -> usize {
+fn next_number(rt: &HostRuntime, archive: &mut File) -> Result<usize, Reported> {
     let mut b = [0u8; 2];
-    io::read_full(archive, &mut b);
-    size(b[0]) + 256 * size(b[1])
+    read_full(rt, archive, &mut b)?;
+    Ok(size(b[0]) + 256 * size(b[1]))
 }
 
 // The next change by hand.
-fn next_change(archive: i32) -> Change {
+fn next_change(rt: &HostRuntime, archive: &mut File) -> Result<Change, Reported> {
     let mut b = [0u8; 6];
-    io::read_full(archive, &mut b);
+    read_full(rt, archive, &mut b)?;
     let place = size(b[3]) + 256 * size(b[4]);
-    Change {
+    Ok(Change {
         record: b[0],
         number: b[1],
         field: b[2],
         place,
         byte: b[5],
-    }
+    })
 }
 
 // The next event.
-fn next_event(archive: i32) -> Event {
+fn next_event(rt: &HostRuntime, archive: &mut File) -> Result<Event, Reported> {
     let mut b = [0u8; 12];
-    io::read_full(archive, &mut b);
+    read_full(rt, archive, &mut b)?;
     let kind = word(b[0], b[1], b[2], b[3]);
     let first = word(b[4], b[5], b[6], b[7]);
     let second = word(b[8], b[9], b[10], b[11]);
-    Event {
+    Ok(Event {
         kind,
         first,
         second,
-    }
+    })
 }
 
 // Puts answer and detail, and a mark where a refusal has changed the state.
@@ -100,166 +108,194 @@ fn put_answer(line: &mut [u8], at: usize, number: u8, detail: u32, kept: bool) -
 }
 
 // Plays the next event of the archive.
-fn play_next(archive: i32, plan: Layout, s: State, line: &mut [u8], at: usize) -> Played {
-    let e = next_event(archive);
+fn play_next(
+    rt: &HostRuntime,
+    archive: &mut File,
+    plan: Layout,
+    s: State,
+    line: &mut [u8],
+    at: usize,
+) -> Result<Played, Reported> {
+    let e = next_event(rt, archive)?;
     let r = s.step(plan, e.kind, e.first, e.second);
     let state = r.next;
     let kept = states::same_states(s, state);
     let end = put_answer(line, at, r.number, r.detail, kept);
-    Played { state, at: end }
+    Ok(Played { state, at: end })
 }
 
 // Writes a line with the state at its end.
-fn end_line(plan: Layout, s: State, line: &mut [u8], at: usize) {
+fn end_line(
+    rt: &HostRuntime,
+    plan: Layout,
+    s: State,
+    line: &mut [u8],
+    at: usize,
+) -> Result<(), Reported> {
     let a = put(line, at, b'|');
     let b = put(line, a, b' ');
     let c = states::put_state(line, b, plan, s);
     let d = put(line, c, b'\n');
-    text::write(line, d);
+    text::write(rt, line, d)
 }
 
 // Plays n events and writes them in a line.
-fn play_line(archive: i32, plan: Layout, s: State, n: usize) -> State {
-    let mut room = io::buffer();
+fn play_line(
+    rt: &HostRuntime,
+    archive: &mut File,
+    plan: Layout,
+    s: State,
+    n: usize,
+) -> Result<State, Reported> {
+    let mut room = [0u8; 4096];
     let line: &mut [u8] = &mut room;
     let mut state = s;
     let mut at = 0;
-    let mut left = n;
-    while left > 0 {
-        let played = play_next(archive, plan, state, line, at);
+    for _ in 0..n {
+        let played = play_next(rt, archive, plan, state, line, at)?;
         state = played.state;
         at = played.at;
-        left -= 1;
     }
-    end_line(plan, state, line, at);
-    state
+    end_line(rt, plan, state, line, at)?;
+    Ok(state)
 }
 
 // Writes a line with the heads, where a section has some.
-fn end_heads(plan: Layout, s: State) {
-    let mut room = io::buffer();
+fn end_heads(rt: &HostRuntime, plan: Layout, s: State) -> Result<(), Reported> {
+    let mut room = [0u8; 4096];
     let line: &mut [u8] = &mut room;
     let a = heads::put_heads(line, plan, s);
     if a > 0 {
         let b = put(line, a, b'\n');
-        text::write(line, b);
+        text::write(rt, line, b)?;
     }
+    Ok(())
 }
 
 // Writes a line with what the lamps report.
-fn end_lamps(plan: Layout, s: State) {
-    let mut room = io::buffer();
+fn end_lamps(rt: &HostRuntime, plan: Layout, s: State) -> Result<(), Reported> {
+    let mut room = [0u8; 4096];
     let line: &mut [u8] = &mut room;
     let a = states::put_lamps(line, 0, plan, s);
     let b = put(line, a, b'\n');
-    text::write(line, b);
+    text::write(rt, line, b)
 }
 
 // Plays the events of a run.
-fn play(archive: i32, given: Records) {
+fn play(rt: &HostRuntime, archive: &mut File, given: Records) -> Result<(), Reported> {
     let plan = given.plan;
     let state = given.state;
-    let n = next_number(archive);
-    let mut state = play_line(archive, plan, state, n % 16);
-    let mut left = n / 16;
-    while left > 0 {
-        state = play_line(archive, plan, state, 16);
-        left -= 1;
+    let n = next_number(rt, archive)?;
+    let mut state = play_line(rt, archive, plan, state, n % 16)?;
+    for _ in 0..n / 16 {
+        state = play_line(rt, archive, plan, state, 16)?;
     }
-    end_heads(plan, state);
-    end_lamps(plan, state);
+    end_heads(rt, plan, state)?;
+    end_lamps(rt, plan, state)
 }
 
 // The records of a run with its changes by hand.
-fn change_all(archive: i32, given: Records) -> Records {
+fn change_all(rt: &HostRuntime, archive: &mut File, given: Records) -> Result<Records, Reported> {
     let mut records = given;
-    let mut left = next_number(archive);
-    while left > 0 {
-        let c = next_change(archive);
+    for _ in 0..next_number(rt, archive)? {
+        let c = next_change(rt, archive)?;
         records = by_hand::changed(records, c);
-        left -= 1;
     }
-    records
+    Ok(records)
 }
 
 // Writes an answer with its detail.
-fn write_answer(number: u8, detail: usize) {
-    io::print_decimal(STDOUT_FILENO, number as u64);
-    io::write_all(STDOUT_FILENO, b" ");
-    io::print_decimal(STDOUT_FILENO, detail as u64);
+fn write_answer(rt: &HostRuntime, number: u8, detail: usize) -> Result<(), Reported> {
+    console::print_value(rt, number)?;
+    console::print(rt, b" ")?;
+    console::print_value(rt, detail)
 }
 
 // The layout with the sections that the next n bytes of the archive tell as fitted, with the answer written.
-fn equip_by(archive: i32, plan: Layout, n: usize, room: &mut [u8]) -> Layout {
+fn equip_by(
+    rt: &HostRuntime,
+    archive: &mut File,
+    plan: Layout,
+    n: usize,
+    room: &mut [u8],
+) -> Result<Layout, Reported> {
     if room.len() < n {
-        return plan;
+        return Ok(plan);
     }
-    io::read_full(archive, &mut room[0..n]);
+    read_full(rt, archive, &mut room[0..n])?;
     let fitting = fitted::fit(plan, &room[0..n]);
-    io::write_all(STDOUT_FILENO, b" ");
-    write_answer(fitting.number, fitting.detail);
-    fitting.layout
+    console::print(rt, b" ")?;
+    write_answer(rt, fitting.number, fitting.detail)?;
+    Ok(fitting.layout)
 }
 
 // The same of the next file of the archive, where it has bytes.
-fn equip(archive: i32, plan: Layout) -> Layout {
-    let n = next_number(archive);
+fn equip(rt: &HostRuntime, archive: &mut File, plan: Layout) -> Result<Layout, Reported> {
+    let n = next_number(rt, archive)?;
     if n == 0 {
-        return plan;
+        return Ok(plan);
     }
-    let mut room = io::buffer();
-    equip_by(archive, plan, n, &mut room)
+    let mut room = [0u8; 4096];
+    equip_by(rt, archive, plan, n, &mut room)
 }
 
 // Plays a run on a layout file.
-fn play_on(archive: i32, file: &[u8]) {
+fn play_on(rt: &HostRuntime, archive: &mut File, file: &[u8]) -> Result<(), Reported> {
     let loaded = layout::load(file);
-    write_answer(loaded.number, loaded.detail);
-    let plan = equip(archive, loaded.layout);
-    io::write_all(STDOUT_FILENO, b"\n");
+    write_answer(rt, loaded.number, loaded.detail)?;
+    let plan = equip(rt, archive, loaded.layout)?;
+    console::print(rt, b"\n")?;
     let state = State::cold();
     let given = Records { plan, state };
-    play(archive, change_all(archive, given));
+    let records = change_all(rt, archive, given)?;
+    play(rt, archive, records)
 }
 
 // Reads a layout file of n bytes into the room lent and plays the run, and answers whether the file was there whole.
-fn play_run(archive: i32, n: usize, room: &mut [u8]) -> bool {
+fn play_run(
+    rt: &HostRuntime,
+    archive: &mut File,
+    n: usize,
+    room: &mut [u8],
+) -> Result<bool, Reported> {
     if room.len() < n {
-        return false;
+        return Ok(false);
     }
-    if io::read_full(archive, &mut room[0..n]) < n {
-        return false;
+    if read_full(rt, archive, &mut room[0..n])? < n {
+        return Ok(false);
     }
-    play_on(archive, &room[0..n]);
-    true
+    play_on(rt, archive, &room[0..n])?;
+    Ok(true)
 }
 
 // Plays the next run of the archive, and answers whether there was one.
-fn next_run(archive: i32) -> bool {
+fn next_run(rt: &HostRuntime, archive: &mut File) -> Result<bool, Reported> {
     let mut head = [0u8; 2];
-    if io::read_full(archive, &mut head) < 2 {
-        return false;
+    if read_full(rt, archive, &mut head)? < 2 {
+        return Ok(false);
     }
     let n = size(head[0]) + 256 * size(head[1]);
-    let mut room = io::large_buffer();
-    play_run(archive, n, &mut room)
+    let mut room = [0u8; 65536];
+    play_run(rt, archive, n, &mut room)
 }
 
-// A loop that is proved has to end, so this one counts its turns down from a number that no archive uses up.
-fn play_all(archive: i32) {
-    let mut turns = u64::MAX;
-    while turns > 0 && next_run(archive) {
-        turns -= 1;
+// A loop that is proved has to end, so this one counts its turns up to a number that no archive uses up.
+fn play_all(rt: &HostRuntime, archive: &mut File) -> Result<(), Reported> {
+    for _ in 0..u64::MAX {
+        if !next_run(rt, archive)? {
+            return Ok(());
+        }
     }
+    Ok(())
 }
 
-// Every run of the archive `runs`.
-fn main() {
-    let archive = os::open_read(b"runs");
-    if archive < 0 {
-        os::fail(b"runs");
-        return;
-    }
-    play_all(archive);
-    libc::close(archive);
+// Opens the archive `runs` and plays it.
+fn start(rt: &HostRuntime) -> Result<(), Reported> {
+    let mut archive = console::open(rt, b"runs")?;
+    play_all(rt, &mut archive)
+}
+
+// Every run of the archive `runs`. The exit status tells nothing: where something failed, standard error has said so.
+fn main(rt: HostRuntime) {
+    let _ = start(&rt);
 }

@@ -1,11 +1,15 @@
 // States compared table by table, and written.
 use super::text::put_codes;
 use super::{heads, size};
-use check::same;
 use interlocking::State;
 use layout::Layout;
 use track::signals::signal_count;
 use track::sizes::{BLOCKS, LAMPS, PLACES, ROUTES, SECTIONS, TRAIN_ROUTES};
+
+// Whether two tables are the same.
+fn same(a: &[u8], b: &[u8]) -> bool {
+    a == b
+}
 
 // Whether two tables of sections are the same.
 fn same_sections(a: [u8; SECTIONS], b: [u8; SECTIONS]) -> bool {

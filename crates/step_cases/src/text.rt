@@ -1,5 +1,5 @@
 // A line of text in the room lent. Each function answers how much of the room is used; what it has no place for is left out.
-use libc::STDOUT_FILENO;
+use console::Reported;
 
 // Puts a byte.
 pub fn put(line: &mut [u8], at: usize, byte: u8) -> usize {
@@ -13,10 +13,8 @@ pub fn put(line: &mut [u8], at: usize, byte: u8) -> usize {
 // Puts bytes.
 fn put_bytes(line: &mut [u8], from: usize, bytes: &[u8]) -> usize {
     let mut at = from;
-    let mut i = 0;
-    while i < bytes.len() {
-        at = put(line, at, bytes[i]);
-        i += 1;
+    for byte in bytes {
+        at = put(line, at, *byte);
     }
     at
 }
@@ -24,7 +22,7 @@ fn put_bytes(line: &mut [u8], from: usize, bytes: &[u8]) -> usize {
 // Puts a number.
 pub fn put_number(line: &mut [u8], at: usize, n: u32) -> usize {
     let mut digits = [0u8; 20];
-    let k = io::decimal(n as u64, &mut digits);
+    let k = numerals::put_digits(20, n as u64, &mut digits, 0);
     put_bytes(line, at, &digits[..k])
 }
 
@@ -48,21 +46,19 @@ fn put_code(line: &mut [u8], at: usize, code: u8, digits: u8) -> usize {
 // Puts the first n codes of a table, each in so many digits, and a space.
 pub fn put_codes(line: &mut [u8], from: usize, codes: &[u8], n: usize, digits: u8) -> usize {
     let mut at = from;
-    let mut i = 0;
-    while i < n {
+    for i in 0..n {
         if codes.len() <= i {
             return put(line, at, b' ');
         }
         at = put_code(line, at, codes[i], digits);
-        i += 1;
     }
     put(line, at, b' ')
 }
 
 // Writes the line.
-pub fn write(line: &[u8], at: usize) {
+pub fn write(rt: &HostRuntime, line: &[u8], at: usize) -> Result<(), Reported> {
     if line.len() < at {
-        return;
+        return Ok(());
     }
-    io::write_all(STDOUT_FILENO, &line[0..at]);
+    console::print(rt, &line[0..at])
 }
