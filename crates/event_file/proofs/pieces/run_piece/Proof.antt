@@ -94,8 +94,8 @@ loop-again c =
           (next_same _ _ found.next_event-there.ensures) _ _ _ _ _ _ _ _ (search rules)
           (run_together _ _ _ _ _ _ _ _ _ _ _ turn.loop.invariant.1 named.head_place-place.ensures refl answered.step_in_run-a.ensures) c.next_count-count.ensures
           (elim c.if-panel.branch [
-            then-panel w ↦ line_panel _ _ _ _ _ _ _ _ _ _ _ w.if-panel.true w.out-is w.written-is (line_of_whole _ _ _ _ _ _ _ _ _ _ _ w.put_panel_line-written.ensures)
-          | else-panel w ↦ line_plain _ _ _ _ _ _ _ _ _ _ _ w.if-panel.false w.out-is w.written-is w.put_line-written.ensures
+            | then-panel w ↦ line_panel _ _ _ _ _ _ _ _ _ _ _ w.if-panel.true w.out-is w.written-is (line_of_whole _ _ _ _ _ _ _ _ _ _ _ w.put_panel_line-written.ensures)
+            | else-panel w ↦ line_plain _ _ _ _ _ _ _ _ _ _ _ w.if-panel.false w.out-is w.written-is w.put_line-written.ensures
           ])),
     )
 

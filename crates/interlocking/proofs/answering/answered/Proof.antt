@@ -109,8 +109,8 @@ answered c =
     ∙ completed_made _ _ _ _ _ _ _ _ (walk_ended _ _ _ _ _ _ _ _ _ _ i.3 i.4 i.5 i.6 i.7 far.loop-r-test.false) i.0 i.1
     (search (rules, done.event_tried-t.type_inv.1.1.0.1.1.1.1.1.0)) far.far_after-far.ensures
     (elim c.if-not-none_waits.branch [
-      then-not-none_waits w ↦ w.stage-is ∙ w.arrivals_after-stage.ensures
-    | else-not-none_waits w ↦ w.stage-is ∙ passed_idle _ _ _ _ _ _ (search rules) asked.none_waits.ensures (ap not w.if-not-none_waits.false)
+      | then-not-none_waits w ↦ w.stage-is ∙ w.arrivals_after-stage.ensures
+      | else-not-none_waits w ↦ w.stage-is ∙ passed_idle _ _ _ _ _ _ (search rules) asked.none_waits.ensures (ap not w.if-not-none_waits.false)
     ])) heads
 
 pub answered_spec : {M : Type 1} → statement M
