@@ -4,7 +4,7 @@
 // `main`, which ends. That a line could not be said on standard error is said nowhere.
 #![tactic(auto)]
 
-ghost use Rattle.std.specs.Prelude.{◌≡◌, ◌<◌, ◌≤◌, length, take, Ok, IfOk, OnErr, IsErr, IfSome, vec_len};
+ghost use Rattle.std.specs.Prelude.{◌≡◌, ◌<◌, ◌≤◌, length, take, Ok, IfOk, OnErr, IsErr, IfSome};
 ghost use Rattle.std.specs.Io.{ReadsAtMost};
 ghost use Rattle.std.specs.Io.KnownBytes.{Consumes, IsAtEnd, ReadConsumes};
 
@@ -17,9 +17,6 @@ use std::io::{ErrorKind, Read};
 // Something failed, which was said on standard error.
 #[derive(Clone, Copy, Debug, PartialEq, Eq)]
 pub struct Reported;
-
-// How long an argument may be.
-const MOST: usize = 4096;
 
 // Says bytes on standard error.
 pub fn tell(rt: &HostRuntime, bytes: &[u8]) {
@@ -67,17 +64,13 @@ pub fn print_value<D: Display + Drop>(rt: &HostRuntime, value: D) -> Result<(), 
     or_told(rt, b"standard output", rt.print(value))
 }
 
-// Argument `i`, where 0 is the program's own name; none where it is missing, or longer than 4,096 bytes.
-pub fn argument(rt: &HostRuntime, i: usize) -> Result<Option<Vec<u8>>, Reported>
-    ensures { IfOk result (λ word. IfSome word (λ bytes. vec_len bytes ≤ 4096)) }
+// Puts argument `i` at the start of `room` and answers how many bytes it has, where 0 is the program's own name; none where it is missing, or longer than `room`.
+pub fn argument(rt: &HostRuntime, i: usize, room: &mut [u8]) -> Option<usize>
+    ensures { IfSome result (λ n. n ≤ length room.new) }
 {
-    let mut room = [0u8; MOST];
-    match rt.arg(i, &mut room) {
-        Ok(n) => match Vec::from_slice(rt.alloc(), &room[..n]) {
-            Ok(word) => Ok(Some(word)),
-            Err(error) => Err(fail(rt, b"arguments", &io::Error::from(error))),
-        },
-        Err(_) => Ok(None),
+    match rt.arg(i, room) {
+        Ok(n) => Some(n),
+        Err(_) => None,
     }
 }
 

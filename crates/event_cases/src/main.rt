@@ -142,13 +142,15 @@ fn play_all(rt: &HostRuntime, archive: &[u8]) -> Result<(), Reported> {
 
 // Every event file of the archive that the first argument names.
 fn play_named(rt: &HostRuntime) -> Result<(), Reported> {
-    let Some(path) = console::argument(rt, 1)? else {
+    let mut word = [0u8; 4096];
+    let Some(n) = console::argument(rt, 1, &mut word) else {
         console::tell(rt, b"usage: event_cases ARCHIVE\n");
         return Ok(());
     };
-    let mut archive = console::open(rt, &path)?;
+    let path = &word[..n];
+    let mut archive = console::open(rt, path)?;
     let mut room = [0u8; 65536];
-    let size = console::fill(rt, &mut archive, &path, &mut room)?;
+    let size = console::fill(rt, &mut archive, path, &mut room)?;
     play_all(rt, &room[..size])
 }
 

@@ -226,12 +226,13 @@ fn with_words(
     if console::argument_count(rt) == next {
         return with_layout(rt, layout, false, events, panel, false, b"");
     }
-    let Some(file) = console::argument(rt, files::sum(next, 1))? else {
+    let mut file = [0u8; 4096];
+    let Some(f) = console::argument(rt, files::sum(next, 1), &mut file) else {
         usage(rt);
         return Ok(());
     };
-    if words::fitted_at(rt, next)? & (console::argument_count(rt) == files::sum(next, 2)) {
-        return with_layout(rt, layout, false, events, panel, true, &file);
+    if words::fitted_at(rt, next) & (console::argument_count(rt) == files::sum(next, 2)) {
+        return with_layout(rt, layout, false, events, panel, true, &file[..f]);
     }
     usage(rt);
     Ok(())
@@ -239,26 +240,28 @@ fn with_words(
 
 // The event file and the word `panel`, by the arguments after the layout.
 fn with_arguments(rt: &HostRuntime, layout: &[u8]) -> Result<(), Reported> {
-    let Some(events) = console::argument(rt, 2)? else {
+    let mut events = [0u8; 4096];
+    let Some(e) = console::argument(rt, 2, &mut events) else {
         usage(rt);
         return Ok(());
     };
-    if words::panel_at(rt, 3)? {
-        return with_words(rt, layout, &events, true, 4);
+    if words::panel_at(rt, 3) {
+        return with_words(rt, layout, &events[..e], true, 4);
     }
-    with_words(rt, layout, &events, false, 3)
+    with_words(rt, layout, &events[..e], false, 3)
 }
 
 // The layout, and whether there is more than it.
 fn start(rt: &HostRuntime) -> Result<(), Reported> {
-    let Some(layout) = console::argument(rt, 1)? else {
+    let mut layout = [0u8; 4096];
+    let Some(l) = console::argument(rt, 1, &mut layout) else {
         usage(rt);
         return Ok(());
     };
     if console::argument_count(rt) == 2 {
-        return with_layout(rt, &layout, true, b"", false, false, b"");
+        return with_layout(rt, &layout[..l], true, b"", false, false, b"");
     }
-    with_arguments(rt, &layout)
+    with_arguments(rt, &layout[..l])
 }
 
 // The exit status tells nothing: where something failed, standard error has said so.

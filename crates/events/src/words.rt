@@ -1,5 +1,4 @@
 // The words among the program's arguments.
-use console::Reported;
 
 // Whether a word is `panel`.
 fn is_panel(word: &[u8]) -> bool {
@@ -12,17 +11,19 @@ fn is_fitted(word: &[u8]) -> bool {
 }
 
 // Whether an argument is the word `panel`.
-pub fn panel_at(rt: &HostRuntime, i: usize) -> Result<bool, Reported> {
-    match console::argument(rt, i)? {
-        Some(word) => Ok(is_panel(&word)),
-        None => Ok(false),
+pub fn panel_at(rt: &HostRuntime, i: usize) -> bool {
+    let mut word = [0u8; 4096];
+    match console::argument(rt, i, &mut word) {
+        Some(n) => is_panel(&word[..n]),
+        None => false,
     }
 }
 
 // Whether an argument is the word `fitted`.
-pub fn fitted_at(rt: &HostRuntime, i: usize) -> Result<bool, Reported> {
-    match console::argument(rt, i)? {
-        Some(word) => Ok(is_fitted(&word)),
-        None => Ok(false),
+pub fn fitted_at(rt: &HostRuntime, i: usize) -> bool {
+    let mut word = [0u8; 4096];
+    match console::argument(rt, i, &mut word) {
+        Some(n) => is_fitted(&word[..n]),
+        None => false,
     }
 }

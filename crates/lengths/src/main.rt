@@ -65,11 +65,13 @@ fn run(rt: &HostRuntime) -> Result<(), Reported> {
     match console::argument_count(rt) {
         1 => return sheet(rt),
         3 => {
-            if let (Some(first), Some(second)) = (
-                console::argument(rt, 1)?,
-                console::argument(rt, 2)?,
+            let mut first = [0u8; 4096];
+            let mut second = [0u8; 4096];
+            if let (Some(f), Some(s)) = (
+                console::argument(rt, 1, &mut first),
+                console::argument(rt, 2, &mut second),
             ) {
-                return with_arguments(rt, &first, &second);
+                return with_arguments(rt, &first[..f], &second[..s]);
             }
         }
         _ => {}

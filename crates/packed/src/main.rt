@@ -66,17 +66,20 @@ fn run(rt: &HostRuntime, command: &[u8], path: &[u8], count: &[u8]) -> Result<()
 
 // The command, the file and the count, by the arguments.
 fn with_arguments(rt: &HostRuntime) -> Result<(), Reported> {
-    let Some(command) = console::argument(rt, 1)? else {
+    let mut command = [0u8; 4096];
+    let mut path = [0u8; 4096];
+    let mut count = [0u8; 4096];
+    let Some(c) = console::argument(rt, 1, &mut command) else {
         usage(rt);
         return Ok(());
     };
-    let Some(path) = console::argument(rt, 2)? else {
+    let Some(p) = console::argument(rt, 2, &mut path) else {
         usage(rt);
         return Ok(());
     };
-    match console::argument(rt, 3)? {
-        Some(count) => run(rt, &command, &path, &count),
-        None => run(rt, &command, &path, b""),
+    match console::argument(rt, 3, &mut count) {
+        Some(n) => run(rt, &command[..c], &path[..p], &count[..n]),
+        None => run(rt, &command[..c], &path[..p], b""),
     }
 }
 

@@ -127,21 +127,17 @@ fn play_file(
     play(plan, asking, &file[0..n - n % 12], turns, given)
 }
 
-// An argument, empty where it is missing or too long.
-fn word_named(rt: &HostRuntime, argument: usize) -> Result<Vec<u8>, Reported> {
-    match console::argument(rt, argument)? {
-        Some(word) => Ok(word),
-        None => Ok(Vec::new(rt.alloc())),
-    }
-}
-
 // Reads the file that an argument names into the room lent, and answers how many bytes there are: none, where it cannot be opened.
 fn read_named(rt: &HostRuntime, argument: usize, room: &mut [u8]) -> Result<usize, Reported> {
-    let path = word_named(rt, argument)?;
-    let Ok(mut file) = console::open(rt, &path) else {
+    let mut word = [0u8; 4096];
+    let path = match console::argument(rt, argument, &mut word) {
+        Some(n) => &word[..n],
+        None => &word[..0],
+    };
+    let Ok(mut file) = console::open(rt, path) else {
         return Ok(0);
     };
-    console::fill(rt, &mut file, &path, room)
+    console::fill(rt, &mut file, path, room)
 }
 
 // Plays the file that an argument names so many times.
@@ -209,18 +205,21 @@ fn number_of(text: &[u8]) -> u64 {
 }
 
 // The number that an argument is, 0 where it has more than twenty bytes.
-fn number_named(rt: &HostRuntime, argument: usize) -> Result<u64, Reported> {
-    let text = word_named(rt, argument)?;
-    if text.len() > 20 {
-        return Ok(0);
+fn number_named(rt: &HostRuntime, argument: usize) -> u64 {
+    let mut text = [0u8; 20];
+    match console::argument(rt, argument, &mut text) {
+        Some(n) => number_of(&text[..n]),
+        None => 0,
     }
-    Ok(number_of(&text))
 }
 
 // Whether an argument begins with the letter.
-fn begins_with(rt: &HostRuntime, argument: usize, letter: u8) -> Result<bool, Reported> {
-    let text = word_named(rt, argument)?;
-    Ok(text.first() == Some(&letter))
+fn begins_with(rt: &HostRuntime, argument: usize, letter: u8) -> bool {
+    let mut text = [0u8; 4096];
+    match console::argument(rt, argument, &mut text) {
+        Some(n) => n > 0 && text[0] == letter,
+        None => false,
+    }
 }
 
 // The sum with the codes of a table.
@@ -261,8 +260,8 @@ fn mixed_state(sum: u64, s: State) -> u64 {
 
 // Plays what the arguments name, from a state on.
 fn play_arguments(rt: &HostRuntime, plan: Layout, state: State) -> Result<(), Reported> {
-    let asking = begins_with(rt, 6, b's')?;
-    let turns = number_named(rt, 5)?;
+    let asking = begins_with(rt, 6, b's');
+    let turns = number_named(rt, 5);
     let first = play_named(rt, plan, asking, 3, 1, Played { state, sum: 0 })?;
     let played = play_named(rt, plan, asking, 4, turns, first)?;
     let last = played.state;
