@@ -5,11 +5,9 @@ use mathlib.Core.Bool.{Bool, true, false, not}
 use mathlib.Core.List.{List}
 use native.Mathlib.Numerals.{add-one}
 use borrow.Author.Rules.{rules}
-use lib.ListN.{length, get_or}
-use Rattle.laws.specs.Tables.{iter, read}
-use Rattle.laws.proofs.Arrays.{lent_at}
+use lib.ListN.{get_or}
+use Rattle.laws.specs.Tables.{iter}
 use Rattle.laws.proofs.Loops.{SoFar, held_start, held_on, all_stops, all_done}
-use Rattle.track.specs.Sizes.{most_listed}
 use Rattle.track.specs.Lists.{among, all_differ}
 use Rattle.sets.specs.Sets.{holds, joined, add_entry, set_of}
 use Rattle.sets.proofs.Sets.{holds_set_of}
@@ -28,12 +26,12 @@ pub apart_done : (n : ℕ) (xs : List ℕ) (set i : ℕ) → Apart n xs set i �
 unfolding Apart all_differ
 apart_done n xs set i h l = all_done n _ i h.0 l
 
-module _ (n : ℕ) (xs : List ℕ) (set i x : ℕ) (b : Bool) (h : Apart n xs set i) (l : i < n) (e : x ≡ read most_listed 0 xs i) (q : length xs ≡ most_listed) (p : x < 64)
+module _ (n : ℕ) (xs : List ℕ) (set i x : ℕ) (b : Bool) (h : Apart n xs set i) (l : i < n) (e : x ≡ get_or xs i 0) (p : x < 64)
     (k : b ≡ holds set x) where
   -- what is in the set is one of those before
   seen : b ≡ among i xs (get_or xs i 0)
   unfolding Apart among
-  seen = k ∙ ap (λ s. holds s x) h.1 ∙ holds_set_of i xs x p ∙ ap (among i xs) (lent_at xs i most_listed x e q)
+  seen = k ∙ ap (λ s. holds s x) h.1 ∙ holds_set_of i xs x p ∙ ap (among i xs) e
 
   -- the entry is in the set: it is one of those before, and not all differ
   pub apart_stops : b ≡ true → false ≡ all_differ n xs
@@ -44,7 +42,7 @@ module _ (n : ℕ) (xs : List ℕ) (set i x : ℕ) (b : Bool) (h : Apart n xs se
   pub apart_on : (s : ℕ) → b ≡ false → s ≡ joined set x → Apart n xs s (i + 1)
   unfolding Apart set_of iter add_entry
   apart_on s t d =
-      (held_on n _ i h.0 l (ap not seen) (ap (λ v. not (not v)) t), d ∙ ap₂ joined h.1 (lent_at xs i most_listed x e q) ∙ ap (λ m. set_of m xs) (sym (add-one i)))
+      (held_on n _ i h.0 l (ap not seen) (ap (λ v. not (not v)) t), d ∙ ap₂ joined h.1 e ∙ ap (λ m. set_of m xs) (sym (add-one i)))
 
 -- for the loop that tests a list by the set of what it has seen
 pub ruleset aparts = (rules, apart_start, apart_done, apart_stops, apart_on)

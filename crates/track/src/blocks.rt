@@ -8,41 +8,41 @@ use super::lists::all_differ;
 use laws::at8;
 
 // Section g belongs to block i.
+#[tactic(auto, unfolding(crate::specs::Blocks::in_block))]
 pub fn is_in_block(b: Line, i: u8, g: u8) -> bool
     ensures { result ≡ in_block b i g }
 {
-    let block = b.block;
-    at8(block, i) == g
+    at8(&b.block, i) == g
 }
 
 // No section stands twice in the blocks of a line.
+#[tactic(auto, unfolding(crate::specs::Blocks::blocks_differ))]
 pub fn blocks_differ(b: Line) -> bool
     ensures { result ≡ blocks_differ b }
 {
-    let block = b.block;
-    all_differ(block, b.blocks)
+    all_differ(&b.block, b.blocks)
 }
 
 // The section of block i that faces an end: a neighbour on that side meets it.
+#[tactic(auto, unfolding(crate::specs::Blocks::facing))]
 pub fn facing_section(b: Line, i: u8, _end: u8) -> u8
     ensures { result ≡ facing b i _end }
 {
-    let block = b.block;
-    at8(block, i)
+    at8(&b.block, i)
 }
 
 // The section that stands for block i in a refusal's detail, its lowest.
+#[tactic(auto, unfolding(crate::specs::Blocks::block_detail))]
 pub fn detail_section(b: Line, i: u8) -> u8
     ensures { result ≡ block_detail b i }
 {
-    let block = b.block;
-    at8(block, i)
+    at8(&b.block, i)
 }
 
 // The set of the sections of all blocks of a line.
+#[tactic(auto, unfolding(crate::specs::Blocks::line_sections))]
 pub fn sections_of(b: Line) -> u64
     ensures { result ≡ line_sections b }
 {
-    let block = b.block;
-    sets::of_list(block, b.blocks)
+    sets::of_list(&b.block, b.blocks)
 }
