@@ -14,11 +14,11 @@ fn write_digits(places: u8, n: u64, out: &mut [u8], at: usize) -> usize
         return at;
     }
     if n < 10 {
-        out[at] = 48 + n as u8;
+        out[at] = b'0' + n as u8;
         return at + 1;
     }
     let last = write_digits(places - 1, n / 10, out, at);
-    out[last] = 48 + (n % 10) as u8;
+    out[last] = b'0' + (n % 10) as u8;
     last + 1
 }
 
@@ -36,17 +36,14 @@ pub fn put_digits(places: u8, n: u64, out: &mut [u8], at: usize) -> usize
 }
 
 // The bytes of a word, from a place on; the place after them.
+#[tactic(auto, using(crate::proofs::Words::word_put))]
 fn write_word(word: &[u8], out: &mut [u8], at: usize) -> usize
     requires { at + length word.now ≤ length out.old }
     ensures { Put out.old at word.now (length word.now) out.new result }
 {
-    let n = word.len();
-    let mut i: usize = 0;
-    while i < n {
-        out[at + i] = word[i];
-        i += 1;
-    }
-    at + i
+    let end = at + word.len();
+    out[at..end].copy_from_slice(word);
+    end
 }
 
 // The same where the buffer has room for the word, and nothing where it has not.

@@ -1,6 +1,6 @@
 -- What lies beyond a block, and the section there, a case at each return of the code.
 use Prim.Native.Nat.{ℕ, ◌+◌, ◌-◌, ◌<◌, ◌≤◌}
-use mathlib.Core.Path.{◌≡◌, refl, ap, ◌∙◌}
+use mathlib.Core.Path.{◌≡◌, refl, ◌∙◌}
 use native.Mathlib.Omega.{arith}
 use borrow.Author.Rules.{rules}
 use Rattle.laws.specs.Choice.{when◌then◌else◌}
@@ -8,11 +8,10 @@ use lib.Dec.{eqb}
 use Rattle.laws.proofs.Choice.{if_eq, if_ne, if_lt, if_ge, if_both, chosen, passed_over}
 use Rattle.track.specs.declared.Line.{Line}
 use Rattle.track.specs.Codes.{end_a, end_b, a_to_b}
-use Rattle.track.specs.Objects.{inner, nearest}
-use Rattle.track.specs.Blocks.{facing}
+use Rattle.track.specs.Objects.{nearest}
 use Rattle.passage.specs.declared.Beyond.{Beyond}
 use Rattle.passage.specs.declared.Beyond.TheVariants.{Block, Station}
-use Rattle.passage.specs.Passage.{departure, beyond, from_arrival, section_at}
+use Rattle.passage.specs.Passage.{beyond, from_arrival}
 
 -- the block nearest B is the last
 last : (b : Line) → nearest b end_b ≡ b.blocks - 1
@@ -40,32 +39,6 @@ module _ (b : Line) (i w m : ℕ) (r : Beyond) where
   unfolding beyond
   beyond_down h z q = if_ne w a_to_b _ _ r h (if_ne i 0 _ _ r z q)
 
-module _ (b : Line) (w e r : ℕ) (x : Beyond) where
-  -- a block is there: its section that faces where the train comes from
-  pub there_block : (j : ℕ) → x ≡ Block j → e ≡ departure w → r ≡ facing b j e → r ≡ section_at b w x
-  unfolding section_at
-  there_block j h d q = rw h (q ∙ ap (facing b j) d)
-
-  -- the station is there: its inner section
-  pub there_station : x ≡ Station e → r ≡ inner b e → r ≡ section_at b w x
-  unfolding section_at
-  there_station h q = rw h q
-
-module _ (b : Line) (w i r : ℕ) where
-  -- from B to A blocks are counted from the arrival end as they are
-  pub arrival_down : (w ≡ a_to_b → ⊥) → r ≡ i → r ≡ from_arrival b w i
-  unfolding from_arrival
-  arrival_down h q = if_ne w a_to_b _ _ r h q
-
-  -- from A to B the other way; past the last none is left
-  pub arrival_past : w ≡ a_to_b → b.blocks ≤ i → r ≡ 0 → r ≡ from_arrival b w i
-  unfolding from_arrival
-  arrival_past h l q = if_eq w a_to_b _ _ r h (omega arith)
-
-  pub arrival_up : w ≡ a_to_b → i < b.blocks → r ≡ b.blocks - i - 1 → r ≡ from_arrival b w i
-  unfolding from_arrival
-  arrival_up h l q = if_eq w a_to_b _ _ r h (omega arith)
-
 module _ (b : Line) (w i : ℕ) (c : i < b.blocks) where
   -- a block counted from the arrival end is a block
   pub counted_below : from_arrival b w i < b.blocks
@@ -76,9 +49,6 @@ module _ (b : Line) (w i : ℕ) (c : i < b.blocks) where
   pub counted_twice : from_arrival b w (from_arrival b w i) ≡ i
   unfolding from_arrival
   counted_twice = if_both (λ n. (when eqb w a_to_b then b.blocks - (n + 1) else n) ≡ i) (eqb w a_to_b) (λ t. chosen _ _ _ t ∙ omega arith) (λ f. passed_over _ _ _ f)
-
--- for blocks counted from the arrival end
-pub ruleset arrivals = (rules, arrival_down, arrival_past, arrival_up)
 
 -- for what lies beyond a block
 pub ruleset beyonds = (rules, beyond_up, beyond_last, beyond_first, beyond_down)

@@ -18,44 +18,34 @@ pub enum Beyond {
 }
 
 // The stage after the block was given free, where the far signal's lamp reports stop or not.
+#[tactic(auto, using(laws::proofs::Choice::if_eq, laws::proofs::Choice::if_ne), unfolding(crate::specs::Passage::free_stage))]
 fn free_stage(stop_lit: bool, stage: u8) -> u8
     ensures { result ≡ free_stage stop_lit stage }
 {
-    if stage == OPEN {
-        return OPEN;
+    match stage {
+        OPEN => OPEN,
+        STAGE_2 if stop_lit => OPEN,
+        STAGE_2 | STAGE_3 => STAGE_3,
+        _ => STAGE_0,
     }
-    if stage == STAGE_2 {
-        if stop_lit {
-            return OPEN;
-        }
-        return STAGE_3;
-    }
-    if stage == STAGE_3 {
-        return STAGE_3;
-    }
-    STAGE_0
 }
 
 // The stage after the block's own reading; a number that is no reading says nothing.
+#[tactic(auto, using(laws::proofs::Choice::if_eq, laws::proofs::Choice::if_ne), unfolding(crate::specs::Passage::own_stage))]
 pub fn own_stage(given: u8, stop_lit: bool, stage: u8) -> u8
     ensures { result ≡ own_stage given stop_lit stage }
 {
-    if given == OCCUPIED {
-        if (stage == STAGE_1) | (stage == STAGE_2) {
-            return stage;
-        }
-        return STAGE_1;
+    match given {
+        OCCUPIED if stage == STAGE_1 || stage == STAGE_2 => stage,
+        OCCUPIED => STAGE_1,
+        NONE => STAGE_0,
+        FREE => free_stage(stop_lit, stage),
+        _ => stage,
     }
-    if given == NONE {
-        return STAGE_0;
-    }
-    if given == FREE {
-        return free_stage(stop_lit, stage);
-    }
-    stage
 }
 
 // The end that a direction leaves.
+#[tactic(auto, using(laws::proofs::Choice::if_eq, laws::proofs::Choice::if_ne), unfolding(crate::specs::Passage::departure))]
 pub fn departure_end(w: u8) -> u8
     ensures { result ≡ departure w }
 {
@@ -66,6 +56,7 @@ pub fn departure_end(w: u8) -> u8
 }
 
 // The end at which a direction arrives.
+#[tactic(auto, using(laws::proofs::Choice::if_eq, laws::proofs::Choice::if_ne), unfolding(crate::specs::Passage::arrival))]
 pub fn arrival_end(w: u8) -> u8
     ensures { result ≡ arrival w }
 {
@@ -76,6 +67,7 @@ pub fn arrival_end(w: u8) -> u8
 }
 
 // What lies beyond block i in a direction.
+#[tactic(auto, using(crate::proofs::Laws::beyonds))]
 pub fn beyond_block(b: Line, i: u8, w: u8) -> Beyond
     ensures { result ≡ beyond b i w }
 {
@@ -92,6 +84,7 @@ pub fn beyond_block(b: Line, i: u8, w: u8) -> Beyond
 }
 
 // The section there, where a block is left in direction w.
+#[tactic(auto, unfolding(crate::specs::Passage::section_at))]
 fn section_there(b: Line, w: u8, there: Beyond) -> u8
     ensures { result ≡ section_at b w there }
 {
@@ -102,19 +95,18 @@ fn section_there(b: Line, w: u8, there: Beyond) -> u8
 }
 
 // Block i counted from the arrival end of a direction; and back.
+#[tactic(auto, using(laws::proofs::Choice::if_eq, laws::proofs::Choice::if_ne), unfolding(crate::specs::Passage::from_arrival))]
 pub fn from_arrival(b: Line, w: u8, i: u8) -> u8
     ensures { result ≡ from_arrival b w i }
 {
     if w != A_TO_B {
         return i;
     }
-    if b.blocks <= i {
-        return 0;
-    }
-    b.blocks - i - 1
+    b.blocks.saturating_sub(i).saturating_sub(1)
 }
 
 // The far section of block i in a direction.
+#[tactic(auto, unfolding(crate::specs::Passage::far_section))]
 pub fn far_section(b: Line, i: u8, w: u8) -> u8
     ensures { result ≡ far_section b i w }
 {
@@ -122,20 +114,13 @@ pub fn far_section(b: Line, i: u8, w: u8) -> u8
 }
 
 // The stage after the far section's reading, in an event that did or did not drop the far signal.
+#[tactic(auto, using(laws::proofs::Choice::if_eq, laws::proofs::Choice::if_ne), unfolding(crate::specs::Passage::far_stage))]
 pub fn far_stage(far: u8, dropped: bool, stage: u8) -> u8
     ensures { result ≡ far_stage far dropped stage }
 {
-    if stage == STAGE_1 {
-        if (far == OCCUPIED) & dropped {
-            return STAGE_2;
-        }
-        return STAGE_1;
+    match stage {
+        STAGE_1 if far == OCCUPIED && dropped => STAGE_2,
+        STAGE_2 if far == NONE => STAGE_1,
+        _ => stage,
     }
-    if stage == STAGE_2 {
-        if far == NONE {
-            return STAGE_1;
-        }
-        return STAGE_2;
-    }
-    stage
 }
