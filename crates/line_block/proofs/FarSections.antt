@@ -1,20 +1,18 @@
 -- Far sections by cases, each from the facts that choose it.
-use Prim.Native.Nat.{ℕ, ◌/◌, ◌%◌, ◌<◌, ◌≤◌}
+use Prim.Native.Nat.{ℕ, ◌/◌, ◌%◌, ◌<◌}
 use mathlib.Core.Path.{◌≡◌, refl, sym, ap₂, ◌∙◌}
 use mathlib.Core.Bool.{Bool, true, false, not, ◌&&◌}
 use mathlib.Core.List.{List}
 use native.Mathlib.Omega.{arith}
-use borrow.Author.Tests.{eq-eqb, ne_eqb, not-true, not-false}
+use borrow.Author.Tests.{eq-eqb, ne_eqb}
 use lib.Dec.{eqb}
-use lib.ListN.{length, get_or}
 use Rattle.laws.specs.Choice.{when◌then◌else◌}
 use Rattle.laws.specs.Tests.{◌and◌}
 use Rattle.laws.proofs.Choice.{if_eq, if_ne, if_both}
-use Rattle.laws.proofs.Arrays.{read_in}
 use Rattle.track.specs.declared.Line.{Line}
 use Rattle.track.specs.Codes.{neutral, occupied, reads_none, stage1, stage2}
-use Rattle.track.specs.Sizes.{most_lines, most_blocks, most_places}
-use Rattle.track.specs.Objects.{line, no_line, entrance}
+use Rattle.track.specs.Sizes.{most_blocks}
+use Rattle.track.specs.Objects.{line, entrance}
 use Rattle.track.specs.Signal.{Signal}
 use Rattle.tables.specs.Readings.{reading}
 use Rattle.tables.specs.Locks.{direction}
@@ -24,11 +22,6 @@ use Rattle.passage.specs.declared.Beyond.TheVariants.{Block, Station}
 use Rattle.passage.specs.Passage.{beyond, signal_at, far_section, far_signal, far_stage}
 use Rattle.line_block.specs.FarSections.{drops, far_moved, far_stage_at}
 use Rattle.line_block.specs.Entries.{main_proceeds_by, proceeds_by}
-
--- the line of a place below 64 stands in the table, so the default is not read
-pub line_in : (ls : List Line) (k m : ℕ) (d : Line) → length ls ≡ most_lines → k < m → m ≤ most_places → get_or ls (k / most_blocks) d ≡ line ls (k / most_blocks)
-unfolding line
-line_in ls k m d q b few = read_in ls (k / most_blocks) most_lines d no_line q (omega arith)
 
 -- ---- the far signal
 
@@ -58,18 +51,6 @@ module _ (ls : List Line) (n : ℕ) (entries phases directions points stages bar
       → v ≡ proceeds_by ls n entries phases directions points stages bars (far_signal b l i w)
   unfolding far_signal proceeds_by signal_at
   far_station e h q = rw (← f, h) q
-
--- the far signal did not show proceed before, or it is asked again
-module _ (before after : Signal → Bool) (x : Signal) (v : Bool) (e : v ≡ before x) where
-  -- what did not show proceed before has not dropped
-  pub dropped_stop : not v ≡ true → false ≡ drops before after x
-  unfolding drops ◌and◌
-  dropped_stop h = rw (← e, not-true v h)
-
-  -- what showed proceed before has dropped just where it does not show it now
-  pub dropped_now : (u : Bool) → not v ≡ false → u ≡ after x → not u ≡ drops before after x
-  unfolding drops ◌and◌
-  dropped_now u h q = rw (← e, not-false v h, q)
 
 -- ---- the stage of a block
 

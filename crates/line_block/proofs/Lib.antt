@@ -2,5 +2,4 @@ pub mod Lines
 pub mod FarSections
 pub mod PassingBackLaws
 pub mod OwnReadingLaws
-pub mod LineRelease
 pub mod Unique

@@ -1,16 +1,15 @@
 -- Own readings by cases, each from the facts that choose it; and where nothing opens.
 use Prim.Native.Nat.{ℕ, ◌*◌, ◌/◌, ◌%◌, ◌≤◌}
-use mathlib.Core.Path.{◌≡◌, refl, sym, ap, ◌∙◌}
+use mathlib.Core.Path.{◌≡◌, refl, sym, ◌∙◌}
 use mathlib.Core.Bool.{Bool, true, false, ◌&&◌}
 use mathlib.Core.List.{List}
 use native.Mathlib.Omega.{arith}
 use lib.Dec.{eqb}
-use lib.ListN.{length, replicate}
+use lib.ListN.{length, get_or, replicate}
 use Rattle.laws.specs.Choice.{when◌then◌else◌}
 use Rattle.laws.specs.Tests.{◌and◌}
-use Rattle.laws.specs.Tables.{read}
 use Rattle.laws.proofs.Arrays.{nothing_at}
-use Rattle.laws.proofs.Choice.{if_both, Is, holds, fails, which}
+use Rattle.laws.proofs.Choice.{Is, holds, fails, which}
 use Rattle.laws.proofs.Each.{length_each}
 use Rattle.laws.proofs.Tests.{and_both, not_both}
 use Rattle.track.specs.declared.Line.{Line}
@@ -61,11 +60,6 @@ module _ (m : ℕ) (ls : List Line) (directions lamps : List ℕ) (e : Gives) (k
 
 -- ---- all blocks
 
--- a table of noughts tells of no arrival
-none_told : (l : ℕ) → read most_lines 0 (replicate most_lines 0) l ≡ 0
-unfolding read
-none_told l = if_both (λ x. x ≡ 0) _ (λ t. nothing_at most_lines 0 l) (λ t. refl)
-
 module _ (n m : ℕ) (ls : List Line) (directions lamps : List ℕ) (e : Gives) (stages : List ℕ) where
   -- a table that holds the blocks of the n lines keeps its length
   pub given_long : most_blocks * n ≤ length stages → length (given_stages n m ls directions lamps e stages) ≡ length stages
@@ -82,9 +76,9 @@ module _ (n m : ℕ) (ls : List Line) (directions lamps : List ℕ) (e : Gives) 
 
   -- where the code tells arrivals by a table in which none stands
   pub own_passed : most_blocks * n ≤ length stages → (v r : List ℕ) → r ≡ given_stages n m ls directions lamps e stages
-      → v ≡ passed_back n ls directions (goes_open stages r) (λ l w. eqb (read most_lines 0 (replicate most_lines 0) l) 1) r
+      → v ≡ passed_back n ls directions (goes_open stages r) (λ l w. get_or (replicate most_lines false) l false) r
       → v ≡ own_stages n m ls directions lamps e stages
   unfolding own_stages no_arrival
   own_passed b v r q p =
       let z : length r ≡ length stages = rw q (given_long b) in
-      rw (← q) (p ∙ passed_same n ls directions r (omega arith) _ _ _ no_arrival (λ l i. refl) (λ l c. ap (λ x. eqb x 1) (none_told l)))
+      rw (← q) (p ∙ passed_same n ls directions r (omega arith) _ _ _ no_arrival (λ l i. refl) (λ l c. nothing_at {A = Bool} most_lines false l))

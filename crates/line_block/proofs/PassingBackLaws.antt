@@ -12,18 +12,17 @@ use lib.Dec.{eqb, leb}
 use lib.ListN.{length, get_or, set, replicate, length-set}
 use lib.Seq.{get_or-set_same, get_or-set_other}
 use Rattle.laws.specs.Tests.{◌and◌, ◌or◌, any_below}
-use Rattle.laws.specs.Tables.{read}
-use Rattle.laws.proofs.Arrays.{read_in, read_at, nothing_at}
-use Rattle.laws.proofs.Choice.{if_false, if_ge, chosen, passed_over}
+use Rattle.laws.proofs.Arrays.{nothing_at}
+use Rattle.laws.proofs.Choice.{if_false, chosen, passed_over}
 use Rattle.laws.proofs.Each.{each_same, each_kept}
 use Rattle.laws.proofs.Tests.{and_left, and_right, and_both, first_fails, second_fails, or_cases, or_neither, not_both, fails_from, all_at}
 use Rattle.track.specs.declared.Line.{Line}
 use Rattle.track.specs.declared.Route.{Route}
-use Rattle.track.specs.Codes.{neutral, open_block, stage2, stage3, idle}
-use Rattle.track.specs.Sizes.{most_blocks, most_lines, most_places, most_train_routes, most_routes}
-use Rattle.track.specs.Objects.{line, no_line, route, no_route}
+use Rattle.track.specs.Codes.{neutral, open_block, stage2, stage3}
+use Rattle.track.specs.Sizes.{most_blocks, most_lines, most_places}
+use Rattle.track.specs.Objects.{line, route}
 use Rattle.tables.specs.Blocks.{stage_of}
-use Rattle.tables.specs.Locks.{direction, locked}
+use Rattle.tables.specs.Locks.{direction}
 use Rattle.passage.specs.Passage.{from_arrival}
 use Rattle.line_block.specs.Entries.{none_waits, few_lines}
 use Rattle.line_block.specs.PassingBack.{goes_open, no_opening, released_entrance_by, arrives, opens_beyond, waited_stage, waited_stage_at, passed_back, Arrived}
@@ -130,21 +129,7 @@ module _ (ls : List Line) (directions : List ℕ) (opened arrived : ℕ → ℕ 
   unfolding waited_stage_at
   place_waits b w v q g e p = rw (q, ← g, ← e) p
 
--- the line of a place below 64 stands in the table of arrivals
-pub arrived_in : (arrived : List ℕ) (k m : ℕ) → k < m → m ≤ most_places → eqb (get_or arrived (k / most_blocks) 0) 1 ≡ eqb (read most_lines 0 arrived (k / most_blocks)) 1
-arrived_in arrived k m b few = ap (λ x. eqb x 1) (sym (read_at most_lines 0 arrived (k / most_blocks) (omega arith)))
-
--- ---- lines and routes in a search
-
--- a line that there is stands in the table, so the default is not read
-pub line_there : (ls : List Line) (l m : ℕ) (d : Line) → length ls ≡ most_lines → l < m → m ≤ most_lines → get_or ls l d ≡ line ls l
-unfolding line
-line_there ls l m d q b few = read_in ls l most_lines d no_line q (omega arith)
-
--- past the table no route was locked
-entrance_past : (rs : List Route) (before phases : List ℕ) (l w r : ℕ) → most_train_routes ≤ r → false ≡ released_entrance_by before phases (route rs r) l w r
-unfolding released_entrance_by locked read
-entrance_past rs before phases l w r h = sym (first_fails _ _ (first_fails _ _ (sym (ap (λ x. not (eqb x idle)) (if_ge r most_routes (get_or before r 0) idle idle h refl)))))
+-- ---- the routes that were released
 
 -- a released route is of its own line alone
 elsewhere : (before phases : List ℕ) (a : Route) (l w r : ℕ) → (a.line ≡ l → ⊥) → false ≡ released_entrance_by before phases a l w r
@@ -153,10 +138,10 @@ elsewhere before phases a l w r n = sym (second_fails _ _ (second_fails _ _ (fir
 
 -- the table of arrivals, while the routes are walked
 module _ (rs : List Route) (before phases directions : List ℕ) where
-  -- of no route it has 0 for every line
-  pub arrived_none : Arrived 0 rs before phases directions (replicate most_lines 0)
+  -- of no route it tells no line
+  pub arrived_none : Arrived 0 rs before phases directions (replicate most_lines false)
   unfolding Arrived arrives any_below
-  arrived_none = (refl, λ l q. rw (nothing_at {A = ℕ} most_lines 0 l))
+  arrived_none = (refl, λ l q. nothing_at {A = Bool} most_lines false l)
 
   -- a test more, which fails
   or_fails : (x y : Bool) → false ≡ y → x ≡ x || y
@@ -168,7 +153,7 @@ module _ (rs : List Route) (before phases directions : List ℕ) where
   or_holds true y e = refl
   or_holds false y e = e
 
-  module _ (r : ℕ) (table : List ℕ) (h : Arrived r rs before phases directions table) where
+  module _ (r : ℕ) (table : List Bool) (h : Arrived r rs before phases directions table) where
     -- a route by which none arrives leaves it
     arrived_on : ((l : ℕ) → l < most_lines → false ≡ released_entrance_by before phases (route rs r) l (direction directions l) r)
         → Arrived (r + 1) rs before phases directions table
@@ -179,48 +164,39 @@ module _ (rs : List Route) (before phases directions : List ℕ) where
     pub arrived_all : (n : ℕ) → r ≤ n → n ≤ r → Arrived n rs before phases directions table
     arrived_all n a b = let q : r ≡ n = omega arith in rw (← q) h
 
-    -- past the table of routes
-    pub arrived_past : most_train_routes ≤ r → Arrived (r + 1) rs before phases directions table
-    arrived_past b = arrived_on (λ l q. entrance_past rs before phases l (direction directions l) r b)
-
-    module _ (d : Route) (w : ℕ) (v : Bool) (len : length rs ≡ most_train_routes) (b : r < most_train_routes) (g : w ≡ direction directions (get_or rs r d).line)
-        (e : v ≡ released_entrance_by before phases (get_or rs r d) (get_or rs r d).line w r) where
-      -- the route's own record is that of the table
-      same : get_or rs r d ≡ route rs r
-      unfolding route
-      same = read_in rs r most_train_routes d no_route len b
-
-      -- so what the code found of it is so by that
-      own : v ≡ released_entrance_by before phases (route rs r) (route rs r).line (direction directions (route rs r).line) r
-      own = rw (← same, ← g) e
-
-      -- it was not released, or is no entrance route of an arrival end
-      pub arrived_unreleased : v ≡ false → Arrived (r + 1) rs before phases directions table
-      arrived_unreleased n = arrived_on (λ l q. go l (ℕ_discrete (route rs r).line l))
-        where
-          go : (l : ℕ) → Dec ((route rs r).line ≡ l) → false ≡ released_entrance_by before phases (route rs r) l (direction directions l) r
-          go l (yes z) = rw (← z) (sym n ∙ own)
-          go l (no z) = elsewhere before phases (route rs r) l _ r z
-
+    module _ (a : Route) (w : ℕ) (same : a ≡ route rs r) (g : w ≡ direction directions a.line) where
       -- its line is none of the tables
-      pub arrived_nowhere : most_lines ≤ (get_or rs r d).line → Arrived (r + 1) rs before phases directions table
+      pub arrived_nowhere : most_lines ≤ a.line → Arrived (r + 1) rs before phases directions table
       arrived_nowhere n = arrived_on (λ l q. elsewhere before phases (route rs r) l _ r (λ z. let far : most_lines ≤ (route rs r).line = rw (← same) n in omega arith))
 
-      -- it was: 1 for its line
-      pub arrived_here : v ≡ true → (get_or rs r d).line < most_lines → Arrived (r + 1) rs before phases directions (set table (get_or rs r d).line 1)
-      unfolding Arrived arrives any_below
-      arrived_here t q = (length-set table _ 1 ∙ h.0, λ l p. go l p (ℕ_discrete (get_or rs r d).line l))
-        where
-          go : (l : ℕ) → l < most_lines → Dec ((get_or rs r d).line ≡ l)
-              → eqb (get_or (set table (get_or rs r d).line 1) l 0) 1 ≡ any_below (r + 1) (λ k. released_entrance_by before phases (route rs k) l (direction directions l) k)
-          go l p (yes z) =
-              let here : (route rs r).line ≡ l = sym (ap (λ (x : Route). x.line) same) ∙ z in
-              let hit : true ≡ released_entrance_by before phases (route rs r) l (direction directions l) r = rw (← here) (sym t ∙ own) in
-              rw (← z, get_or-set_same table (get_or rs r d).line 1 0 (let n : length table ≡ most_lines = h.0 in omega arith), add-one)
-              (or_holds (any_below r (λ k. released_entrance_by before phases (route rs k) (get_or rs r d).line (direction directions (get_or rs r d).line) k)) _ (rw z hit))
-          go l p (no z) =
-              rw (get_or-set_other table (get_or rs r d).line l 1 0 (λ y. z (sym y)), add-one)
-              (h.1 l p ∙ or_fails _ _ (elsewhere before phases (route rs r) l _ r (λ y. z (ap (λ (x : Route). x.line) same ∙ y))))
+      module _ (v : Bool) (e : v ≡ released_entrance_by before phases a a.line w r) where
+        -- what the code found of it is so by the table's record
+        own : v ≡ released_entrance_by before phases (route rs r) (route rs r).line (direction directions (route rs r).line) r
+        own = rw (← same, ← g) e
+
+        -- it was not released, or is no entrance route of an arrival end
+        pub arrived_unreleased : v ≡ false → Arrived (r + 1) rs before phases directions table
+        arrived_unreleased n = arrived_on (λ l q. go l (ℕ_discrete (route rs r).line l))
+          where
+            go : (l : ℕ) → Dec ((route rs r).line ≡ l) → false ≡ released_entrance_by before phases (route rs r) l (direction directions l) r
+            go l (yes z) = rw (← z) (sym n ∙ own)
+            go l (no z) = elsewhere before phases (route rs r) l _ r z
+
+        -- it was: its line is told
+        pub arrived_here : v ≡ true → a.line < most_lines → Arrived (r + 1) rs before phases directions (set table a.line true)
+        unfolding Arrived arrives any_below
+        arrived_here t q = (length-set table _ true ∙ h.0, λ l p. go l p (ℕ_discrete a.line l))
+          where
+            go : (l : ℕ) → l < most_lines → Dec (a.line ≡ l)
+                → get_or (set table a.line true) l false ≡ any_below (r + 1) (λ k. released_entrance_by before phases (route rs k) l (direction directions l) k)
+            go l p (yes z) =
+                let here : (route rs r).line ≡ l = sym (ap (λ (x : Route). x.line) same) ∙ z in
+                let hit : true ≡ released_entrance_by before phases (route rs r) l (direction directions l) r = rw (← here) (sym t ∙ own) in
+                rw (← z, get_or-set_same table a.line true false (let n : length table ≡ most_lines = h.0 in omega arith), add-one)
+                (or_holds (any_below r (λ k. released_entrance_by before phases (route rs k) a.line (direction directions a.line) k)) _ (rw z hit))
+            go l p (no z) =
+                rw (get_or-set_other table a.line l true false (λ y. z (sym y)), add-one)
+                (h.1 l p ∙ or_fails _ _ (elsewhere before phases (route rs r) l _ r (λ y. z (ap (λ (x : Route). x.line) same ∙ y))))
 
 -- ---- all blocks
 
@@ -252,14 +228,14 @@ goes_still stages l i =
 
 -- where the code tells arrivals by a table
 module _ (n : ℕ) (ls : List Line) (directions stages : List ℕ) (b : most_blocks * n ≤ length stages) (few : n ≤ most_lines) (m : ℕ) (rs : List Route)
-    (before phases arrived : List ℕ) (e : Arrived m rs before phases directions arrived) where
+    (before phases : List ℕ) (arrived : List Bool) (e : Arrived m rs before phases directions arrived) where
   -- the table says of each line what the routes say
-  told : (l : ℕ) → l < n → eqb (read most_lines 0 arrived l) 1 ≡ arrives m rs before phases l (direction directions l)
+  told : (l : ℕ) → l < n → get_or arrived l false ≡ arrives m rs before phases l (direction directions l)
   unfolding Arrived
-  told l q = ap (λ x. eqb x 1) (read_at most_lines 0 arrived l (omega arith)) ∙ e.1 l (omega arith)
+  told l q = e.1 l (omega arith)
 
   -- what passes back by it
-  pub arrivals_pass : (v : List ℕ) → v ≡ passed_back n ls directions (goes_open stages stages) (λ l w. eqb (read most_lines 0 arrived l) 1) stages
+  pub arrivals_pass : (v : List ℕ) → v ≡ passed_back n ls directions (goes_open stages stages) (λ l w. get_or arrived l false) stages
       → v ≡ passed_back n ls directions no_opening (arrives m rs before phases) stages
   unfolding no_opening
   arrivals_pass v q = q ∙ passed_same n ls directions stages b _ no_opening _ (arrives m rs before phases) (goes_still stages) told

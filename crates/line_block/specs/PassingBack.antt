@@ -61,7 +61,7 @@ passed_back n ls directions opened arrived stages = each (most_blocks * n) (wait
 
 -- ---- as the code tells which entrance routes were released
 
--- by a table, which has 1 for each line at whose arrival end one was
-unfoldable pub Arrived : ℕ → List Route → List ℕ → List ℕ → List ℕ → List ℕ → Type 0
+-- by a table, which tells each line at whose arrival end one was
+unfoldable pub Arrived : ℕ → List Route → List ℕ → List ℕ → List ℕ → List Bool → Type 0
 Arrived n rs before phases directions table =
-    (length table ≡ most_lines) × ((l : ℕ) → l < most_lines → eqb (get_or table l 0) 1 ≡ arrives n rs before phases l (direction directions l))
+    (length table ≡ most_lines) × ((l : ℕ) → l < most_lines → get_or table l false ≡ arrives n rs before phases l (direction directions l))

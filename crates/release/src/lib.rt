@@ -5,9 +5,9 @@ ghost use Rattle.std.specs.Prelude.{◌≡◌, ◌-◌, get_or};
 ghost use Rattle.release.specs.Release.{watched_section, watched_block, exit_pair, path_pair, watched_pair, steps_after, to_vacate, end_reading, vacated, seconds_after, goes, locking_after, settled};
 
 use laws::at8;
-use tables::{Gives, all_free, block_given, block_reads, given_to, section_reads};
+use tables::{Gives, Tables, all_free, block_given, block_reads, given_to, section_reads};
 use track::codes::{CANCELLING, ENTRANCE_ROUTE, EXIT_ROUTE, FREE, IDLE, NONE, OCCUPIED};
-use track::sizes::{LINES, PLACES, POINTS, SECTIONS};
+use track::sizes::{LINES, SECTIONS};
 use track::{Line, Route, line_at, nearest_block};
 
 // What the state holds of a route: its phase, the steps done, the seconds counted.
@@ -45,57 +45,58 @@ pub struct Settled {
 fn from_end(a: Route, k: u8) -> u8
     ensures { result ≡ get_or a.path (a.paths - k) 0 }
 {
-    let path = a.path;
-    if a.paths < k {
-        return at8(path, 0);
-    }
-    at8(path, a.paths - k)
+    at8(a.path, a.paths.saturating_sub(k))
 }
 
 // One of the watched pair that is a section.
+#[tactic(auto, unfolding(crate::specs::Release::watched_section))]
 fn watched_section(sections: &[u8; SECTIONS], e: Gives, g: u8) -> Watched
     ensures { result ≡ watched_section sections.now e g }
 {
-    let given = given_to(e, g);
-    let reads = section_reads(sections, g);
-    Watched { given, reads }
+    Watched {
+        given: given_to(e, g),
+        reads: section_reads(sections, g),
+    }
 }
 
 // One that is block i of a line.
+#[tactic(auto, unfolding(crate::specs::Release::watched_block))]
 fn watched_block(sections: &[u8; SECTIONS], e: Gives, b: Line, i: u8) -> Watched
     ensures { result ≡ watched_block sections.now e b i }
 {
-    let given = block_given(e, b, i);
-    let reads = block_reads(sections, b, i);
-    Watched { given, reads }
+    Watched {
+        given: block_given(e, b, i),
+        reads: block_reads(sections, b, i),
+    }
 }
 
 // The watched pair of an exit route.
-fn exit_pair(ls: [Line; LINES], sections: &[u8; SECTIONS], a: Route, e: Gives) -> WatchedPair
-    ensures { result ≡ exit_pair ls sections.now a e }
+#[tactic(auto, unfolding(crate::specs::Release::exit_pair))]
+fn exit_pair(ls: &[Line; LINES], sections: &[u8; SECTIONS], a: Route, e: Gives) -> WatchedPair
+    ensures { result ≡ exit_pair ls.now sections.now a e }
 {
-    let last = from_end(a, 1);
-    let b = line_at(ls, a.line);
-    let i = nearest_block(b, a.end);
-    let first = watched_section(sections, e, last);
-    let second = watched_block(sections, e, b, i);
-    WatchedPair { first, second }
+    let b = line_at(*ls, a.line);
+    WatchedPair {
+        first: watched_section(sections, e, from_end(a, 1)),
+        second: watched_block(sections, e, b, nearest_block(b, a.end)),
+    }
 }
 
 // The watched pair of any other route.
+#[tactic(auto, unfolding(crate::specs::Release::path_pair))]
 fn path_pair(sections: &[u8; SECTIONS], a: Route, e: Gives) -> WatchedPair
     ensures { result ≡ path_pair sections.now a e }
 {
-    let before = from_end(a, 2);
-    let last = from_end(a, 1);
-    let first = watched_section(sections, e, before);
-    let second = watched_section(sections, e, last);
-    WatchedPair { first, second }
+    WatchedPair {
+        first: watched_section(sections, e, from_end(a, 2)),
+        second: watched_section(sections, e, from_end(a, 1)),
+    }
 }
 
 // The watched pair of a route.
-fn watched_pair(ls: [Line; LINES], sections: &[u8; SECTIONS], a: Route, e: Gives) -> WatchedPair
-    ensures { result ≡ watched_pair ls sections.now a e }
+#[tactic(auto, using(laws::proofs::Choice::choices), unfolding(crate::specs::Release::watched_pair))]
+fn watched_pair(ls: &[Line; LINES], sections: &[u8; SECTIONS], a: Route, e: Gives) -> WatchedPair
+    ensures { result ≡ watched_pair ls.now sections.now a e }
 {
     if a.kind == EXIT_ROUTE {
         return exit_pair(ls, sections, a, e);
@@ -110,7 +111,7 @@ fn steps_after(w: WatchedPair, steps: u8) -> u8
     if steps == 3 {
         return 3;
     }
-    if (w.first.reads == NONE) | (w.second.reads == NONE) {
+    if w.first.reads == NONE || w.second.reads == NONE {
         return 0;
     }
     if steps == 2 {
@@ -119,11 +120,11 @@ fn steps_after(w: WatchedPair, steps: u8) -> u8
         }
         return 2;
     }
-    if (steps == 1) & (w.first.reads == FREE) {
+    if steps == 1 && w.first.reads == FREE {
         return 0;
     }
     if steps == 1 {
-        if (w.second.given == OCCUPIED) & (w.first.reads == OCCUPIED) {
+        if w.second.given == OCCUPIED && w.first.reads == OCCUPIED {
             return 2;
         }
         return 1;
@@ -135,80 +136,69 @@ fn steps_after(w: WatchedPair, steps: u8) -> u8
 }
 
 // How many path sections a train vacates.
+#[tactic(auto, using(laws::proofs::Choice::choices), unfolding(crate::specs::Release::to_vacate))]
 fn sections_to_vacate(a: Route) -> u8
     ensures { result ≡ to_vacate a }
 {
     if a.kind == EXIT_ROUTE {
         return a.paths;
     }
-    if a.paths == 0 {
-        return 0;
-    }
-    a.paths - 1
+    a.paths.saturating_sub(1)
 }
 
 // What the block nearest a route's own end reads.
-fn end_reads(ls: [Line; LINES], sections: &[u8; SECTIONS], a: Route) -> u8
-    ensures { result ≡ end_reading ls sections.now a }
+#[tactic(auto, unfolding(crate::specs::Release::end_reading))]
+fn end_reads(ls: &[Line; LINES], sections: &[u8; SECTIONS], a: Route) -> u8
+    ensures { result ≡ end_reading ls.now sections.now a }
 {
-    let b = line_at(ls, a.line);
-    let i = nearest_block(b, a.end);
-    block_reads(sections, b, i)
+    let b = line_at(*ls, a.line);
+    block_reads(sections, b, nearest_block(b, a.end))
 }
 
 // The route is vacated.
-fn is_vacated(ls: [Line; LINES], sections: &[u8; SECTIONS], a: Route) -> bool
-    ensures { result ≡ vacated ls sections.now a }
+fn is_vacated(ls: &[Line; LINES], sections: &[u8; SECTIONS], a: Route) -> bool
+    ensures { result ≡ vacated ls.now sections.now a }
 {
-    let entrance = a.kind == ENTRANCE_ROUTE;
     let n = sections_to_vacate(a);
-    let free = all_free(sections, n, &a.path);
     let end = end_reads(ls, sections, a);
-    free & (!entrance | (end == FREE))
+    all_free(sections, n, &a.path) && (a.kind != ENTRANCE_ROUTE || end == FREE)
 }
 
 // The seconds counted after an event.
 fn seconds_after(e: Gives, phase: u8, seconds: u8) -> u8
     ensures { result ≡ seconds_after e phase seconds }
 {
-    if (phase == CANCELLING) & (e.tick == 1) {
-        if seconds < 89 {
-            return seconds + 1;
-        }
-        return seconds;
+    if phase == CANCELLING && e.tick == 1 && seconds < 89 {
+        return seconds + 1;
     }
     seconds
 }
 
 // The route is released in this event, the steps done being now `steps`.
 fn is_released(
-    ls: [Line; LINES],
+    ls: &[Line; LINES],
     sections: &[u8; SECTIONS],
     a: Route,
     e: Gives,
     h: Locking,
     steps: u8,
 ) -> bool
-    ensures { result ≡ goes ls sections.now a e h steps }
+    ensures { result ≡ goes ls.now sections.now a e h steps }
 {
-    if (h.phase == CANCELLING) & ((e.tick == 1) & (89 <= h.seconds)) {
-        return true;
-    }
-    if steps == 3 {
-        return is_vacated(ls, sections, a);
-    }
-    false
+    let waited = (h.phase == CANCELLING) & (e.tick == 1) & (89 <= h.seconds);
+    waited || steps == 3 && is_vacated(ls, sections, a)
 }
 
 // What becomes of a locked route in an event.
+#[tactic(auto, using(laws::proofs::Choice::choices), unfolding(crate::specs::Release::locking_after))]
 pub fn locking_after(
-    ls: [Line; LINES],
+    ls: &[Line; LINES],
     sections: &[u8; SECTIONS],
     a: Route,
     e: Gives,
     h: Locking,
 ) -> Locking
-    ensures { result ≡ locking_after ls sections.now a e h }
+    ensures { result ≡ locking_after ls.now sections.now a e h }
 {
     let w = watched_pair(ls, sections, a, e);
     let steps = steps_after(w, h.steps);
@@ -228,25 +218,13 @@ pub fn locking_after(
 }
 
 // What a locked route has after an event: its signal falls, and then the route is let go or goes on.
-pub fn route_settled<'a>(
-    ls: [Line; LINES],
-    sections: &'a [u8; SECTIONS],
-    points: &'a [u8; POINTS],
-    stages: &'a [u8; PLACES],
-    bars: &'a [u8; PLACES],
-    a: Route,
-    e: Gives,
-    h: Locking,
-) -> Settled
-    ensures { result ≡ settled ls sections.now points.now stages.now bars.now a e h }
+#[tactic(auto, unfolding(crate::specs::Release::settled, crate::specs::Release::settled_from))]
+pub fn route_settled(ls: &[Line; LINES], t: Tables, a: Route, e: Gives, h: Locking) -> Settled
+    ensures { result ≡ settled ls.now t.entry.section.now t.entry.point.now t.entry.stage.now t.entry.bar.now a e h }
 {
-    let fallen = signals::falls_to(ls, sections, points, stages, bars, a, h.phase);
-    let was = Locking {
-        phase: fallen,
-        steps: h.steps,
-        seconds: h.seconds,
-    };
-    let x = locking_after(ls, sections, a, e, was);
+    let fallen = signals::falls_to(ls, t, a, h.phase);
+    let was = Locking { phase: fallen, ..h };
+    let x = locking_after(ls, t.section, a, e, was);
     Settled {
         fallen,
         phase: x.phase,

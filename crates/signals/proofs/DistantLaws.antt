@@ -1,4 +1,4 @@
--- What a distant shows, a case at each return of the code, and what that means for a driver (L2).
+-- What a distant shows, by its carrier, and what that means for a driver (L2).
 use Prim.Native.Nat.{ℕ, ◌+◌, ◌-◌}
 use mathlib.Core.Path.{◌≡◌, refl, sym, ap, ◌∙◌}
 use mathlib.Core.Bool.{Bool, true, false, not, ◌||◌}

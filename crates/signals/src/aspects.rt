@@ -1,4 +1,5 @@
 // What a signal shows, by the paper's numbers (sections 4 and 7); `specs/Aspects` has the same.
+// Numbers and no enum, since they are the bytes of the panel image, which the caller in C reads.
 
 pub const DARK: u8 = 0;
 

@@ -6,47 +6,37 @@ ghost use Rattle.signals.specs.BlockSignals.{block_shown_where};
 
 use crate::aspects::{DARK, PROCEED, STOP};
 use laws::wide;
-use tables::{is_open, is_unbarred, line_placed};
+use tables::{Tables, is_open, is_unbarred, line_placed};
 use track::codes::A_TO_B;
-use track::sizes::{LINES, PLACES, POINTS};
+use track::sizes::LINES;
 use track::{Line, line_at};
 
+// What a line's block signals are told by besides the tables: how many blocks it has, the direction it is secured in, and whether its points are in position.
+#[derive(Clone, Copy)]
+pub struct Secured {
+    pub blocks: u8,
+    pub way: u8,
+    pub placed: bool,
+}
+
 // A train may be let into block i of line l, of which the record is b: the tests in order, left at the first that fails.
-pub fn may_enter_line<'a>(
-    b: Line,
-    points: &'a [u8; POINTS],
-    stages: &'a [u8; PLACES],
-    bars: &'a [u8; PLACES],
-    l: u8,
-    i: u8,
-) -> bool
-    ensures { result ≡ enterable_by b points.now stages.now bars.now l i }
+#[tactic(auto, unfolding(crate::specs::Signals::enterable_by, laws::specs::Tests::every))]
+pub fn may_enter_line(t: Tables, b: Line, l: u8, i: u8) -> bool
+    ensures { result ≡ enterable_by b t.entry.point.now t.entry.stage.now t.entry.bar.now l i }
 {
-    if !is_open(stages, l, i) {
-        return false;
-    }
-    if !is_unbarred(bars, l, i) {
-        return false;
-    }
-    line_placed(points, b)
+    is_open(t.stage, l, i) && is_unbarred(t.bar, l, i) && line_placed(t.point, b)
 }
 
 // A train may be let into block i of line l.
-pub fn may_enter<'a>(
-    ls: [Line; LINES],
-    points: &'a [u8; POINTS],
-    stages: &'a [u8; PLACES],
-    bars: &'a [u8; PLACES],
-    l: u8,
-    i: u8,
-) -> bool
-    ensures { result ≡ enterable ls points.now stages.now bars.now l i }
+#[tactic(auto, unfolding(crate::specs::Signals::enterable))]
+pub fn may_enter(ls: &[Line; LINES], t: Tables, l: u8, i: u8) -> bool
+    ensures { result ≡ enterable ls.now t.entry.point.now t.entry.stage.now t.entry.bar.now l i }
 {
-    let b = line_at(ls, l);
-    may_enter_line(b, points, stages, bars, l, i)
+    may_enter_line(t, line_at(*ls, l), l, i)
 }
 
 // Of n blocks block i has a signal for direction w.
+#[tactic(auto, using(laws::proofs::Choice::choices), unfolding(track::specs::Signal::has_signal))]
 fn has_signal(n: u8, i: u8, w: u8) -> bool
     ensures { result ≡ has_signal n i w }
 {
@@ -56,32 +46,14 @@ fn has_signal(n: u8, i: u8, w: u8) -> bool
     wide(i) + 1 < wide(n)
 }
 
-// What the signal into block i of line l for direction w shows: the line has n blocks and is secured in direction way, its points in position or not.
-pub fn block_shown<'a>(
-    stages: &'a [u8; PLACES],
-    bars: &'a [u8; PLACES],
-    n: u8,
-    way: u8,
-    placed: bool,
-    l: u8,
-    i: u8,
-    w: u8,
-) -> u8
-    ensures { result ≡ block_shown_where stages.now bars.now n way placed l i w }
+// What the signal into block i of line l for direction w shows, of a line that is secured so.
+pub fn block_shown(t: Tables, s: Secured, l: u8, i: u8, w: u8) -> u8
+    ensures { result ≡ block_shown_where t.entry.stage.now t.entry.bar.now s.blocks s.way s.placed l i w }
 {
-    if way != w {
+    if s.way != w || !has_signal(s.blocks, i, w) {
         return DARK;
     }
-    if !has_signal(n, i, w) {
-        return DARK;
-    }
-    if !placed {
-        return STOP;
-    }
-    if !is_open(stages, l, i) {
-        return STOP;
-    }
-    if is_unbarred(bars, l, i) {
+    if s.placed && is_open(t.stage, l, i) && is_unbarred(t.bar, l, i) {
         return PROCEED;
     }
     STOP

@@ -6,75 +6,35 @@ ghost use Rattle.signals.specs.Distants.{warning, carrier_darkens, distant_shows
 use crate::aspects::{
     DARK, PROCEED, PROCEED_DIVERGING, STOP, WARNS_OF_DIVERGING, WARNS_OF_PROCEED, WARNS_OF_STOP,
 };
-use crate::number_shown;
-use track::Line;
-use track::sizes::{LINES, PLACES, POINTS, SIGNALS};
+use crate::numbers::{Shown, number_shown};
 
 // What a distant shows of a signal that shows x.
+#[tactic(auto, using(laws::proofs::Choice::choices), unfolding(crate::specs::Distants::warning))]
 fn warning_of(x: u8) -> u8
     ensures { result ≡ warning x }
 {
-    if x == STOP {
-        return WARNS_OF_STOP;
+    match x {
+        STOP => WARNS_OF_STOP,
+        PROCEED_DIVERGING => WARNS_OF_DIVERGING,
+        PROCEED => WARNS_OF_PROCEED,
+        _ => DARK,
     }
-    if x == PROCEED_DIVERGING {
-        return WARNS_OF_DIVERGING;
-    }
-    if x == PROCEED {
-        return WARNS_OF_PROCEED;
-    }
-    DARK
 }
 
 // The signal that carries a distant keeps it dark: there is one, carrier - 1, and it is at stop or dark.
-fn carrier_darkens<'a>(
-    m: u8,
-    n: u8,
-    ls: [Line; LINES],
-    mains: &'a [u8; SIGNALS],
-    directions: &'a [u8; LINES],
-    points: &'a [u8; POINTS],
-    stages: &'a [u8; PLACES],
-    bars: &'a [u8; PLACES],
-    carrier: u8,
-) -> bool
-    ensures { result ≡ carrier_darkens (number_shown_by m n ls mains.now directions.now points.now stages.now bars.now) carrier }
+fn carrier_darkens(s: Shown, carrier: u8) -> bool
+    ensures { result ≡ carrier_darkens (number_shown_by s.entry.mains s.entry.lines s.entry.line.now s.entry.main.now s.entry.tables.direction.now s.entry.tables.point.now s.entry.tables.stage.now s.entry.tables.bar.now) carrier }
 {
-    if carrier == 0 {
-        return false;
-    }
-    let shown = number_shown(
-        m,
-        n,
-        ls,
-        mains,
-        directions,
-        points,
-        stages,
-        bars,
-        carrier - 1,
-    );
-    (shown == STOP) | (shown == DARK)
+    carrier != 0 && matches!(number_shown(s, carrier - 1), STOP | DARK)
 }
 
 // What a distant shows: its carrier, 0 or a signal's number plus 1, is asked first, then the signal that it announces.
-pub fn distant_shown<'a>(
-    m: u8,
-    n: u8,
-    ls: [Line; LINES],
-    mains: &'a [u8; SIGNALS],
-    directions: &'a [u8; LINES],
-    points: &'a [u8; POINTS],
-    stages: &'a [u8; PLACES],
-    bars: &'a [u8; PLACES],
-    carrier: u8,
-    announced: u8,
-) -> u8
-    ensures { result ≡ distant_shows (number_shown_by m n ls mains.now directions.now points.now stages.now bars.now) carrier announced }
+#[tactic(auto, using(laws::proofs::Choice::chains), unfolding(crate::specs::Distants::distant_shows))]
+pub fn distant_shown(s: Shown, carrier: u8, announced: u8) -> u8
+    ensures { result ≡ distant_shows (number_shown_by s.entry.mains s.entry.lines s.entry.line.now s.entry.main.now s.entry.tables.direction.now s.entry.tables.point.now s.entry.tables.stage.now s.entry.tables.bar.now) carrier announced }
 {
-    if carrier_darkens(m, n, ls, mains, directions, points, stages, bars, carrier) {
+    if carrier_darkens(s, carrier) {
         return DARK;
     }
-    let shown = number_shown(m, n, ls, mains, directions, points, stages, bars, announced);
-    warning_of(shown)
+    warning_of(number_shown(s, announced))
 }

@@ -7,7 +7,7 @@ mod distants;
 mod main_signals;
 mod numbers;
 
-pub use block_signals::{block_shown, may_enter, may_enter_line};
+pub use block_signals::{Secured, block_shown, may_enter, may_enter_line};
 pub use distants::distant_shown;
 pub use main_signals::{falls_to, is_clear, main_shown};
-pub use numbers::number_shown;
+pub use numbers::{Shown, number_shown};
