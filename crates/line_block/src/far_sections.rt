@@ -102,7 +102,7 @@ fn moved_stage(ls: &[Line; LINES], s: Starts, before: Tables, now: Tables, k: u8
     if w == NEUTRAL {
         return was;
     }
-    let b = line_at(*ls, l);
+    let b = line_at(ls, l);
     let far = far_reading(b, now.section, i, w);
     if (was == STAGE_1) & (far == OCCUPIED) {
         let dropped = far_dropped(b, s, before, now, l, i, w);

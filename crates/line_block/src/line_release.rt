@@ -47,7 +47,7 @@ fn exit_is_locked<'a>(n: u8, rs: &'a [Route; TRAIN_ROUTES], phases: &'a [u8; ROU
     ensures { result ≡ any_below n (locked_exit rs.now phases.now k) }
 {
     for r in 0..n {
-        if tables::is_locked_exit(phases, route_at(*rs, r), k, r) {
+        if tables::is_locked_exit(phases, route_at(rs, r), k, r) {
             return true;
         }
     }
@@ -59,7 +59,7 @@ fn exit_is_locked<'a>(n: u8, rs: &'a [Route; TRAIN_ROUTES], phases: &'a [u8; ROU
 fn is_ended(l: &Layout, before: Tables, now: Tables, k: u8, w: u8) -> bool
     ensures { result ≡ ends_by (line l.now.line k) l.now.routes l.now.route before.entry.stage.now now.entry.stage.now now.entry.bar.now now.entry.phase.now k w }
 {
-    let b = line_at(l.line, k);
+    let b = line_at(&l.line, k);
     was_passed(before.stage, b, k, w)
         && all_passable(now, k, b.blocks)
         && !exit_is_locked(l.routes, &l.route, now.phase, k)

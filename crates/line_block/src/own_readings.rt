@@ -32,7 +32,7 @@ fn given_stage(m: u8, ls: &[Line; LINES], t: Tables, k: u8, given: u8, was: u8) 
     if (given == FREE) & (was == STAGE_2) {
         let l = k / MOST_BLOCKS;
         let w = direction_of(t.direction, l);
-        let lit = lamps::far_stop_lit(t.lamp, m, *ls, l, k % MOST_BLOCKS, w);
+        let lit = lamps::far_stop_lit(t.lamp, m, ls, l, k % MOST_BLOCKS, w);
         return passage::own_stage(given, lit, was);
     }
     passage::own_stage(given, false, was)
@@ -46,7 +46,7 @@ fn given_stages(places: u8, m: u8, ls: &[Line; LINES], t: Tables, e: Gives) -> [
 {
     let mut stage = copied(t.stage);
     for k in 0..places {
-        let given = own_given(e, line_at(*ls, k / MOST_BLOCKS), k % MOST_BLOCKS);
+        let given = own_given(e, line_at(ls, k / MOST_BLOCKS), k % MOST_BLOCKS);
         if given != 0 {
             stage[k as usize] = given_stage(m, ls, t, k, given, stage[k as usize]);
         }

@@ -69,7 +69,7 @@ pub(super) fn passed_back(
             continue;
         }
         let l = k / MOST_BLOCKS;
-        let b = line_at(*ls, l);
+        let b = line_at(ls, l);
         let w = direction_of(now.direction, l);
         let here = arrived[l as usize];
         stage[k as usize] = waited_stage(b, before, now, here, l, k % MOST_BLOCKS, w);
@@ -93,7 +93,7 @@ fn arrivals(l: &Layout, before: Tables, now: Tables) -> [bool; LINES]
 {
     let mut arrived = [false; LINES];
     for r in 0..l.routes {
-        let a = route_at(l.route, r);
+        let a = route_at(&l.route, r);
         let w = direction_of(now.direction, a.line);
         if a.line < MOST_LINES && is_released_entrance(before, now, a, a.line, w, r) {
             arrived[a.line as usize] = true;

@@ -45,7 +45,7 @@ pub struct Settled {
 fn from_end(a: Route, k: u8) -> u8
     ensures { result ≡ get_or a.path (a.paths - k) 0 }
 {
-    at8(a.path, a.paths.saturating_sub(k))
+    at8(&a.path, a.paths.saturating_sub(k))
 }
 
 // One of the watched pair that is a section.
@@ -75,7 +75,7 @@ fn watched_block(sections: &[u8; SECTIONS], e: Gives, b: Line, i: u8) -> Watched
 fn exit_pair(ls: &[Line; LINES], sections: &[u8; SECTIONS], a: Route, e: Gives) -> WatchedPair
     ensures { result ≡ exit_pair ls.now sections.now a e }
 {
-    let b = line_at(*ls, a.line);
+    let b = line_at(ls, a.line);
     WatchedPair {
         first: watched_section(sections, e, from_end(a, 1)),
         second: watched_block(sections, e, b, nearest_block(b, a.end)),
@@ -151,7 +151,7 @@ fn sections_to_vacate(a: Route) -> u8
 fn end_reads(ls: &[Line; LINES], sections: &[u8; SECTIONS], a: Route) -> u8
     ensures { result ≡ end_reading ls.now sections.now a }
 {
-    let b = line_at(*ls, a.line);
+    let b = line_at(ls, a.line);
     block_reads(sections, b, nearest_block(b, a.end))
 }
 

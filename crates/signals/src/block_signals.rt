@@ -32,7 +32,7 @@ pub fn may_enter_line(t: Tables, b: Line, l: u8, i: u8) -> bool
 pub fn may_enter(ls: &[Line; LINES], t: Tables, l: u8, i: u8) -> bool
     ensures { result ≡ enterable ls.now t.entry.point.now t.entry.stage.now t.entry.bar.now l i }
 {
-    may_enter_line(t, line_at(*ls, l), l, i)
+    may_enter_line(t, line_at(ls, l), l, i)
 }
 
 // Of n blocks block i has a signal for direction w.

@@ -19,7 +19,7 @@ use track::{Line, Route, line_at, nearest_block, route_at};
 fn line_lets_out(ls: &[Line; LINES], t: Tables, a: Route) -> bool
     ensures { result ≡ lets_out ls.now t.entry.point.now t.entry.stage.now t.entry.bar.now a }
 {
-    let b = line_at(*ls, a.line);
+    let b = line_at(ls, a.line);
     may_enter(ls, t, a.line, nearest_block(b, a.end))
 }
 
@@ -77,7 +77,7 @@ pub fn main_shown(n: u8, rs: &[Route; TRAIN_ROUTES], phases: &[u8; ROUTES]) -> [
         if MOST_ROUTES <= r || phases[r as usize] != AT_PROCEED {
             continue;
         }
-        let a = route_at(*rs, r);
+        let a = route_at(rs, r);
         if a.entry < MOST_SIGNALS {
             shown[a.entry as usize] = proceed_shown(a);
         }

@@ -64,7 +64,7 @@ pub fn number_shown(s: Shown, k: u8) -> u8
     }
     let mut left = wide(k) - wide(s.mains);
     for l in 0..s.lines {
-        let b = line_at(*s.line, l);
+        let b = line_at(s.line, l);
         let own = between_blocks(b);
         if left < own {
             return line_signal_shown(s.tables, b, l, left);
