@@ -122,7 +122,7 @@ impl Core {
             return refused(self, f);
         }
         let rs = layout.route;
-        let a = route_at(rs, r);
+        let a = route_at(&rs, r);
         let first = orders::secure_first(self, a);
         let t = orders::lock(first, r);
         let gives = gives_nothing();
@@ -245,7 +245,7 @@ impl Core {
         ensures { (lamps : List ℕ) (code : ℕ) → result ≡ tried sound self signal (lamp_row layout (headless self lamps) signal code) }
     {
         let ls = layout.line;
-        let count = signal_count(layout.signals, layout.lines, ls);
+        let count = signal_count(layout.signals, layout.lines, &ls);
         let missing = count <= signal as u64;
         let numbers = numbers_refusal(sound, missing, signal, no_refusal(), false);
         if numbers.number != 0 {

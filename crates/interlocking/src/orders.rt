@@ -113,7 +113,7 @@ pub fn secure_first(s: Core, a: Route) -> Core
 fn opened_at(ls: [Line; LINES], l: u8, k: u8, was: u8) -> u8
     ensures { result ≡ open_at ls l k was }
 {
-    let b = track::line_at(ls, l);
+    let b = track::line_at(&ls, l);
     if (k / MOST_BLOCKS == l) & (k % MOST_BLOCKS < b.blocks) {
         return OPEN;
     }

@@ -69,7 +69,7 @@ fn few_signals(m: u8, n: u8, ls: [Line; LINES]) -> u8
     requires { signal_count m n ls < 256 }
     ensures { result ≡ signal_count m n ls }
 {
-    signal_count(m, n, ls) as u8
+    signal_count(m, n, &ls) as u8
 }
 
 // The whole file.

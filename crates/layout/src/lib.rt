@@ -197,7 +197,7 @@ fn in_range(l: Layout) -> bool
     let sections = track::is_between(1, MOST_SECTIONS, l.sections);
     let points = walks::sections_fit(own, l.points, l.sections);
     let lines = walks::lines_keep(0, c, ls);
-    let signals = signal_count(l.signals, l.lines, ls);
+    let signals = signal_count(l.signals, l.lines, &ls);
     let distants = distants::distants_keep(0, signals, l.distants, &carriers, &announced);
     let routes = walks::routes_keep(0, c, ls, 0, n, rs);
     let heads = walks::heads_fit(fitted, l.sections) & (l.lacking == 0);

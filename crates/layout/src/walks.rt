@@ -18,19 +18,19 @@ fn line_keeps(k: u8, c: Counts, ls: [Line; LINES], l: u8) -> bool
         return line_fits(c, ls, l);
     }
     if k == 1 {
-        return rules::blocks_once(ls, l);
+        return rules::blocks_once(&ls, l);
     }
     if k == 2 {
-        return rules::line_ends(ls, l);
+        return rules::line_ends(&ls, l);
     }
-    rules::line_points(ls, l)
+    rules::line_points(&ls, l)
 }
 
 // The numbers of line l are in range.
 fn line_fits(c: Counts, ls: [Line; LINES], l: u8) -> bool
     ensures { result ≡ line_fits c (line ls l) }
 {
-    let a = track::line_at(ls, l);
+    let a = track::line_at(&ls, l);
     track::line_fits(c, a)
 }
 
@@ -65,7 +65,7 @@ fn route_keeps(k: u8, c: Counts, ls: [Line; LINES], blocks: u64, a: Route) -> bo
     if k == 4 {
         return rules::route_length(a);
     }
-    rules::route_ends(ls, c.lines, a)
+    rules::route_ends(&ls, c.lines, a)
 }
 
 // Each route keeps rule k.
@@ -96,8 +96,8 @@ pub fn rule_1(c: Counts, ls: [Line; LINES], n: u8, rs: [Route; TRAIN_ROUTES]) ->
     requires { n ≤ most_train_routes }
     ensures { result ≡ blocks_apart c ls n rs }
 {
-    let blocks = rules::block_set(ls, c.lines);
-    let inner = rules::inner_set(ls, c.lines);
+    let blocks = rules::block_set(&ls, c.lines);
+    let inner = rules::inner_set(&ls, c.lines);
     let once = lines_keep(1, c, ls);
     let paths = routes_keep(1, c, ls, blocks, n, rs);
     let both = sets::share(blocks, inner);

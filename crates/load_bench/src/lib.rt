@@ -13,9 +13,9 @@ fn look(l: Layout, r: u8, place: u8) -> u8
     ensures { result ≡ get_or (route l.route r).overlap place 0 }
 {
     let rs = l.route;
-    let x = track::route_at(rs, r);
+    let x = track::route_at(&rs, r);
     let overlap = x.overlap;
-    laws::at8(overlap, place)
+    laws::at8(&overlap, place)
 }
 
 // The answer in the lowest byte, then 16 bits of the detail, then a section.

@@ -20,7 +20,7 @@ pub fn no_such_block(plan: Layout, l: u32, i: u32) -> bool
 {
     let ls = plan.line;
     if (l as usize) < LINES {
-        let b = line_at(ls, l as u8);
+        let b = line_at(&ls, l as u8);
         return b.blocks as u32 <= i;
     }
     true

@@ -144,7 +144,7 @@ pub fn exit_locked(plan: Layout, phases: &[u8; ROUTES], l: u8) -> Refusal
 pub fn block_barred(ls: [Line; LINES], bars: &[u8; PLACES], l: u8) -> Refusal
     ensures { result ≡ block_barred ls bars.now l }
 {
-    let b = line_at(ls, l);
+    let b = line_at(&ls, l);
     let g = searches::lowest_taken(bars, b, l);
     found_at(11, MOST_SECTIONS, g)
 }
@@ -153,7 +153,7 @@ pub fn block_barred(ls: [Line; LINES], bars: &[u8; PLACES], l: u8) -> Refusal
 pub fn block_held(ls: [Line; LINES], stages: &[u8; PLACES], l: u8) -> Refusal
     ensures { result ≡ block_held ls stages.now l }
 {
-    let b = line_at(ls, l);
+    let b = line_at(&ls, l);
     let g = searches::lowest_taken(stages, b, l);
     found_at(10, MOST_SECTIONS, g)
 }
@@ -162,7 +162,7 @@ pub fn block_held(ls: [Line; LINES], stages: &[u8; PLACES], l: u8) -> Refusal
 pub fn line_not_placed(ls: [Line; LINES], points: &[u8; POINTS], l: u8) -> Refusal
     ensures { result ≡ not_placed points.now (line ls l).points (line ls l).point (line ls l).position }
 {
-    let b = line_at(ls, l);
+    let b = line_at(&ls, l);
     let ps = b.point;
     let ws = b.position;
     not_placed(points, b.points, ps, ws)
@@ -200,7 +200,7 @@ pub fn point_not_free(own: [u8; POINTS], sections: &[u8; SECTIONS], p: u8) -> Re
 pub fn line_not_free(ls: [Line; LINES], sections: &[u8; SECTIONS], l: u8) -> Refusal
     ensures { result ≡ not_free sections.now (line_sections (line ls l)) }
 {
-    let b = line_at(ls, l);
+    let b = line_at(&ls, l);
     let unfree = unfree_blocks(sections, b);
     not_free(sections, unfree)
 }
@@ -250,7 +250,7 @@ pub fn already_secured(directions: &[u8; LINES], l: u8) -> Refusal
 pub fn entered_barred(ls: [Line; LINES], bars: &[u8; PLACES], a: Route) -> Refusal
     ensures { result ≡ refused_if (not (unbarred bars.now a.line (nearest (line ls a.line) a.end))) 11 (block_detail (line ls a.line) (nearest (line ls a.line) a.end)) }
 {
-    let b = line_at(ls, a.line);
+    let b = line_at(&ls, a.line);
     let i = nearest_block(b, a.end);
     let section = detail_section(b, i);
     let free = is_unbarred(bars, a.line, i);
@@ -261,7 +261,7 @@ pub fn entered_barred(ls: [Line; LINES], bars: &[u8; PLACES], a: Route) -> Refus
 pub fn entered_held(ls: [Line; LINES], stages: &[u8; PLACES], a: Route) -> Refusal
     ensures { result ≡ refused_if (not (is_open stages.now a.line (nearest (line ls a.line) a.end))) 10 (block_detail (line ls a.line) (nearest (line ls a.line) a.end)) }
 {
-    let b = line_at(ls, a.line);
+    let b = line_at(&ls, a.line);
     let i = nearest_block(b, a.end);
     let section = detail_section(b, i);
     let open = is_open(stages, a.line, i);
@@ -272,7 +272,7 @@ pub fn entered_held(ls: [Line; LINES], stages: &[u8; PLACES], a: Route) -> Refus
 pub fn arrival_dark(ls: [Line; LINES], lamps: &[u8; LAMPS], l: u8, w: u8) -> Refusal
     ensures { result ≡ arrival_dark (line ls l) lamps.now w }
 {
-    let b = line_at(ls, l);
+    let b = line_at(&ls, l);
     let x = entrance_at(b, arrival_end(w));
     let dark = reports_none(lamps, x);
     refused_if(dark, 31, x as u32)

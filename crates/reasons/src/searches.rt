@@ -90,7 +90,7 @@ fn route_locks(a: Route, phases: &[u8; ROUTES], p: u8, r: u8) -> bool
         return false;
     }
     let point = a.point;
-    is_among(point, a.points, p)
+    is_among(&point, a.points, p)
 }
 
 // The lowest of n routes that is locked and lists point p. Its record alone is taken out of the table, so the table is not copied at each turn.
@@ -120,7 +120,7 @@ fn line_locks(b: Line, directions: &[u8; LINES], p: u8, l: u8) -> bool
         return false;
     }
     let point = b.point;
-    is_among(point, b.points, p)
+    is_among(&point, b.points, p)
 }
 
 // The lowest of n lines that is secured and lists point p.

@@ -192,7 +192,7 @@ pub fn set_refusal<'a>(
         return other;
     }
     let rs = plan.route;
-    let a = route_at(rs, r);
+    let a = route_at(&rs, r);
     route_refusal(plan, sections, points, directions, stages, bars, lamps, a)
 }
 

@@ -151,7 +151,7 @@ fn put_table_of_lamps(line: &mut [u8], at: usize, codes: [u8; LAMPS], n: usize) 
 pub fn put_lamps(line: &mut [u8], at: usize, plan: Layout, s: State) -> usize {
     let lamp = s.lamp;
     let ls = plan.line;
-    let n = signal_count(plan.signals, plan.lines, ls) as usize;
+    let n = signal_count(plan.signals, plan.lines, &ls) as usize;
     put_table_of_lamps(line, at, lamp, n)
 }
 

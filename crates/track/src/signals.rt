@@ -18,7 +18,7 @@ pub fn between_blocks(b: Line) -> u64
 }
 
 // How many signals there are, m main signals and the block signals of n lines: no more than 508 for a line.
-pub fn signal_count(m: u8, n: u8, ls: &[Line; LINES]) -> u64
+fn signals_counted(m: u8, n: u8, ls: &[Line; LINES]) -> u64
     ensures counted { result ≡ signal_count m n ls.now }
     ensures at_most { result ≤ 255 + 508 * n }
 {
@@ -29,12 +29,19 @@ pub fn signal_count(m: u8, n: u8, ls: &[Line; LINES]) -> u64
     count
 }
 
+// How many signals there are: m main signals, and the block signals of n lines.
+pub fn signal_count(m: u8, n: u8, ls: &[Line; LINES]) -> u64
+    ensures { result ≡ signal_count m n ls.now }
+{
+    signals_counted(m, n, ls)
+}
+
 // The number of the block signal into block i of line l for direction w, where there are m main signals.
 #[tactic(auto, using(crate::proofs::SignalNumbers::number_up, crate::proofs::SignalNumbers::number_down))]
 pub fn number_into(m: u8, ls: &[Line; LINES], l: u8, i: u8, w: u8) -> u64
     ensures { result ≡ number_of m ls.now (into l i w) }
 {
-    let before = signal_count(m, l, ls);
+    let before = signals_counted(m, l, ls);
     if w == A_TO_B {
         return before + wide(i.saturating_sub(1));
     }

@@ -2,7 +2,7 @@
 use Prim.Native.Nat.{◌+◌, ◌*◌, ◌≤◌}
 use mathlib.Core.Path.{◌≡◌}
 use Rattle.track.specs.SignalNumbers.{signal_count}
-use Rattle.track.proofs.signals.signal_count.Given as goal
+use Rattle.track.proofs.signals.signals_counted.Given as goal
 
 -- the main signals and the block signals of the first l lines are counted
 abbrev pub invariant-loop-l : goal.invariant-loop-l

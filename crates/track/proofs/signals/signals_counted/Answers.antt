@@ -3,7 +3,7 @@ use native.Mathlib.Omega.{arith}
 use borrow.Author.Rules.{rules}
 use Rattle.track.specs.SignalNumbers.{between_blocks}
 use Rattle.track.proofs.SignalNumbers.{count_mains, count_on}
-use Rattle.track.proofs.signals.signal_count.Goals as goal
+use Rattle.track.proofs.signals.signals_counted.Goals as goal
 
 pub loop-l-init : goal.loop-l-init
 loop-l-init c = (omega (arith, count_mains c.args.m c.args.ls.now), omega arith)
