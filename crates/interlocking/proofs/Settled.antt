@@ -13,13 +13,13 @@ use Rattle.laws.specs.Tests.{◌and◌}
 use Rattle.laws.specs.Tables.{each, read}
 use Rattle.laws.proofs.Choice.{if_eq, if_ne, if_both}
 use Rattle.laws.proofs.Tests.{any_same}
-use Rattle.laws.proofs.Arrays.{read_in, read_at}
+use Rattle.laws.proofs.Arrays.{read_at}
 use Rattle.laws.proofs.Each.{Redone, each_at, each_past, length_each, each_over}
 use Rattle.track.specs.declared.Line.{Line}
 use Rattle.track.specs.declared.Route.{Route}
 use Rattle.track.specs.Codes.{idle, at_proceed}
 use Rattle.track.specs.Sizes.{most_lines, most_train_routes, most_routes}
-use Rattle.track.specs.Objects.{route, no_route}
+use Rattle.track.specs.Objects.{route}
 use Rattle.track.specs.Signal.{Signal, main, into}
 use Rattle.signals.specs.Signals.{clear, fallen, route_proceeds, main_proceeds}
 use Rattle.tables.specs.declared.Gives.{Gives}
@@ -37,15 +37,11 @@ use Rattle.interlocking.specs.State.{with_routes, with_lines}
 use Rattle.interlocking.specs.declared.answering.Walked.{Walked}
 use Rattle.interlocking.specs.declared.Core.{Core}
 use Rattle.interlocking.specs.Parts.{core_of, bare}
-use Rattle.interlocking.proofs.Walk.{IsWalk, fell}
+use Rattle.interlocking.specs.Walk.{IsWalk}
+use Rattle.interlocking.proofs.Walk.{fell}
 use Rattle.interlocking.specs.Settle.{fallen_at, signals, proceeds_in, far_sections, locking_of, route_after, unless_idle, routes_by, routes, arrivals, line_release, settle}
 
 -- ---- one turn of the walk
-
--- a route that there is stands in the table, so the default is not read
-pub route_in : (rs : List Route) (r n : ℕ) (d : Route) → length rs ≡ most_train_routes → r < n → n ≤ most_train_routes → get_or rs r d ≡ route rs r
-unfolding route
-route_in rs r n d q b few = read_in rs r most_train_routes d no_route q (omega arith)
 
 -- a signal's fall makes no route idle
 fallen_live : (ls : List Line) (sections points stages bars : List ℕ) (a : Route) (was : ℕ) → (was ≡ 0 → ⊥)
@@ -73,8 +69,8 @@ module _ (ls : List Line) (rs : List Route) (n : ℕ) (s : State) (r : ℕ) (b :
       (fell_at ∙ sym (fallen_idle ls s.section s.point s.stage s.bar (route rs r) (get_or s.phase r 0) h) ∙ h) refl
 
   -- a route that is not idle takes what becomes of it
-  module _ (e : Gives) (d : Route) (x : Settled) (q : length rs ≡ most_train_routes) (live : get_or s.phase r 0 ≡ 0 → ⊥)
-      (g : x ≡ settled ls s.section s.point s.stage s.bar (get_or rs r d) e
+  module _ (e : Gives) (a : Route) (x : Settled) (same : a ≡ route rs r) (live : get_or s.phase r 0 ≡ 0 → ⊥)
+      (g : x ≡ settled ls s.section s.point s.stage s.bar a e
       (record { phase = get_or s.phase r 0; steps = get_or s.steps r 0; seconds = get_or s.seconds r 0 })) where
     -- what the route holds once its signal has fallen
     held : Locking
@@ -84,8 +80,8 @@ module _ (ls : List Line) (rs : List Route) (n : ℕ) (s : State) (r : ℕ) (b :
     turned : x ≡ settled_from (fallen_at ls rs s r (get_or s.phase r 0)) (locking_after ls s.section (route rs r) e held)
     unfolding settled held fallen_at
     turned =
-        g ∙ ap (λ (a : Route). settled ls s.section s.point s.stage s.bar a e
-        (record { phase = get_or s.phase r 0; steps = get_or s.steps r 0; seconds = get_or s.seconds r 0 })) (route_in rs r n d q b few)
+        g ∙ ap (λ (c : Route). settled ls s.section s.point s.stage s.bar c e
+        (record { phase = get_or s.phase r 0; steps = get_or s.steps r 0; seconds = get_or s.seconds r 0 })) same
 
     -- the fallen state holds the same of the route: its tables are read at a route that there is
     same_held : held ≡ locking_of (fell ls rs n s) r

@@ -1,6 +1,5 @@
--- What one walk over the routes makes, as the code goes: signals fall and routes are let go in the same turn. What follows an event stands in specs/Settle.
+-- The walk over the routes, once its loop has ended.
 use Prim.Native.Nat.{ℕ, ◌≤◌}
-use mathlib.Core.Path.{◌≡◌}
 use mathlib.Core.List.{List}
 use Rattle.laws.specs.Tables.{each}
 use Rattle.laws.proofs.Each.{Redone, redo_end}
@@ -9,24 +8,11 @@ use Rattle.track.specs.declared.Route.{Route}
 use Rattle.track.specs.Sizes.{most_train_routes, most_routes}
 use Rattle.track.specs.Objects.{route}
 use Rattle.tables.specs.declared.Gives.{Gives}
-use Rattle.release.specs.declared.Locking.{Locking}
+use Rattle.interlocking.specs.Walk.{IsWalk}
 use Rattle.layout.specs.declared.Layout.{Layout}
 use Rattle.interlocking.specs.declared.State.{State}
-use Rattle.interlocking.specs.declared.answering.Walked.{Walked}
 use Rattle.interlocking.specs.State.{with_routes}
 use Rattle.interlocking.specs.Settle.{fallen_at, signals, route_after, unless_idle}
-
--- what becomes of each route once the signals have fallen, one part of it, from what the table held
-abbrev pub becoming : Layout → State → Gives → (Locking → ℕ) → List ℕ → List ℕ
-becoming L s e part xs = each L.routes (λ r was. unless_idle (signals L s) r was (part (route_after L.line L.route (signals L s) e r))) xs
-
--- the tables are those of all routes: the signals at which they start, over blank entries; the phases after the signals; phase, steps and seconds at the end
-pub record IsWalk (L : Layout) (s : State) (e : Gives) (blank : List ℕ) (w : Walked) : Type 0 where
-  pub entry : w.entry ≡ each L.routes (λ r was. (route L.route r).entry) blank
-  pub fallen : w.fallen ≡ each L.routes (fallen_at L.line L.route s) s.phase
-  pub phase : w.phase ≡ becoming L s e (λ h. h.phase) s.phase
-  pub steps : w.steps ≡ becoming L s e (λ h. h.steps) s.steps
-  pub seconds : w.seconds ≡ becoming L s e (λ h. h.seconds) s.seconds
 
 -- the state whose signals have fallen, of n routes
 unfoldable pub fell : List Line → List Route → ℕ → State → State

@@ -1,13 +1,9 @@
 // The answer to an event: the event of its kind, and what follows every event (sections 4 to 6).
-ghost use Rattle.std.specs.Prelude.{◌≡◌, true, List, ℕ, ◌≤◌};
+ghost use Rattle.std.specs.Prelude.{◌≡◌, true, ◌≤◌, replicate};
 ghost use Rattle.track.specs.Sizes.{most_lines, most_train_routes};
-ghost use Rattle.tables.specs.declared.Gives.{Gives};
-ghost use Rattle.layout.specs.declared.Layout.{Layout};
-ghost use Rattle.line_block.specs.FarSections.{far_stages};
-ghost use Rattle.line_block.specs.PassingBack.{no_opening, arrives, passed_back};
-ghost use Rattle.line_block.specs.LineRelease.{directions_after};
-ghost use Rattle.line_block.specs.Entries.{few_lines, proceeds_by};
-ghost use Rattle.interlocking.specs.Parts.{core_step};
+ghost use Rattle.interlocking.specs.Parts.{bare, core_of, core_step};
+ghost use Rattle.interlocking.specs.Settle.{settle};
+ghost use Rattle.interlocking.specs.Walk.{IsWalk};
 
 use super::event::event_tried;
 use super::parts::heads_then;
@@ -17,10 +13,11 @@ use layout::Layout;
 use line_block::far_sections::far_stages;
 use line_block::line_release::directions_after;
 use line_block::passing_back::{none_waits, stages_after_arrivals};
-use release::Locking;
+use release::{Locking, route_settled};
+use tables::{Gives, Tables};
 use track::codes::IDLE;
-use track::sizes::{LAMPS, LINES, PLACES, ROUTES, TRAIN_ROUTES};
-use track::{Line, Route};
+use track::route_at;
+use track::sizes::{LAMPS, ROUTES, TRAIN_ROUTES};
 
 // What the walk over the routes makes: the signal at which each starts, the phases after the signals, and then phase, steps and seconds.
 #[derive(Clone, Copy)]
@@ -32,76 +29,104 @@ pub struct Walked {
     pub seconds: [u8; TRAIN_ROUTES],
 }
 
-// The stages after far sections, s being the state that the event itself made.
-fn far_after(s: Core, before: Core, w: Walked, ls: [Line; LINES], m: u8, n: u8) -> [u8; PLACES]
-    ensures { result ≡ far_stages (few_lines m) ls s.direction s.section (proceeds_by ls n w.entry before.phase before.direction before.point before.stage before.bar) (proceeds_by ls n w.entry w.fallen s.direction s.point s.stage s.bar) s.stage }
+// The walk over a layout's routes, after an event that made the state s: signals fall and routes are let go in one turn, since far sections move no route.
+fn walk_routes(l: &Layout, s: Core, lamps: &[u8; LAMPS], e: Gives) -> Walked
+    requires { l.now.routes ≤ most_train_routes }
+    ensures { IsWalk l.now (bare s) e (replicate most_train_routes 0) result }
 {
-    let stages = s.stage;
-    far_stages(
-        m,
-        ls,
-        n,
-        &w.entry,
-        &s.section,
-        &before.phase,
-        &before.direction,
-        &before.point,
-        &before.stage,
-        &before.bar,
-        &w.fallen,
-        &s.direction,
-        &s.point,
-        stages,
-        &s.bar,
-    )
+    let t = Tables {
+        section: &s.section,
+        point: &s.point,
+        phase: &s.phase,
+        direction: &s.direction,
+        stage: &s.stage,
+        bar: &s.bar,
+        lamp: lamps,
+    };
+    let mut entry = [0; TRAIN_ROUTES];
+    let mut fallen = s.phase;
+    let mut phase = s.phase;
+    let mut steps = s.steps;
+    let mut seconds = s.seconds;
+    for r in 0..l.routes {
+        let k = r as usize;
+        let a = route_at(l.route, r);
+        entry[k] = a.entry;
+        if s.phase[k] == IDLE {
+            continue;
+        }
+        let h = Locking {
+            phase: s.phase[k],
+            steps: s.steps[k],
+            seconds: s.seconds[k],
+        };
+        let x = route_settled(&l.line, t, a, e, h);
+        fallen[k] = x.fallen;
+        phase[k] = x.phase;
+        steps[k] = x.steps;
+        seconds[k] = x.seconds;
+    }
+    Walked {
+        entry,
+        fallen,
+        phase,
+        steps,
+        seconds,
+    }
 }
 
-// These, where a block waits: the last in travel may open by an entrance route that was released, and that passes back.
-fn arrivals_after(
-    s: Core,
-    before: Core,
-    w: Walked,
-    far: [u8; PLACES],
-    ls: [Line; LINES],
-    m: u8,
-    rs: [Route; TRAIN_ROUTES],
-    n: u8,
-) -> [u8; PLACES]
-    ensures { result ≡ passed_back (few_lines m) ls s.direction no_opening (arrives n rs before.phase w.phase) far }
+// What follows an event that made the state s of the state before it: the walk over the routes, far sections, blocks that wait, where there is one, since an
+// entrance route may have been released, and the line release.
+fn followed(l: &Layout, before: Core, s: Core, lamps: &[u8; LAMPS], e: Gives) -> Core
+    requires { (l.now.lines ≤ most_lines) × (l.now.routes ≤ most_train_routes) }
+    ensures { result ≡ core_of (settle l.now (bare before) (bare s) e) }
 {
-    stages_after_arrivals(m, ls, n, rs, &before.phase, &w.phase, &s.direction, far)
+    let w = walk_routes(l, s, lamps, e);
+    let old = Tables {
+        section: &before.section,
+        point: &before.point,
+        phase: &before.phase,
+        direction: &before.direction,
+        stage: &before.stage,
+        bar: &before.bar,
+        lamp: lamps,
+    };
+    let now = Tables {
+        section: &s.section,
+        point: &s.point,
+        phase: &w.fallen,
+        direction: &s.direction,
+        stage: &s.stage,
+        bar: &s.bar,
+        lamp: lamps,
+    };
+    let far = far_stages(l, &w.entry, old, now);
+    let mut stage = far;
+    if !none_waits(&far) {
+        let then = Tables {
+            phase: &w.phase,
+            stage: &far,
+            ..now
+        };
+        stage = stages_after_arrivals(l, old, then);
+    }
+    let then = Tables {
+        phase: &w.phase,
+        stage: &stage,
+        ..now
+    };
+    let direction = directions_after(l, old, then);
+    Core {
+        phase: w.phase,
+        steps: w.steps,
+        seconds: w.seconds,
+        direction,
+        stage,
+        ..s
+    }
 }
 
-// The line release, and the state put together from what the event itself made, from the walk over the routes and from the stages, before the event and now.
-fn put_together(
-    s: Core,
-    w: Walked,
-    old: [u8; PLACES],
-    stage: [u8; PLACES],
-    ls: [Line; LINES],
-    m: u8,
-    rs: [Route; TRAIN_ROUTES],
-    n: u8,
-) -> Core
-    ensures { result ≡ record { section = s.section; point = s.point; order = s.order; phase = w.phase; steps = w.steps; seconds = w.seconds; direction = directions_after (few_lines m) ls n rs old stage s.bar w.phase s.direction; stage = stage; bar = s.bar } }
-{
-    let directions = s.direction;
-    let bar = s.bar;
-    let phase = w.phase;
-    let direction = directions_after(directions, m, ls, n, rs, &old, &stage, &bar, &phase);
-    let steps = w.steps;
-    let seconds = w.seconds;
-    let mut next = s;
-    next.phase = phase;
-    next.steps = steps;
-    next.seconds = seconds;
-    next.direction = direction;
-    next.stage = stage;
-    next
-}
-
-// The answer to an event, where soundness was asked, with the heads of the section that it names and all lamps. The routes are walked once: signals fall and
-// routes are let go in one turn, since far sections move no route. Arrivals are looked for only where a block waits; so the table of routes is copied once.
+// The answer to an event, where soundness was asked, with the heads of the section that it names and all lamps.
 pub fn answered(
     l: Layout,
     before: Core,
@@ -115,10 +140,6 @@ pub fn answered(
     requires { sound ≡ true → (l.lines ≤ most_lines) × (l.routes ≤ most_train_routes) }
     ensures { result ≡ core_step sound l before heads lamps.now kind first second }
 {
-    let ls = l.line;
-    let rs = l.route;
-    let n = l.routes;
-    let m = l.lines;
     let then = heads_then(heads, kind, first, second);
     let t = event_tried(before, heads, then, lamps, l, sound, kind, first, second);
     if t.number != 0 {
@@ -129,47 +150,7 @@ pub fn answered(
             heads,
         };
     }
-    let s = t.next;
-    let e = t.gives;
-    let mut entry = [0u8; TRAIN_ROUTES];
-    let mut fallen = s.phase;
-    let mut phase = s.phase;
-    let mut steps = s.steps;
-    let mut seconds = s.seconds;
-    let mut r: u8 = 0;
-    while r < n {
-        let a = rs[r as usize];
-        entry[r as usize] = a.entry;
-        if s.phase[r as usize] == IDLE {
-            r += 1;
-            continue;
-        }
-        let h = Locking {
-            phase: s.phase[r as usize],
-            steps: s.steps[r as usize],
-            seconds: s.seconds[r as usize],
-        };
-        let x = release::route_settled(ls, &s.section, &s.point, &s.stage, &s.bar, a, e, h);
-        fallen[r as usize] = x.fallen;
-        phase[r as usize] = x.phase;
-        steps[r as usize] = x.steps;
-        seconds[r as usize] = x.seconds;
-        r += 1;
-    }
-    let w = Walked {
-        entry,
-        fallen,
-        phase,
-        steps,
-        seconds,
-    };
-    let far = far_after(s, before, w, ls, m, n);
-    let mut stage = far;
-    if !none_waits(&far) {
-        stage = arrivals_after(s, before, w, far, ls, m, rs, n);
-    }
-    let old = before.stage;
-    let next = put_together(s, w, old, stage, ls, m, rs, n);
+    let next = followed(&l, before, t.next, lamps, t.gives);
     CoreAnswer {
         number: 0,
         detail: 0,

@@ -8,7 +8,7 @@ ghost use Rattle.interlocking.specs.Own.{own_section, own_point, throw_reading, 
 use super::Core;
 use super::stores::store;
 use line_block::own_readings::own_stages;
-use tables::{Gives, departs};
+use tables::{Gives, Tables, departs};
 use track::codes::{AT_PROCEED, CANCELLING, NEUTRAL, NONE, OPEN};
 use track::sizes::{
     BLOCKS, LAMPS, LINES, MOST_BLOCKS, PLACES, POINTS, ROUTES, SECTIONS, TRAIN_ROUTES,
@@ -31,15 +31,21 @@ pub fn read_section(s: Core, a: LineTable, lamps: &[u8; LAMPS], g: u8, v: u8) ->
 {
     let mut section = s.section;
     store(&mut section, SECTIONS, g as usize, v);
-    let stages = s.stage;
-    let directions = s.direction;
     let e = Gives {
         section: g,
         reading: v,
         tick: 0,
     };
-    let ls = a.line;
-    let stage = own_stages(a.lines, a.signals, ls, &directions, lamps, e, stages);
+    let lent = Tables {
+        section: &s.section,
+        point: &s.point,
+        phase: &s.phase,
+        direction: &s.direction,
+        stage: &s.stage,
+        bar: &s.bar,
+        lamp: lamps,
+    };
+    let stage = own_stages(a.lines, a.signals, &a.line, lent, e);
     let mut t = s;
     t.section = section;
     t.stage = stage;

@@ -52,6 +52,18 @@ module _ (ls : List Line) (n : ℕ) (entries phases directions points stages bar
   unfolding far_signal proceeds_by signal_at
   far_station e h q = rw (← f, h) q
 
+-- the far signal did not show proceed before, or it is asked again
+module _ (before after : Signal → Bool) (x : Signal) (v : Bool) (e : v ≡ before x) where
+  -- what did not show proceed before has not dropped
+  pub dropped_stop : v ≡ false → v ≡ drops before after x
+  unfolding drops ◌and◌
+  dropped_stop h = rw (← e, h)
+
+  -- what showed proceed before has dropped just where it does not show it now
+  pub dropped_now : (u : Bool) → v ≡ true → u ≡ after x → not u ≡ drops before after x
+  unfolding drops ◌and◌
+  dropped_now u h q = rw (← e, h, q)
+
 -- ---- the stage of a block
 
 -- the far signal matters only to a block in stage 1 whose far section reads occupied

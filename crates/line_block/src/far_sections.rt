@@ -78,6 +78,7 @@ fn far_proceeds(b: Line, s: Starts, t: Tables, l: u8, i: u8, w: u8) -> bool
 }
 
 // It went from proceed to stop; what it shows now is asked only where it showed proceed.
+#[tactic(auto, using(crate::proofs::FarSections::dropped_stop, crate::proofs::FarSections::dropped_now))]
 fn far_dropped(b: Line, s: Starts, before: Tables, now: Tables, l: u8, i: u8, w: u8) -> bool
     ensures { (ls : List Line) → b ≡ line ls l → result ≡ drops (proceeds_by ls s.entry.routes s.entry.entry.now before.entry.phase.now before.entry.direction.now before.entry.point.now before.entry.stage.now before.entry.bar.now) (proceeds_by ls s.entry.routes s.entry.entry.now now.entry.phase.now now.entry.direction.now now.entry.point.now now.entry.stage.now now.entry.bar.now) (far_signal b l i w) }
 {

@@ -55,6 +55,7 @@ fn given_stages(places: u8, m: u8, ls: &[Line; LINES], t: Tables, e: Gives) -> [
 }
 
 // The stages of the blocks of n lines, where there are m main signals. What opens passes back, which is looked at only where a block waits.
+#[tactic(auto, using(crate::proofs::Lines::few_fit, crate::proofs::Lines::few_long, crate::proofs::OwnReadingLaws::own_unwaited, crate::proofs::OwnReadingLaws::own_passed), unfolding(crate::specs::OwnReadings::given_stages, crate::specs::PassingBack::passed_back))]
 pub fn own_stages(n: u8, m: u8, ls: &[Line; LINES], t: Tables, e: Gives) -> [u8; PLACES]
     ensures { result ≡ own_stages (few_lines n) m ls.now t.entry.direction.now t.entry.lamp.now e t.entry.stage.now }
 {
