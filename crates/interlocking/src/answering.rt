@@ -50,7 +50,7 @@ fn walk_routes(l: &Layout, s: Core, lamps: &[u8; LAMPS], e: Gives) -> Walked
     let mut seconds = s.seconds;
     for r in 0..l.routes {
         let k = r as usize;
-        let a = route_at(l.route, r);
+        let a = route_at(&l.route, r);
         entry[k] = a.entry;
         if s.phase[k] == IDLE {
             continue;
