@@ -29,7 +29,8 @@ pub struct Axles {
     pub proof: u16,
 }
 
-// What an event says of a section's heads: its kind, AXLES_IN, AXLES_OUT, HEAD_SILENT or RESET_AXLES; the head, 0 or 1; the count.
+// What an event says of a section's heads, by the numbers that C gives: its kind, AXLES_IN, AXLES_OUT, HEAD_SILENT or RESET_AXLES; the head, 0 or 1; the
+// count.
 #[derive(Clone, Copy)]
 pub struct Said {
     pub kind: u32,
@@ -37,7 +38,8 @@ pub struct Said {
     pub count: u16,
 }
 
-// There was no reset yet; since the last one the number was not in 1 to 255 with neither head silent; it was.
+// How far a reset is proved, as numbers in the state that C holds. There was no reset yet; since the last one the number was not in 1 to 255 with neither
+// head silent; it was.
 pub const NO_RESET: u16 = 0;
 
 pub const UNPROVED: u16 = 1;

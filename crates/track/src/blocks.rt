@@ -31,7 +31,7 @@ pub fn facing_section(b: Line, i: u8, _end: u8) -> u8
     at8(&b.block, i)
 }
 
-// The section that stands for block i in a refusal's detail, its lowest.
+// The section that stands for block i in a refusal's detail, its lowest. Another word than the one before, as `facing` and `block_detail` are two.
 #[tactic(auto, unfolding(crate::specs::Blocks::block_detail))]
 pub fn detail_section(b: Line, i: u8) -> u8
     ensures { result ≡ block_detail b i }
