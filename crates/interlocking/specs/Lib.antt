@@ -4,3 +4,4 @@ pub mod Settle
 pub mod Rows
 pub mod Step
 pub mod Parts
+pub mod Tried

@@ -1,21 +1,28 @@
 -- Line release by cases, each from the facts that choose it.
 use Prim.Native.Nat.{ℕ, ◌<◌, ◌≤◌}
-use mathlib.Core.Path.{◌≡◌, ap, ◌∙◌}
+use mathlib.Core.Path.{◌≡◌, refl, sym, ap, ◌∙◌}
 use mathlib.Core.Bool.{Bool, true, false, not}
 use mathlib.Core.List.{List}
 use native.Mathlib.Omega.{arith}
-use lib.Dec.{ltb}
 use lib.ListN.{length, get_or}
-use Rattle.laws.specs.Tests.{all_below, lowest}
+use Rattle.laws.specs.Tests.{all_below}
 use Rattle.laws.proofs.Tests.{every_stops, every_passes, every_last}
-use Rattle.laws.proofs.Searches.{lowest_some}
 use Rattle.laws.proofs.Arrays.{read_in}
 use Rattle.track.specs.declared.Line.{Line}
 use Rattle.track.specs.declared.Route.{Route}
 use Rattle.track.specs.Sizes.{most_lines}
 use Rattle.track.specs.Objects.{line, no_line}
+use Rattle.std.specs.Prelude.{Option}
+use Rattle.std.specs.Option.{is_some}
+use Rattle.reasons.specs.Searches.{lowest_found}
+use Rattle.reasons.proofs.SearchLaws.{found_nowhere}
 use Rattle.tables.specs.Locks.{locked_exit}
 use Rattle.line_block.specs.LineRelease.{passable, was_passed, ends_by, direction_after}
+
+-- what is denied twice
+not_twice : (r : Bool) → r ≡ not (not r)
+not_twice true = refl
+not_twice false = refl
 
 -- whether a line is released, by the test at which it fails
 module _ (b : Line) (n : ℕ) (rs : List Route) (before stages bars phases : List ℕ) (k w : ℕ) (v : Bool)
@@ -31,12 +38,11 @@ module _ (b : Line) (n : ℕ) (rs : List Route) (before stages bars phases : Lis
     unfolding ends_by
     ends_held g = every_passes _ _ v _ false p h (every_stops _ _ u q g)
 
-    -- both hold: a locked exit route decides, the lowest, which is one of the n where there is any
-    pub ends_unless_locked : (r : ℕ) → r ≡ lowest n (locked_exit rs phases k) → not u ≡ false → not (ltb r n) ≡ ends_by b n rs before stages bars phases k w
+    -- both hold: it is released unless a locked exit route is found
+    pub ends_unless_locked : (o : Option ℕ) (r : Bool) → o ≡ lowest_found n (locked_exit rs phases k) → is_some o ≡ not r → not u ≡ false → r ≡ ends_by b n rs before stages bars phases k w
     unfolding ends_by
-    ends_unless_locked r e g =
-        every_passes _ _ v _ (not (ltb r n)) p h
-        (every_passes _ _ u _ (not (ltb r n)) q g (every_last _ (not (ltb r n)) (ap not (ap (λ m. ltb m n) e ∙ lowest_some n (locked_exit rs phases k)))))
+    ends_unless_locked o r e d g =
+        every_passes _ _ v _ r p h (every_passes _ _ u _ r q g (every_last _ r (not_twice r ∙ ap not (sym d) ∙ found_nowhere n (locked_exit rs phases k) o e)))
 
 -- the direction of a line by its record is the one by its number, since the table has that record there
 pub direction_at : (ls : List Line) (n : ℕ) (rs : List Route) (before stages bars phases : List ℕ) (k m was v : ℕ) (d : Line) → length ls ≡ most_lines → k < m → m ≤ most_lines

@@ -63,8 +63,7 @@ fn is_ended<'a>(
     if !all_passable(stages, bars, k, b.blocks) {
         return false;
     }
-    let locked = reasons::searches::lowest_locked_exit(rs, phases, n, k) < n;
-    !locked
+    reasons::searches::lowest_locked_exit(&rs, phases, n, k).is_none()
 }
 
 // The direction of line k.

@@ -42,15 +42,15 @@ decreases-loop-r before lamps sound kind first second ls rs n m then s e entry�
 -- the event is refused
 refused : tie.Need-returns-then-t-ne0 invariant-loop-r decreases-loop-r
 unfolding core_step
-refused c = answer_refused _ _ _ _ _ _ (heads_given _ _ _ _ _ _ _ _ _ _ _ c.event_tried-t.ensures c.heads_then-then.ensures) _ c.if-t-ne0.true refl
+refused c = answer_refused _ _ _ _ _ _ (heads_given _ _ _ _ _ _ _ _ _ _ _ (c.tried_by-t.ensures ∙ c.event_tried.ensures) c.heads_then-then.ensures) _ c.if-t-ne0.true refl
 
 -- before the first turn
 begins : tie.Need-loop-r-init invariant-loop-r decreases-loop-r
 begins c =
     let event = c in
     let start = event in
-    let few = start.requires (done_sound _ _ _ _ _ event.event_tried-t.ensures c.if-t-ne0.false) in
-    let tables = event.event_tried-t.type_inv.1.1.0.1.1.1.1.1 in (
+    let few = start.requires (done_sound _ _ _ _ _ (event.tried_by-t.ensures ∙ event.event_tried.ensures) c.if-t-ne0.false) in
+    let tables = event.tried_by-t.type_inv.1.1.0.1.1.1.1.1 in (
       few.0,
       few.1,
       search (rules, length_mapped, start.well_formed.0.1.1.1.1.1.1.1.1.1.1.1.1.1.0),
@@ -104,10 +104,10 @@ answered c =
     let i = far.loop-r.invariant in
     let done = far in
     let heads = done.heads_then-then.ensures in
-    answer_done _ _ _ _ _ _ (heads_given _ _ _ _ _ _ _ _ _ _ _ done.event_tried-t.ensures heads) _ _ done.if-t-ne0.false
+    answer_done _ _ _ _ _ _ (heads_given _ _ _ _ _ _ _ _ _ _ _ (done.tried_by-t.ensures ∙ done.event_tried.ensures) heads) _ _ done.if-t-ne0.false
     (c.put_together-next.ensures
     ∙ completed_made _ _ _ _ _ _ _ _ (walk_ended _ _ _ _ _ _ _ _ _ _ i.3 i.4 i.5 i.6 i.7 far.loop-r-test.false) i.0 i.1
-    (search (rules, done.event_tried-t.type_inv.1.1.0.1.1.1.1.1.0)) far.far_after-far.ensures
+    (search (rules, done.tried_by-t.type_inv.1.1.0.1.1.1.1.1.0)) far.far_after-far.ensures
     (elim c.if-not-none_waits.branch [
       | then-not-none_waits w ↦ w.stage-is ∙ w.arrivals_after-stage.ensures
       | else-not-none_waits w ↦ w.stage-is ∙ passed_idle _ _ _ _ _ _ (search rules) asked.none_waits.ensures (ap not w.if-not-none_waits.false)
@@ -121,6 +121,7 @@ answered_spec =
     decreases-loop-r
     (λ c κs. search rules)
     (λ c κs. λ z. (c.requires z).0)
+    (λ c κs. search rules)
     refused
     begins
     (λ c. search rules)
