@@ -21,8 +21,7 @@ use Rattle.track.specs.Sizes.{most_sections}
 use Rattle.axles.specs.declared.Axles.{Axles}
 use Rattle.axles.specs.Heads.{cold_heads}
 use Rattle.layout.specs.declared.Layout.{Layout}
-use Rattle.reasons.specs.declared.Refusal.{Refusal}
-use Rattle.reasons.specs.Refusal.{refused, no_refusal, refused_if, first_of}
+use Rattle.reasons.specs.Refusal.{Refusal, refused, no_refusal, refused_if, first_of}
 use Rattle.refusals.specs.Events.{numbers_refusal}
 use Rattle.refusals.specs.Orders.{throw_refusal, secure_refusal, way_refusal, exit_refusal, route_refusal, set_refusal, cancel_refusal, manual_refusal}
 use Rattle.interlocking.specs.declared.State.{State}

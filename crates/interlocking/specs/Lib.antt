@@ -5,3 +5,4 @@ pub mod Rows
 pub mod Step
 pub mod Parts
 pub mod Walk
+pub mod Tried

@@ -9,8 +9,7 @@ use Rattle.track.specs.Sizes.{most_sections, most_lamps}
 use Rattle.track.specs.Lists.{between}
 use Rattle.axles.specs.declared.Axles.{Axles}
 use Rattle.layout.specs.declared.Layout.{Layout}
-use Rattle.reasons.specs.declared.Refusal.{Refusal}
-use Rattle.reasons.specs.Refusal.{no_refusal}
+use Rattle.reasons.specs.Refusal.{Refusal, no_refusal}
 use Rattle.interlocking.specs.declared.State.{State}
 use Rattle.interlocking.specs.declared.Core.{Core}
 use Rattle.interlocking.specs.declared.Tried.{Tried}

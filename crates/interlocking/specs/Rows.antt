@@ -12,8 +12,7 @@ use Rattle.layout.specs.declared.Layout.{Layout}
 use Rattle.layout.specs.Layout.{line_in}
 use Rattle.axles.specs.declared.Axles.{Axles}
 use Rattle.axles.specs.Heads.{speaking, axles_reading}
-use Rattle.reasons.specs.declared.Refusal.{Refusal}
-use Rattle.reasons.specs.Refusal.{refused, no_refusal, refused_if}
+use Rattle.reasons.specs.Refusal.{Refusal, refused, no_refusal, refused_if}
 use Rattle.reasons.specs.Reasons.{no_heads, has_heads}
 use Rattle.refusals.specs.Orders.{throw_refusal, set_refusal, cancel_refusal, secure_refusal, manual_refusal}
 use Rattle.interlocking.specs.declared.State.{State}

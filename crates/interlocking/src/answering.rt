@@ -7,6 +7,7 @@ ghost use Rattle.interlocking.specs.Walk.{IsWalk};
 
 use super::event::event_tried;
 use super::parts::heads_then;
+use super::trial::{Lent, tried_by};
 use super::{Core, CoreAnswer};
 use axles::Axles;
 use layout::Layout;
@@ -141,7 +142,15 @@ pub fn answered(
     ensures { result ≡ core_step sound l before heads lamps.now kind first second }
 {
     let then = heads_then(heads, kind, first, second);
-    let t = event_tried(before, heads, then, lamps, l, sound, kind, first, second);
+    let lent = Lent {
+        layout: &l,
+        lamps,
+        sound,
+    };
+    let t = tried_by(
+        before,
+        event_tried(before, heads, then, lent, kind, first, second),
+    );
     if t.number != 0 {
         return CoreAnswer {
             number: t.number,

@@ -1,67 +1,62 @@
 // The events of axle counters, kinds 11 to 14 (request L1): what is refused of each, and the reading that the section's heads then give it.
-ghost use Rattle.std.specs.Prelude.{◌≡◌, true, ◌≤◌};
+ghost use Rattle.std.specs.Prelude.{◌≡◌, true, ◌≤◌, eqb, get_or};
 ghost use Rattle.track.specs.Sizes.{most_lines};
+ghost use Rattle.reasons.specs.Told.{told};
 ghost use Rattle.interlocking.specs.Rows.{head_row};
 ghost use Rattle.interlocking.specs.Parts.{headless, tried, numbers_named, wrong_count, silence, heads_row};
+ghost use Rattle.interlocking.specs.Tried.{tried_by};
 
-use super::orders::LineTable;
 use super::parts::head_section;
-use super::trial::{done, refused};
-use super::{Core, Tried, orders};
+use super::trial::{Done, Lent};
+use super::{Core, orders};
 use axles::Axles;
-use layout::Layout;
 use reasons::events::is_fitted;
-use reasons::{Refusal, no_refusal, refused_if};
+use reasons::{Reason, refused_if};
 use refusals::numbers_refusal;
 use tables::Gives;
 use track::codes::{AXLES_IN, AXLES_OUT, RESET_AXLES};
-use track::sizes::LAMPS;
+use track::sizes::SECTIONS;
+
+// The number of a section that has heads, which is a byte.
+fn fitted_number(fitted: &[u8; SECTIONS], g: u32) -> u8
+    requires { eqb (get_or fitted.now g 0) 1 ≡ true }
+    ensures { result ≡ g }
+{
+    g as u8
+}
 
 // An event of the heads of section g, which become y: refused by its numbers or besides, or the section is given what they say.
+#[tactic(auto, using(crate::proofs::Trying::trying), unfolding(crate::specs::Parts::tried, crate::specs::Step::row_refusal, crate::specs::Rows::head_row, reasons::specs::Reasons::no_heads, layout::specs::Layout::is_fitted))]
 fn said_of(
     s: Core,
     y: Axles,
-    lamps: &[u8; LAMPS],
-    layout: Layout,
-    sound: bool,
+    a: Lent,
     first: u32,
     g: u32,
     missing: bool,
     wrong: bool,
-    besides: Refusal,
-) -> Tried
-    requires { sound ≡ true → layout.lines ≤ most_lines }
-    ensures { result ≡ tried sound s first (head_row layout (headless s lamps.now) y g missing wrong besides) }
+    besides: Result<(), Reason>,
+) -> Result<Done, Reason>
+    requires { a.sound ≡ true → a.layout.now.lines ≤ most_lines }
+    ensures { tried_by s result ≡ tried a.entry.sound s first (head_row a.entry.layout.now (headless s a.entry.lamps.now) y g missing wrong (told besides)) }
 {
-    let fitted = layout.fitted;
-    let misfit = refused_if(!is_fitted(fitted, g), 30, g);
-    let numbers = numbers_refusal(sound, missing, first, misfit, wrong);
-    if numbers.number != 0 {
-        return refused(s, numbers);
-    }
-    if besides.number != 0 {
-        return refused(s, besides);
-    }
-    let line = layout.line;
-    let table = LineTable {
-        signals: layout.signals,
-        lines: layout.lines,
-        line,
-    };
-    let section = g as u8;
+    let misfit = refused_if(!is_fitted(&a.layout.fitted, g), Reason::NoHeads(g));
+    numbers_refusal(a.sound, missing, first, misfit, wrong)?;
+    besides?;
+    let section = fitted_number(&a.layout.fitted, g);
     let reading = axles::reading(y);
-    let t = orders::read_section(s, table, lamps, section, reading);
-    done(
-        t,
-        Gives {
+    Ok(Done {
+        next: orders::read_section(s, a.layout, a.lamps, section, reading),
+        gives: Gives {
             section,
             reading,
             tick: 0,
         },
-    )
+    })
 }
 
 // The first number of an event of heads lies below: twice the sections where it names a head, the sections where it is a reset.
+#[tactic(auto, using(reasons::proofs::Decided::decided), unfolding(crate::specs::Parts::numbers_named))]
 fn numbers_named(kind: u32, sections: u8) -> u32
     ensures { result ≡ numbers_named kind sections }
 {
@@ -82,14 +77,14 @@ fn is_wrong_count(kind: u32, second: u32) -> bool
 }
 
 // 35, of a reset: one of the heads x of section g is silent.
-fn silence(x: Axles, kind: u32, g: u32) -> Refusal
-    ensures { result ≡ silence x kind g }
+#[tactic(auto, using(reasons::proofs::Decided::decided), unfolding(crate::specs::Parts::silence, crate::specs::Rows::still_silent))]
+fn silence(x: Axles, kind: u32, g: u32) -> Result<(), Reason>
+    ensures { told result ≡ silence x kind g }
 {
     if kind == RESET_AXLES {
-        let speaking = axles::are_speaking(x);
-        return refused_if(!speaking, 35, g);
+        return refused_if(!axles::are_speaking(x), Reason::HeadSilent(g));
     }
-    no_refusal()
+    Ok(())
 }
 
 // 11 to 14: axles in, axles out, a head silent, a reset.
@@ -97,30 +92,16 @@ pub fn of_heads(
     s: Core,
     x: Axles,
     y: Axles,
-    lamps: &[u8; LAMPS],
-    layout: Layout,
-    sound: bool,
+    a: Lent,
     kind: u32,
     first: u32,
     second: u32,
-) -> Tried
-    requires { sound ≡ true → layout.lines ≤ most_lines }
-    ensures { result ≡ tried sound s first (heads_row layout (headless s lamps.now) x y kind first second) }
+) -> Result<Done, Reason>
+    requires { a.sound ≡ true → a.layout.now.lines ≤ most_lines }
+    ensures { tried_by s result ≡ tried a.entry.sound s first (heads_row a.entry.layout.now (headless s a.entry.lamps.now) x y kind first second) }
 {
     let g = head_section(kind, first);
-    let named = numbers_named(kind, layout.sections);
+    let missing = numbers_named(kind, a.layout.sections) <= first;
     let wrong = is_wrong_count(kind, second);
-    let besides = silence(x, kind, g);
-    said_of(
-        s,
-        y,
-        lamps,
-        layout,
-        sound,
-        first,
-        g,
-        named <= first,
-        wrong,
-        besides,
-    )
+    said_of(s, y, a, first, g, missing, wrong, silence(x, kind, g))
 }

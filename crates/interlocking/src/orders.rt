@@ -7,6 +7,7 @@ ghost use Rattle.interlocking.specs.Own.{own_section, own_point, throw_reading, 
 
 use super::Core;
 use super::stores::store;
+use layout::Layout;
 use line_block::own_readings::own_stages;
 use tables::{Gives, Tables, departs};
 use track::codes::{AT_PROCEED, CANCELLING, NEUTRAL, NONE, OPEN};
@@ -15,19 +16,10 @@ use track::sizes::{
 };
 use track::{Line, Route, direction_from};
 
-// What a section reading needs of the layout: how many main signals and lines there are, and the lines. It is a record of its own because the table of
-// lines handed on alone is handed as a place within the layout, and that is then copied whole at each event.
-#[derive(Clone, Copy)]
-pub struct LineTable {
-    pub signals: u8,
-    pub lines: u8,
-    pub line: [Line; LINES],
-}
-
 // 1: section g reads v, and the block that it belongs to has its own reading.
-pub fn read_section(s: Core, a: LineTable, lamps: &[u8; LAMPS], g: u8, v: u8) -> Core
-    requires { a.lines ≤ most_lines }
-    ensures { result ≡ core_of (own_section a.signals a.line a.lines (headless s lamps.now) g v) }
+pub fn read_section<'a>(s: Core, a: &'a Layout, lamps: &'a [u8; LAMPS], g: u8, v: u8) -> Core
+    requires { a.now.lines ≤ most_lines }
+    ensures { result ≡ core_of (own_section a.now.signals a.now.line a.now.lines (headless s lamps.now) g v) }
 {
     let mut section = s.section;
     store(&mut section, SECTIONS, g as usize, v);
@@ -116,10 +108,11 @@ pub fn secure_first(s: Core, a: Route) -> Core
 }
 
 // The stage at place k after line l was released by hand.
-fn opened_at(ls: [Line; LINES], l: u8, k: u8, was: u8) -> u8
-    ensures { result ≡ open_at ls l k was }
+#[tactic(auto, using(laws::proofs::Choice::chosen, laws::proofs::Choice::passed_over, crate::proofs::Trying::both_are), unfolding(crate::specs::Own::open_at))]
+fn opened_at(ls: &[Line; LINES], l: u8, k: u8, was: u8) -> u8
+    ensures { result ≡ open_at ls.now l k was }
 {
-    let b = track::line_at(&ls, l);
+    let b = track::line_at(ls, l);
     if (k / MOST_BLOCKS == l) & (k % MOST_BLOCKS < b.blocks) {
         return OPEN;
     }
@@ -127,29 +120,27 @@ fn opened_at(ls: [Line; LINES], l: u8, k: u8, was: u8) -> u8
 }
 
 // The stages of the first m places after line l was released by hand.
-fn opened_stages(stages: [u8; PLACES], m: u8, ls: [Line; LINES], l: u8) -> [u8; PLACES]
+fn opened_stages(stages: [u8; PLACES], m: u8, ls: &[Line; LINES], l: u8) -> [u8; PLACES]
     requires { m ≤ most_places }
-    ensures { result ≡ each m (open_at ls l) stages }
+    ensures { result ≡ each m (open_at ls.now l) stages }
 {
     let mut stage = stages;
-    let mut k: u8 = 0;
-    while k < m {
+    for k in 0..m {
         let was = stage[k as usize];
         stage[k as usize] = opened_at(ls, l, k, was);
-        k += 1;
     }
     stage
 }
 
-// 7: line l, of n lines, is released by hand: every block open, the line neutral.
-pub fn release_by_hand(s: Core, n: u8, ls: [Line; LINES], l: u8) -> Core
-    requires { n ≤ most_lines }
-    ensures { result ≡ core_of (own_manual ls n (bare s) l) }
+// 7: line l is released by hand: every block open, the line neutral.
+pub fn release_by_hand(s: Core, a: &Layout, l: u8) -> Core
+    requires { a.now.lines ≤ most_lines }
+    ensures { result ≡ core_of (own_manual a.now.line a.now.lines (bare s) l) }
 {
     let mut direction = s.direction;
     store(&mut direction, LINES, l as usize, NEUTRAL);
     let stages = s.stage;
-    let stage = opened_stages(stages, MOST_BLOCKS * n, ls, l);
+    let stage = opened_stages(stages, MOST_BLOCKS * a.lines, &a.line, l);
     let mut t = s;
     t.direction = direction;
     t.stage = stage;

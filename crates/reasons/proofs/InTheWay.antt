@@ -1,18 +1,21 @@
 -- What stands in the way as a set, and its lowest number: that is the lowest section asked for that does not read free, the lowest point that is not read in
 -- position, the lowest section of a block that is held or barred.
-use Prim.Native.Nat.{ℕ, ◌<◌, ◌≤◌}
+use Prim.Native.Nat.{ℕ, ◌<◌}
 use mathlib.Core.Path.{◌≡◌, refl, sym, ap, ◌∙◌}
 use mathlib.Core.Bool.{Bool, not}
 use mathlib.Core.List.{List}
 use native.Mathlib.Omega.{arith}
-use borrow.Author.Tests.{eqb-true, lt-ltb}
+use borrow.Author.Tests.{eqb-true, lt-ltb, le-ltb}
+use Rattle.std.specs.Prelude.{Option, Some, None}
+use Rattle.std.specs.Bool.{then_some}
 use lib.Dec.{eqb, ltb}
 use lib.ListN.{length, get_or}
 use Rattle.laws.specs.Choice.{when◌then◌else◌}
 use Rattle.laws.specs.Tables.{read}
 use Rattle.laws.specs.Tests.{◌and◌, ◌or◌, lowest}
 use Rattle.laws.proofs.Arrays.{lent_at}
-use Rattle.laws.proofs.Choice.{if_ge, if_lt}
+use Rattle.laws.proofs.Choice.{Is, which, chosen, passed_over}
+use Rattle.laws.proofs.Choice as choice
 use Rattle.laws.proofs.Searches.{lowest_cut, lowest_same}
 use Rattle.laws.proofs.Tests.{and_same, any_and, any_same, or_and}
 use Rattle.sets.specs.Sets.{holds, joined, merged_set, set_of}
@@ -26,10 +29,9 @@ use Rattle.track.specs.Sizes.{most_listed, most_points, most_sections}
 use Rattle.tables.specs.Readings.{point_reading, reading}
 use Rattle.tables.specs.Blocks.{untaken}
 use Rattle.tables.specs.InTheWay.{is_misplaced, misplaced_of, taken_of, unfree_blocks, unfree_of, with_unfree}
-use Rattle.reasons.specs.declared.Refusal.{Refusal}
 use Rattle.reasons.specs.Reasons.{not_free}
-use Rattle.reasons.specs.Refusal.{refused_if}
-use Rattle.reasons.specs.Searches.{failing, misplaced, unfree}
+use Rattle.reasons.specs.Refusal.{Refusal, refused_if}
+use Rattle.reasons.specs.Searches.{failing, lowest_found, misplaced, unfree}
 
 -- beside the test that x is g, what is asked of x is asked of g
 asked_there : (x g : ℕ) (t : ℕ → Bool) → eqb x g and t x ≡ eqb x g and t g
@@ -121,18 +123,33 @@ module _ (points : List ℕ) (n : ℕ) (ps ws : List ℕ) (d : length ps ≡ mos
       lowest_same most_points (misplaced points n ps ws) (holds set) (λ k l. sym (misplaced_listed points n ps ws k l d e) ∙ ap (λ s. holds s k) (sym q))
       ∙ lowest_cut most_points 64 (holds set) (omega arith) ∙ ap (λ k. when ltb k most_points then k else most_points) (sym h)
 
-  -- it is a point: the lowest
-  pub point_found : p < most_points → p ≡ lowest most_points (misplaced points n ps ws)
-  point_found l = if_lt p most_points p most_points p l refl ∙ sym lowest_point
-
-  -- it is none: every point is read in position
-  pub point_none : most_points ≤ p → most_points ≡ lowest most_points (misplaced points n ps ws)
-  point_none l = if_ge p most_points p most_points most_points l refl ∙ sym lowest_point
+  -- it is found where it is a point; else every point is read in position
+  pub point_found : (o : Option ℕ) → o ≡ then_some (ltb p most_points) p → o ≡ lowest_found most_points (misplaced points n ps ws)
+  unfolding lowest_found
+  point_found o e = e ∙ go (which (ltb p most_points))
+    where
+      go : Is (ltb p most_points) → then_some (ltb p most_points) p ≡ lowest_found most_points (misplaced points n ps ws)
+      go (choice.holds t) =
+          ap (λ b. then_some b p) t
+          ∙ sym (ap (λ m. when ltb m most_points then Some m else None) (lowest_point ∙ chosen _ _ _ t) ∙ chosen _ _ _ t)
+      go (choice.fails t) =
+          ap (λ b. then_some b p) t
+          ∙ sym (ap (λ m. when ltb m most_points then Some m else None) (lowest_point ∙ passed_over _ _ _ t) ∙ passed_over _ _ _ (le-ltb most_points most_points (omega arith)))
 
 -- ---- blocks
 
 -- the lowest section of a block that is held or barred, by the lowest number in the set
-pub block_found : (table : List ℕ) (b : Line) (l set g : ℕ) → set ≡ taken_of table b l → g ≡ lowest_in set → g ≡ lowest most_sections (failing (untaken table l) b)
+block_lowest : (table : List ℕ) (b : Line) (l set g : ℕ) → set ≡ taken_of table b l → g ≡ lowest_in set → g ≡ lowest most_sections (failing (untaken table l) b)
 unfolding lowest_in taken_of failing
-block_found table b l set g q h =
+block_lowest table b l set g q h =
     h ∙ lowest_same most_sections (holds set) (failing (untaken table l) b) (λ k m. ap (λ s. holds s k) q ∙ holds_where b.blocks (λ i. not (untaken table l i)) (block_detail b) k m)
+
+-- it is found where there is such a section
+pub block_found : (table : List ℕ) (b : Line) (l set g : ℕ) (o : Option ℕ) → set ≡ taken_of table b l → g ≡ lowest_in set → o ≡ then_some (ltb g most_sections) g
+    → o ≡ lowest_found most_sections (failing (untaken table l) b)
+unfolding lowest_found
+block_found table b l set g o q h e = rw (← block_lowest table b l set g q h) (e ∙ go (which (ltb g most_sections)))
+  where
+    go : Is (ltb g most_sections) → then_some (ltb g most_sections) g ≡ (when ltb g most_sections then Some g else None)
+    go (choice.holds t) = ap (λ b. then_some b g) t ∙ sym (chosen _ _ _ t)
+    go (choice.fails t) = ap (λ b. then_some b g) t ∙ sym (passed_over _ _ _ t)

@@ -1,26 +1,28 @@
 -- The cases of a chain of reasons, of the reasons that go by a test, and of those that go by an event's kind.
-use Prim.Native.Nat.{ℕ, ◌≤◌}
+use Prim.Native.Nat.{ℕ, ◌<◌, ◌≤◌}
+use Rattle.std.specs.Prelude.{Option, Some, None}
+use Rattle.reasons.specs.declared.answers.Reason.{Reason}
+use Rattle.reasons.specs.Told.{number_of}
+use Rattle.reasons.proofs.Told.{number_given}
 use mathlib.Core.Path.{◌≡◌, refl, sym, ap, fun_ext, ◌∙◌}
-use mathlib.Core.Bool.{true, false}
+use mathlib.Core.Bool.{Bool, true, false}
 use mathlib.Core.List.{List, [], ◌∷◌}
 use native.Mathlib.Omega.{arith}
-use borrow.Author.Rules.{rules}
 use borrow.Author.Tests.{le-leb}
 use lib.Dec.{eqb, ltb, leb}
 use lib.ListN.{length, get_or, get_or-eq_default}
 use Rattle.laws.specs.Tests.{◌and◌, lowest}
 use Rattle.laws.proofs.Arrays.{read_past, lent_at}
-use Rattle.laws.proofs.Choice.{if_eq, if_ne}
+use Rattle.laws.proofs.Choice.{if_eq, if_ne, if_true, if_false, Is, holds, fails, which, chosen, passed_over}
 use Rattle.track.specs.declared.Line.{Line}
-use Rattle.track.specs.Sizes.{most_sections, most_lines, most_pairs}
+use Rattle.track.specs.Sizes.{most_sections, most_pairs}
 use Rattle.track.specs.Objects.{no_line, line}
 use Rattle.pairs.specs.Pairs.{place_of}
 use Rattle.tables.specs.Blocks.{untaken, is_open, unbarred}
 use Rattle.layout.specs.declared.Layout.{Layout}
 use Rattle.layout.specs.Layout.{line_in, entry_of, conflict}
-use Rattle.reasons.specs.declared.Refusal.{Refusal}
-use Rattle.reasons.specs.Refusal.{refused_if, found, first_of}
-use Rattle.reasons.specs.Searches.{conflicts_with, failing}
+use Rattle.reasons.specs.Refusal.{Refusal, refused, no_refusal, refused_if, found, first_of}
+use Rattle.reasons.specs.Searches.{conflicts_with, failing, lowest_found}
 use Rattle.tables.specs.Locks.{locked}
 use Rattle.reasons.specs.Reasons.{conflicting, block_barred, block_held}
 
@@ -42,49 +44,118 @@ pub first_last : (x r : Refusal) → r ≡ x → r ≡ first_of (x ∷ [])
 unfolding first_of
 first_last x r q = q
 
--- for a chain of reasons, left at the first that is given
-pub ruleset firsts = (rules, first_here, first_next, first_last)
+-- ---- the same as equations, for chains of `?`: a chain is left at the first reason that is given
+
+module _ (x y : Refusal) (xs : List Refusal) where
+  -- the first is given
+  pub first_given : (x.number ≡ 0 → ⊥) → first_of (x ∷ y ∷ xs) ≡ x
+  first_given h = sym (first_here x y x xs refl h)
+
+  -- it is not
+  pub first_passed : x.number ≡ 0 → first_of (x ∷ y ∷ xs) ≡ first_of (y ∷ xs)
+  first_passed h = sym (first_next x y x xs refl _ h refl)
+
+-- the last
+pub first_alone : (x : Refusal) → first_of (x ∷ []) ≡ x
+first_alone x = sym (first_last x x refl)
+
+-- what is told of a reason has its number, which is not 0, and of none the number 0
+pub told_number : (n d : ℕ) → (refused n d).number ≡ n
+unfolding refused
+told_number n d = refl
+
+pub none_number : no_refusal.number ≡ 0
+unfolding no_refusal refused
+none_number = refl
+
+pub number_above : (e : Reason) → 0 < number_of e
+number_above e = go (number_of e) (number_given e)
+  where
+    go : (n : ℕ) → (n ≡ 0 → ⊥) → 0 < n
+    go n h = omega arith
+
+-- for chains of reasons
+pub ruleset firsts = (first_given, first_passed, first_alone, told_number, none_number, number_above)
+
+-- ---- a reason, from what a search found
+
+module _ (number n : ℕ) (p : ℕ → Bool) (o : Option ℕ) (e : o ≡ lowest_found n p) where
+  -- a number is found: it is the detail
+  pub found_some : (q : ℕ) → o ≡ Some q → refused number q ≡ found number n p
+  unfolding lowest_found found refused_if
+  found_some q h = go (which (ltb (lowest n p) n))
+    where
+      go : Is (ltb (lowest n p) n) → refused number q ≡ found number n p
+      go (holds t) =
+          let a : Some q ≡ Some (lowest n p) = sym h ∙ e ∙ chosen _ _ _ t in
+          let k : q ≡ lowest n p = cc in
+          if_true (ltb (lowest n p) n) _ _ (refused number q) t (ap (refused number) k)
+      go (fails t) = let a : Some q ≡ None = sym h ∙ e ∙ passed_over _ _ _ t in absurd (cc)
+
+  -- none is found: nothing is refused
+  pub found_none : o ≡ None → no_refusal ≡ found number n p
+  unfolding lowest_found found refused_if
+  found_none h = go (which (ltb (lowest n p) n))
+    where
+      go : Is (ltb (lowest n p) n) → no_refusal ≡ found number n p
+      go (holds t) = let a : None ≡ Some (lowest n p) = sym h ∙ e ∙ chosen _ _ _ t in absurd (cc)
+      go (fails t) = if_false (ltb (lowest n p) n) _ _ no_refusal t refl
 
 -- ---- 5, by the table of conflicts
 
--- the refusal 5, from the lowest route that the search by the table finds
-pub conflict_found : (L : Layout) (phases : List ℕ) (r q : ℕ) (x : Refusal) → length L.conflict ≡ most_pairs
-    → q ≡ lowest L.routes (conflicts_with L.conflict phases r)
-    → x ≡ refused_if (ltb q L.routes) 5 q → x ≡ conflicting L phases r
-unfolding conflicting found conflict entry_of conflicts_with
-conflict_found L phases r q x e d z =
-    z ∙ ap (λ m. refused_if (ltb m L.routes) 5 m)
-    (d ∙ ap (lowest L.routes) (fun_ext (λ k. ap (λ n. locked phases k and eqb n 1) (lent_at L.conflict (place_of r k) most_pairs _ refl e))))
+-- what the table of conflicts says is what the layout says
+module _ (L : Layout) (phases : List ℕ) (r : ℕ) (d : length L.conflict ≡ most_pairs) (o : Option ℕ) (e : o ≡ lowest_found L.routes (conflicts_with L.conflict phases r)) where
+  same_conflicts : o ≡ lowest_found L.routes (λ q. locked phases q and conflict L r q)
+  unfolding conflict entry_of conflicts_with
+  same_conflicts = e ∙ ap (lowest_found L.routes) (fun_ext (λ k. ap (λ n. locked phases k and eqb n 1) (lent_at L.conflict (place_of r k) most_pairs _ refl d)))
+
+  -- the refusal 5, from the lowest route that the search by the table finds
+  pub conflict_some : (q : ℕ) → o ≡ Some q → refused 5 q ≡ conflicting L phases r
+  unfolding conflicting
+  conflict_some q h = found_some 5 L.routes _ o same_conflicts q h
+
+  -- and none
+  pub conflict_none : o ≡ None → no_refusal ≡ conflicting L phases r
+  unfolding conflicting
+  conflict_none h = found_none 5 L.routes _ o same_conflicts h
 
 -- ---- 10 and 11, by a table of blocks
 
--- a refusal, from the lowest section that stands for a block of the line which the table has held or barred
-taken_found : (table : List ℕ) (l number g : ℕ) (r : Refusal) (b c : Line) → b ≡ c
-    → g ≡ lowest most_sections (failing (untaken table l) b)
-    → r ≡ refused_if (ltb g most_sections) number g
-    → r ≡ found number most_sections (failing (untaken table l) c)
-unfolding found
-taken_found table l number g r b c e d q =
-    q ∙ ap (λ m. refused_if (ltb m most_sections) number m) (d ∙ ap (λ (a : Line). lowest most_sections (failing (untaken table l) a)) e)
+module _ (ls : List Line) (table : List ℕ) (l : ℕ) (b : Line) (d : b ≡ line ls l) (o : Option ℕ) (e : o ≡ lowest_found most_sections (failing (untaken table l) b)) where
+  -- the line is the one that the layout has
+  at_line : o ≡ lowest_found most_sections (failing (untaken table l) (line ls l))
+  at_line = rw d at e
 
-module _ (ls : List Line) (table : List ℕ) (l g : ℕ) (r : Refusal) (b : Line) (e : b ≡ line ls l)
-    (d : g ≡ lowest most_sections (failing (untaken table l) b)) where
   -- by the table of bars
-  pub barred_found : r ≡ refused_if (ltb g most_sections) 11 g → r ≡ block_barred ls table l
+  pub barred_some : (g : ℕ) → o ≡ Some g → refused 11 g ≡ block_barred ls table l
   unfolding block_barred unbarred
-  barred_found q = taken_found table l 11 g r b (line ls l) e d q
+  barred_some g h = found_some 11 most_sections _ o at_line g h
+
+  pub barred_none : o ≡ None → no_refusal ≡ block_barred ls table l
+  unfolding block_barred unbarred
+  barred_none h = found_none 11 most_sections _ o at_line h
 
   -- by the table of stages
-  pub held_found : r ≡ refused_if (ltb g most_sections) 10 g → r ≡ block_held ls table l
+  pub held_some : (g : ℕ) → o ≡ Some g → refused 10 g ≡ block_held ls table l
   unfolding block_held is_open
-  held_found q = taken_found table l 10 g r b (line ls l) e d q
+  held_some g h = found_some 10 most_sections _ o at_line g h
 
--- ---- past the last line there is no block
+  pub held_none : o ≡ None → no_refusal ≡ block_held ls table l
+  unfolding block_held is_open
+  held_none h = found_none 10 most_sections _ o at_line h
 
--- there the line is one of nothing, with no blocks
-pub no_block : (L : Layout) (l i : ℕ) → length L.line ≡ most_lines → most_lines ≤ l → true ≡ leb (line_in L l).blocks i
-unfolding line_in line no_line
-no_block L l i e h = sym (le-leb 0 i (omega arith)) ∙ ap (λ (b : Line). leb b.blocks i) (read_past L.line l most_lines no_line no_line e h refl)
+-- ---- the blocks of a line by its number
+
+module _ (L : Layout) (l i : ℕ) where
+  -- the line that stands there has them
+  pub block_there : (b : Line) → ((d : Line) → b ≡ get_or L.line l d) → leb b.blocks i ≡ leb (line_in L l).blocks i
+  unfolding line_in line
+  block_there b e = ap (λ (a : Line). leb a.blocks i) (e no_line)
+
+  -- past the last line there is one of nothing, with no blocks
+  pub no_block : length L.line ≤ l → true ≡ leb (line_in L l).blocks i
+  unfolding line_in line no_line
+  no_block h = sym (le-leb 0 i (omega arith)) ∙ ap (λ (b : Line). leb b.blocks i) (read_past L.line l (length L.line) no_line no_line refl h refl)
 
 -- past the table of fitted sections there is none
 pub none_fitted_past : (fitted : List ℕ) (g : ℕ) → length fitted ≡ most_sections → most_sections ≤ g → false ≡ eqb (get_or fitted g 0) 1

@@ -1,16 +1,20 @@
 -- Routes and lines in a search: one that its table has is what its record says, and one past the table's end is idle or neutral.
 use Prim.Native.Nat.{ℕ, ◌+◌, ◌<◌, ◌≤◌}
 use mathlib.Core.Path.{◌≡◌, refl, sym, ap, ◌∙◌}
-use mathlib.Core.Bool.{Bool, false, not}
+use mathlib.Core.Bool.{Bool, true, false, not}
 use mathlib.Core.List.{List}
-use lib.Dec.{eqb}
+use native.Mathlib.Omega.{arith}
+use borrow.Author.Rules.{rules}
+use lib.Dec.{eqb, ltb}
 use lib.ListN.{length, get_or}
-use Rattle.laws.specs.Tests.{◌and◌}
+use Rattle.laws.specs.Tests.{◌and◌, any_below, lowest}
 use Rattle.laws.specs.Tables.{read}
 use Rattle.laws.proofs.Arrays.{read_in, length_mapped}
 use Rattle.laws.proofs.Both.{both_left}
-use Rattle.laws.proofs.Choice.{if_ge}
-use Rattle.laws.proofs.Searches.{Sought, seek_on, seeks}
+use Rattle.laws.specs.Choice.{when◌then◌else◌}
+use Rattle.laws.proofs.Choice.{if_ge, if_lt, Is, which, chosen, passed_over}
+use Rattle.laws.proofs.Choice as choice
+use Rattle.laws.proofs.Searches.{Sought, seek_start, seek_on, seek_here, seek_end, lowest_some}
 use Rattle.track.specs.declared.Line.{Line}
 use Rattle.track.specs.declared.Route.{Route}
 use Rattle.track.specs.Codes.{neutral, idle}
@@ -18,11 +22,36 @@ use Rattle.track.specs.Sizes.{most_lines, most_train_routes, most_routes}
 use Rattle.track.specs.Lists.{among}
 use Rattle.track.specs.Objects.{no_line, line, no_route, route}
 use Rattle.tables.specs.Locks.{direction, locked, locked_exit_by, locked_exit}
-use Rattle.reasons.specs.Searches.{route_locks, line_locks}
+use Rattle.std.specs.Prelude.{Option, Some, None}
+use Rattle.std.specs.Option.{is_none}
+use Rattle.reasons.specs.Searches.{route_locks, line_locks, lowest_found}
 
 -- a number at which the test is known to fail is passed over
-pub passed_over : (n : ℕ) (p : ℕ → Bool) (i : ℕ) → Sought n p i → i < n → false ≡ p i → Sought n p (i + 1)
-passed_over n p i s l e = seek_on n p i s l e refl
+pub none_there : (n : ℕ) (p : ℕ → Bool) (i : ℕ) → Sought n p i → i < n → false ≡ p i → Sought n p (i + 1)
+none_there n p i s l e = seek_on n p i s l e refl
+
+module _ (n : ℕ) (p : ℕ → Bool) (i : ℕ) (s : Sought n p i) where
+  -- the test holds at i: it is found
+  pub find_here : {b : Bool} → i < n → b ≡ p i → b ≡ true → Some i ≡ lowest_found n p
+  unfolding lowest_found
+  find_here l d e = let h : i ≡ lowest n p = seek_here n p i s l d e in rw (← h) (if_lt i n (Some i) None (Some i) l refl)
+
+  -- no number is left: none is found
+  pub find_none : n ≤ i → None ≡ lowest_found n p
+  unfolding lowest_found
+  find_none l = let h : n ≡ lowest n p = seek_end n p i s l in rw (← h) (if_ge n n (Some n) None None (omega arith) refl)
+
+-- none is found just where the test holds at none
+pub found_nowhere : (n : ℕ) (p : ℕ → Bool) (o : Option ℕ) → o ≡ lowest_found n p → is_none o ≡ not (any_below n p)
+unfolding lowest_found
+found_nowhere n p o e = ap is_none e ∙ go (which (ltb (lowest n p) n))
+  where
+    go : Is (ltb (lowest n p) n) → is_none (when ltb (lowest n p) n then Some (lowest n p) else None) ≡ not (any_below n p)
+    go (choice.holds t) = ap is_none (chosen _ _ _ t) ∙ ap not (sym t ∙ lowest_some n p)
+    go (choice.fails t) = ap is_none (passed_over _ _ _ t) ∙ ap not (sym t ∙ lowest_some n p)
+
+-- for loops that look for the lowest, if any
+pub ruleset finds = (rules, seek_start, seek_on, find_here, find_none)
 
 -- past the table no route is locked
 idle_past : (phases : List ℕ) (r : ℕ) → most_routes ≤ r → locked phases r ≡ false
@@ -44,7 +73,7 @@ module _ (rs : List Route) (phases : List ℕ) (p r : ℕ) where
   route_there d e q b = e ∙ ap (λ (a : Route). locked phases r and among a.points a.point p) (read_in rs r most_train_routes d no_route q b)
 
 -- for that search
-pub ruleset routes = (seeks, length_mapped, passed_over, route_past, route_there)
+pub ruleset routes = (finds, length_mapped, none_there, route_past, route_there)
 
 -- ---- locked exit routes of a line
 
@@ -60,7 +89,7 @@ module _ (rs : List Route) (phases : List ℕ) (l r : ℕ) where
   exit_there d e q b = e ∙ ap (λ (a : Route). locked_exit_by phases a l r) (read_in rs r most_train_routes d no_route q b)
 
 -- for that search
-pub ruleset exits = (seeks, length_mapped, passed_over, exit_past, exit_there)
+pub ruleset exits = (finds, length_mapped, none_there, exit_past, exit_there)
 
 -- ---- secured lines that list a point
 
@@ -78,4 +107,4 @@ module _ (ls : List Line) (directions : List ℕ) (p l : ℕ) where
       e ∙ ap (λ (a : Line). not (eqb (direction directions l) neutral) and among a.points a.point p) (read_in ls l most_lines d no_line q b)
 
 -- for that search
-pub ruleset lines = (seeks, length_mapped, passed_over, line_past, line_there)
+pub ruleset lines = (finds, length_mapped, none_there, line_past, line_there)

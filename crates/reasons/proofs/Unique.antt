@@ -1,9 +1,10 @@
 -- No second result meets the contract of a public function. Each `Post` is the contract itself, as the function is proved to meet it.
 use Rattle.laws.proofs.Only.{Determines, only}
+use Rattle.reasons.proofs.Told.{told_once}
 use Rattle.reasons.proofs.arrival_dark.Reads as arrival_dark
-use Rattle.reasons.proofs.no_refusal.Reads as no_refusal
-use Rattle.reasons.proofs.refuse.Reads as refuse
-use Rattle.reasons.proofs.refused_if.Reads as refused_if
+use Rattle.reasons.proofs.answers.Reason.number.Reads as number
+use Rattle.reasons.proofs.answers.Reason.detail.Reads as detail
+use Rattle.reasons.proofs.answers.refused_if.Reads as refused_if
 use Rattle.reasons.proofs.conflicting.Reads as conflicting
 use Rattle.reasons.proofs.by_route.Reads as by_route
 use Rattle.reasons.proofs.by_line.Reads as by_line
@@ -33,89 +34,89 @@ use Rattle.reasons.proofs.searches.lowest_line_locking.Reads as lowest_line_lock
 use Rattle.reasons.proofs.searches.lowest_locked_exit.Reads as lowest_locked_exit
 use Rattle.reasons.proofs.searches.lowest_taken.Reads as lowest_taken
 
--- no refusal
-pub no_refusal_determined : Determines no_refusal.Post
-no_refusal_determined κs a r q s = only
+-- the number of a reason
+pub number_determined : Determines number.Post
+number_determined κs a r q s = only
 
--- a refusal by its number and detail
-pub refuse_determined : Determines refuse.Post
-refuse_determined κs a r q s = only
+-- its detail
+pub detail_determined : Determines detail.Post
+detail_determined κs a r q s = only
 
 -- a refusal where a test holds
 pub refused_if_determined : Determines refused_if.Post
-refused_if_determined κs a r q s = only
+refused_if_determined κs a r q s = told_once r q
 
 -- 5: a conflicting route is locked
 pub conflicting_determined : Determines conflicting.Post
-conflicting_determined κs a r q s = only
+conflicting_determined κs a r q s = told_once r q
 
 -- 15: a locked route lists the point
 pub by_route_determined : Determines by_route.Post
-by_route_determined κs a r q s = only
+by_route_determined κs a r q s = told_once r q
 
 -- 16: a secured line lists the point
 pub by_line_determined : Determines by_line.Post
-by_line_determined κs a r q s = only
+by_line_determined κs a r q s = told_once r q
 
 -- 17: an exit route is locked
 pub exit_locked_determined : Determines exit_locked.Post
-exit_locked_determined κs a r q s = only
+exit_locked_determined κs a r q s = told_once r q
 
 -- 11: a block of a line is barred
 pub block_barred_determined : Determines block_barred.Post
-block_barred_determined κs a r q s = only
+block_barred_determined κs a r q s = told_once r q
 
 -- 10: a block of a line is held
 pub block_held_determined : Determines block_held.Post
-block_held_determined κs a r q s = only
+block_held_determined κs a r q s = told_once r q
 
 -- 6: a line's point is not read in position
 pub line_not_placed_determined : Determines line_not_placed.Post
-line_not_placed_determined κs a r q s = only
+line_not_placed_determined κs a r q s = told_once r q
 
 -- 6: a route's point is not read in position
 pub route_not_placed_determined : Determines route_not_placed.Post
-route_not_placed_determined κs a r q s = only
+route_not_placed_determined κs a r q s = told_once r q
 
 -- 7, 8: a section of a path or an overlap does not read free
 pub route_not_free_determined : Determines route_not_free.Post
-route_not_free_determined κs a r q s = only
+route_not_free_determined κs a r q s = told_once r q
 
 -- 7, 8: a point's section does not read free
 pub point_not_free_determined : Determines point_not_free.Post
-point_not_free_determined κs a r q s = only
+point_not_free_determined κs a r q s = told_once r q
 
 -- 7, 8: a block does not read free
 pub line_not_free_determined : Determines line_not_free.Post
-line_not_free_determined κs a r q s = only
+line_not_free_determined κs a r q s = told_once r q
 
 -- 4: the route is locked
 pub already_locked_determined : Determines already_locked.Post
-already_locked_determined κs a r q s = only
+already_locked_determined κs a r q s = told_once r q
 
 -- 13: the route is not locked
 pub not_locked_determined : Determines not_locked.Post
-not_locked_determined κs a r q s = only
+not_locked_determined κs a r q s = told_once r q
 
 -- 14: the route is cancelling
 pub already_cancelling_determined : Determines already_cancelling.Post
-already_cancelling_determined κs a r q s = only
+already_cancelling_determined κs a r q s = told_once r q
 
 -- 9: the line is not secured that way
 pub not_secured_determined : Determines not_secured.Post
-not_secured_determined κs a r q s = only
+not_secured_determined κs a r q s = told_once r q
 
 -- 12: the line is secured
 pub already_secured_determined : Determines already_secured.Post
-already_secured_determined κs a r q s = only
+already_secured_determined κs a r q s = told_once r q
 
 -- 11: the block entered is barred
 pub entered_barred_determined : Determines entered_barred.Post
-entered_barred_determined κs a r q s = only
+entered_barred_determined κs a r q s = told_once r q
 
 -- 10: the block entered is held
 pub entered_held_determined : Determines entered_held.Post
-entered_held_determined κs a r q s = only
+entered_held_determined κs a r q s = told_once r q
 
 -- a number outside its bounds
 pub is_outside_determined : Determines is_outside.Post
@@ -159,4 +160,4 @@ lowest_taken_determined κs a r q s = only
 
 -- 31: the lamp of the arrival entrance signal reports none
 pub arrival_dark_determined : Determines arrival_dark.Post
-arrival_dark_determined κs a r q s = only
+arrival_dark_determined κs a r q s = told_once r q

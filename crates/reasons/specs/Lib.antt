@@ -1,3 +1,4 @@
 pub mod Refusal
+pub mod Told
 pub mod Searches
 pub mod Reasons

@@ -14,8 +14,7 @@ use Rattle.lamps.specs.Lamps.{reports_none}
 use Rattle.reasons.specs.Searches.{unfree, misplaced, route_locks, line_locks, failing}
 use Rattle.layout.specs.declared.Layout.{Layout}
 use Rattle.layout.specs.Layout.{is_fitted, conflict}
-use Rattle.reasons.specs.declared.Refusal.{Refusal}
-use Rattle.reasons.specs.Refusal.{refused, no_refusal, refused_if, found}
+use Rattle.reasons.specs.Refusal.{Refusal, refused, no_refusal, refused_if, found}
 
 -- 7, 8: a section asked for is occupied, reads none; the lowest-numbered of those asked for that doesn't read free decides which
 unfoldable pub not_free : List ℕ → ℕ → Refusal

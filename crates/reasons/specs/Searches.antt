@@ -1,6 +1,7 @@
 -- What is searched for: to which sections, points, routes, lines and blocks a reason of section 3 applies.
-use Rattle.std.specs.Prelude.{ℕ, Bool, not, List, eqb, get_or}
-use Rattle.laws.specs.Tests.{◌and◌, any_below}
+use Rattle.std.specs.Prelude.{ℕ, Bool, not, List, eqb, get_or, ltb, Option, Some, None}
+use Rattle.laws.specs.Choice.{when◌then◌else◌}
+use Rattle.laws.specs.Tests.{◌and◌, any_below, lowest}
 use Rattle.laws.specs.Tables.{read}
 use Rattle.sets.specs.Sets.{holds}
 use Rattle.track.specs.declared.Line.{Line}
@@ -33,7 +34,11 @@ line_locks ls directions p l = not (eqb (direction directions l) neutral) and am
 unfoldable pub failing : (ℕ → Bool) → Line → ℕ → Bool
 failing test b g = any_below b.blocks (λ i. eqb (block_detail b i) g and not (test i))
 
--- ---- as the code searches, in the table of conflicts that is lent
+-- ---- as the code searches
+
+-- the lowest of 0 .. n - 1 to which a test applies; none where it applies to none of them
+unfoldable pub lowest_found : ℕ → (ℕ → Bool) → Option ℕ
+lowest_found n p = when ltb (lowest n p) n then Some (lowest n p) else None
 
 -- route q is locked, and the table of conflicts has it with r
 unfoldable pub conflicts_with : List ℕ → List ℕ → ℕ → ℕ → Bool

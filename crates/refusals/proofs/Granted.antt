@@ -9,8 +9,7 @@ use borrow.Author.Tests.{not-false}
 use lib.ListN.{get_or}
 use Rattle.laws.specs.Choice.{when◌then◌else◌}
 use Rattle.laws.proofs.Choice.{if_eq, if_ne}
-use Rattle.reasons.specs.declared.Refusal.{Refusal}
-use Rattle.reasons.specs.Refusal.{refused, no_refusal, refused_if, first_of}
+use Rattle.reasons.specs.Refusal.{Refusal, refused, no_refusal, refused_if, first_of}
 use Rattle.refusals.specs.Events.{numbers_refusal}
 
 -- ---- a list of reasons of which none is given

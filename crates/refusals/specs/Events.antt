@@ -1,7 +1,6 @@
 -- What is refused of any event by its numbers, before its kind is asked (section 3).
 use Rattle.std.specs.Prelude.{ℕ, Bool, not, [], ◌∷◌}
-use Rattle.reasons.specs.declared.Refusal.{Refusal}
-use Rattle.reasons.specs.Refusal.{refused_if, first_of}
+use Rattle.reasons.specs.Refusal.{Refusal, refused_if, first_of}
 
 -- 18 unless layout and state are sound, 2 where there is no object a, 30 or 34 where its section has no heads or has them (L1), 3 for a wrong second
 -- number

@@ -13,8 +13,7 @@ use Rattle.tables.specs.Tables.{Tables}
 use Rattle.tables.specs.Blocks.{is_open, unbarred}
 use Rattle.tables.specs.Locks.{direction, phase, locked, departs}
 use Rattle.layout.specs.declared.Layout.{Layout}
-use Rattle.reasons.specs.declared.Refusal.{Refusal}
-use Rattle.reasons.specs.Refusal.{no_refusal, refused_if, first_of}
+use Rattle.reasons.specs.Refusal.{Refusal, no_refusal, refused_if, first_of}
 use Rattle.reasons.specs.Reasons.{not_free, not_placed, conflicting, by_route, by_line, exit_locked, block_barred, block_held, arrival_dark}
 
 -- throw: 15, 16, then 7/8 for the point's own section

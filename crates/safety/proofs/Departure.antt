@@ -25,8 +25,7 @@ use Rattle.layout.specs.Sound.{sound}
 use Rattle.layout_facts.specs.Plain.{Sound}
 use Rattle.layout_facts.proofs.Sound.{sound_says}
 use Rattle.fitted.proofs.InUse.{in_use_sound}
-use Rattle.reasons.specs.declared.Refusal.{Refusal}
-use Rattle.reasons.specs.Refusal.{refused, no_refusal}
+use Rattle.reasons.specs.Refusal.{Refusal, refused, no_refusal}
 use Rattle.refusals.specs.Orders.{secure_refusal, way_refusal, exit_refusal, route_refusal, set_refusal}
 use Rattle.refusals.proofs.Granted.{granted_at, granted_second}
 use Rattle.interlocking.specs.declared.State.{State}

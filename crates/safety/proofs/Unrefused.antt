@@ -16,8 +16,7 @@ use Rattle.sets.specs.Sets.{merged_set, set_of, joined, holds}
 use Rattle.sets.proofs.Sets.{holds_none, holds_union, holds_joined, holds_set_of}
 use Rattle.track.specs.Sizes.{most_sections}
 use Rattle.tables.specs.Readings.{reading}
-use Rattle.reasons.specs.declared.Refusal.{Refusal}
-use Rattle.reasons.specs.Refusal.{no_refusal, refused, refused_if, found, first_of}
+use Rattle.reasons.specs.Refusal.{Refusal, no_refusal, refused, refused_if, found, first_of}
 use Rattle.reasons.specs.Reasons.{not_free}
 use Rattle.refusals.proofs.Granted.{granted_at, when_granted}
 use Rattle.step_facts.proofs.Passed as passed

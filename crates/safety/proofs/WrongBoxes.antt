@@ -8,7 +8,7 @@ use Rattle.laws.proofs.Choice.{if_both}
 use Rattle.passage.specs.Passage.{own_stage, far_stage}
 use Rattle.layout.specs.declared.Layout.{Layout}
 use Rattle.layout.specs.Layout.{line_in}
-use Rattle.reasons.specs.declared.Refusal.{Refusal}
+use Rattle.reasons.specs.Refusal.{Refusal}
 use Rattle.refusals.specs.Orders.{throw_refusal, set_refusal, secure_refusal, manual_refusal}
 use Rattle.line_block.specs.OwnReadings.{own_stage_at, given_stages, own_stages}
 use Rattle.line_block.specs.FarSections.{far_moved, far_stage_at, far_stages}

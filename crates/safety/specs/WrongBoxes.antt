@@ -15,8 +15,7 @@ use Rattle.tables.specs.Blocks.{stage_of, is_open, unbarred}
 use Rattle.passage.specs.Passage.{own_stage, far_stage}
 use Rattle.tables.specs.declared.Gives.{Gives}
 use Rattle.layout.specs.declared.Layout.{Layout}
-use Rattle.reasons.specs.declared.Refusal.{Refusal}
-use Rattle.reasons.specs.Refusal.{refused_if, first_of}
+use Rattle.reasons.specs.Refusal.{Refusal, refused_if, first_of}
 use Rattle.tables.specs.Locks.{direction, phase, locked_exit}
 use Rattle.lamps.specs.Lamps.{far_stop_lit}
 use Rattle.line_block.specs.OwnReadings.{own_given}

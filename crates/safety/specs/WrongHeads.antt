@@ -13,8 +13,7 @@ use Rattle.axles.specs.HeadLog.{said}
 use Rattle.layout.specs.declared.Layout.{Layout}
 use Rattle.layout_facts.specs.BranchT.{layout_t}
 use Rattle.fitted.specs.Fitted.{equipped}
-use Rattle.reasons.specs.declared.Refusal.{Refusal}
-use Rattle.reasons.specs.Refusal.{no_refusal}
+use Rattle.reasons.specs.Refusal.{Refusal, no_refusal}
 use Rattle.interlocking.specs.declared.State.{State}
 use Rattle.interlocking.specs.State.{heads_at, with_axles}
 use Rattle.interlocking.specs.Own.{head_section, own_section}

@@ -12,8 +12,7 @@ use Rattle.track.specs.Blocks.{line_sections}
 use Rattle.tables.specs.Locks.{locked, departs}
 use Rattle.layout.specs.declared.Layout.{Layout}
 use Rattle.layout.specs.Layout.{conflict}
-use Rattle.reasons.specs.declared.Refusal.{Refusal}
-use Rattle.reasons.specs.Refusal.{no_refusal, refused_if, found, first_of}
+use Rattle.reasons.specs.Refusal.{Refusal, no_refusal, refused_if, found, first_of}
 use Rattle.reasons.specs.Reasons.{not_free, by_route, by_line, conflicting, exit_locked}
 use Rattle.refusals.specs.Orders.{route_refusal, secure_refusal}
 use Rattle.refusals.specs.Events.{numbers_refusal}

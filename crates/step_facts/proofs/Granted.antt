@@ -19,8 +19,7 @@ use Rattle.axles.specs.Heads.{speaking}
 use Rattle.layout.specs.declared.Layout.{Layout}
 use Rattle.layout.specs.Layout.{is_fitted, line_in, signals_in}
 use Rattle.layout.specs.Sound.{sound}
-use Rattle.reasons.specs.declared.Refusal.{Refusal}
-use Rattle.reasons.specs.Refusal.{refused, no_refusal, refused_if, found, first_of}
+use Rattle.reasons.specs.Refusal.{Refusal, refused, no_refusal, refused_if, found, first_of}
 use Rattle.reasons.specs.Searches.{unfree}
 use Rattle.tables.specs.Locks.{locked, locked_exit_by, locked_exit}
 use Rattle.reasons.specs.Reasons.{not_free, exit_locked, no_heads, has_heads}

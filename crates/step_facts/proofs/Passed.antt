@@ -28,8 +28,7 @@ use Rattle.layout.specs.Layout.{is_fitted, line_in, route_in, conflict}
 use Rattle.layout.specs.Sound.{sound}
 use Rattle.tables.specs.Blocks.{is_open}
 use Rattle.layout_facts.specs.Plain.{own_section, route_point, line_point, nearest_block, Sound}
-use Rattle.reasons.specs.declared.Refusal.{Refusal}
-use Rattle.reasons.specs.Refusal.{refused, found}
+use Rattle.reasons.specs.Refusal.{Refusal, refused, found}
 use Rattle.reasons.specs.Searches.{unfree, route_locks, line_locks}
 use Rattle.tables.specs.Locks.{locked, locked_exit_by, locked_exit, departs}
 use Rattle.reasons.specs.Reasons.{not_free, conflicting, by_route, by_line, exit_locked, no_heads, has_heads}

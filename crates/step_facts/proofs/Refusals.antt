@@ -10,8 +10,7 @@ use Rattle.laws.proofs.Choice.{if_both}
 use Rattle.track.specs.declared.Route.{Route}
 use Rattle.tables.specs.Tables.{Tables}
 use Rattle.layout.specs.declared.Layout.{Layout}
-use Rattle.reasons.specs.declared.Refusal.{Refusal}
-use Rattle.reasons.specs.Refusal.{refused, no_refusal, refused_if, found, first_of}
+use Rattle.reasons.specs.Refusal.{Refusal, refused, no_refusal, refused_if, found, first_of}
 use Rattle.reasons.specs.Reasons.{not_free, not_placed, conflicting, by_route, by_line, exit_locked, block_barred, block_held, arrival_dark, no_heads, has_heads}
 use Rattle.refusals.specs.Orders.{throw_refusal, way_refusal, exit_refusal, route_refusal, set_refusal, cancel_refusal, secure_refusal, manual_refusal}
 use Rattle.refusals.specs.Events.{numbers_refusal}

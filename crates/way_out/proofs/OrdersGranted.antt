@@ -29,8 +29,7 @@ use Rattle.layout.specs.Layout.{line_in, route_in}
 use Rattle.layout.specs.Sound.{sound}
 use Rattle.layout_facts.specs.Plain.{own_section, entrance_signal, nearest_block, line_point, line_position, path, overlap, route_point, route_position, Sound}
 use Rattle.layout_facts.proofs.Uses.{entered_block}
-use Rattle.reasons.specs.declared.Refusal.{Refusal}
-use Rattle.reasons.specs.Refusal.{refused, no_refusal, found}
+use Rattle.reasons.specs.Refusal.{Refusal, refused, no_refusal, found}
 use Rattle.reasons.specs.Searches.{misplaced, route_locks, line_locks, failing}
 use Rattle.reasons.specs.Reasons.{not_placed, conflicting, by_route, by_line, block_barred, block_held, arrival_dark}
 use Rattle.refusals.specs.Orders.{throw_refusal, way_refusal, exit_refusal, route_refusal, set_refusal, secure_refusal}

@@ -1,7 +1,7 @@
 -- A store, and the stages made anew.
-use Rattle.interlocking.specs.State.{with_sections}
-use Rattle.interlocking.specs.Parts.{core_of}
 use Rattle.interlocking.proofs.Laws.{section_made}
+use Rattle.interlocking.specs.Parts.{core_of}
+use Rattle.interlocking.specs.State.{with_sections}
 use Rattle.interlocking.proofs.orders.read_section.Goals as goal
 
 pub returns : goal.returns

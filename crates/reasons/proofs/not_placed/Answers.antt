@@ -1,0 +1,14 @@
+-- The lowest point that the search finds is the detail.
+use borrow.Author.Rules.{rules}
+use Rattle.reasons.proofs.Laws.{found_some, found_none}
+use Rattle.laws.proofs.Arrays.{length_mapped}
+use Rattle.reasons.specs.Reasons.{not_placed}
+use Rattle.reasons.proofs.not_placed.Goals as goal
+
+pub returns-in-Some : goal.returns-in-Some
+unfolding not_placed
+returns-in-Some c = search (rules, length_mapped, found_some)
+
+pub returns-in-None : goal.returns-in-None
+unfolding not_placed
+returns-in-None c = search (rules, length_mapped, found_none)

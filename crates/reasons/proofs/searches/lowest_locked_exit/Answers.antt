@@ -1,0 +1,15 @@
+-- A search that leaves at the first locked exit route of the line; there is none past the table.
+use Rattle.reasons.proofs.SearchLaws.{exits}
+use Rattle.reasons.proofs.searches.lowest_locked_exit.Goals as goal
+
+pub loop-r-init : goal.loop-r-init
+loop-r-init c = search exits
+
+pub loop-r-preserved : goal.loop-r-preserved
+loop-r-preserved c = search exits
+
+pub returns : goal.returns
+returns c = search exits
+
+pub returns-then-is_locked_exit : goal.returns-then-is_locked_exit
+returns-then-is_locked_exit c = search exits

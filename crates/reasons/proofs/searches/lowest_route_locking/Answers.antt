@@ -1,0 +1,15 @@
+-- A search that leaves at the first route that is locked and lists the point; there is none past the table.
+use Rattle.reasons.proofs.SearchLaws.{routes}
+use Rattle.reasons.proofs.searches.lowest_route_locking.Goals as goal
+
+pub loop-r-init : goal.loop-r-init
+loop-r-init c = search routes
+
+pub loop-r-preserved : goal.loop-r-preserved
+loop-r-preserved c = search routes
+
+pub returns : goal.returns
+returns c = search routes
+
+pub returns-then-route_locks : goal.returns-then-route_locks
+returns-then-route_locks c = search routes

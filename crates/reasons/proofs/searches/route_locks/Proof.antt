@@ -1,7 +1,0 @@
--- A route that is not locked locks no point; else its list of points decides.
-use Rattle.laws.proofs.Both.{both_asked, boths}
-use Rattle.reasons.proofs.searches.route_locks.Statement.{statement}
-use Rattle.reasons.proofs.searches.route_locks.Tie as tie
-
-pub route_locks_spec : {M : Type 1} → statement M
-route_locks_spec = tie.close (tie.spec (λ c κs. search boths) (λ c. search boths) (λ c κs. search boths) (λ c. both_asked _ _ _ (search boths) (cc)))
