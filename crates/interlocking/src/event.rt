@@ -85,7 +85,7 @@ impl Core {
         numbers_refusal(a.sound, missing, route, Ok(()), unused != 0)?;
         let r = route as u8;
         refusals::set_refusal(a.layout, tables_of(&self, a.lamps), r)?;
-        let first = orders::secure_first(self, route_at(a.layout.route, r));
+        let first = orders::secure_first(self, route_at(&a.layout.route, r));
         Ok(Done {
             next: orders::lock(first, r),
             gives: gives_nothing(),
@@ -177,7 +177,7 @@ impl Core {
     fn lamp_report(self, a: Lent, signal: u32, code: u32) -> Result<Done, Reason>
         ensures { tried_by self result ≡ tried a.entry.sound self signal (lamp_row a.entry.layout.now (headless self a.entry.lamps.now) signal code) }
     {
-        let count = signal_count(a.layout.signals, a.layout.lines, a.layout.line);
+        let count = signal_count(a.layout.signals, a.layout.lines, &a.layout.line);
         let missing = count <= signal as u64;
         numbers_refusal(a.sound, missing, signal, Ok(()), false)?;
         Ok(Done {

@@ -86,7 +86,7 @@ pub fn lowest_conflicting<'a>(
 fn route_locks<'a>(a: &'a Route, phases: &'a [u8; ROUTES], p: u8, r: u8) -> bool
     ensures { result ≡ locked phases.now r and among a.now.points a.now.point p }
 {
-    is_locked(phases, r) && is_among(a.point, a.points, p)
+    is_locked(phases, r) && is_among(&a.point, a.points, p)
 }
 
 // The lowest of n routes that is locked and lists point p.
@@ -111,7 +111,7 @@ pub fn lowest_route_locking<'a>(
 fn line_locks<'a>(b: &'a Line, directions: &'a [u8; LINES], p: u8, l: u8) -> bool
     ensures { result ≡ not (eqb (direction directions.now l) neutral) and among b.now.points b.now.point p }
 {
-    direction_of(directions, l) != NEUTRAL && is_among(b.point, b.points, p)
+    direction_of(directions, l) != NEUTRAL && is_among(&b.point, b.points, p)
 }
 
 // The lowest of n lines that is secured and lists point p.

@@ -97,7 +97,7 @@ pub fn set_refusal<'a>(plan: &'a Layout, t: Tables<'a>, r: u8) -> Result<(), Rea
 {
     reasons::already_locked(t.phase, r)?;
     reasons::conflicting(plan, t.phase, r)?;
-    route_refusal(plan, t, route_at(plan.route, r))
+    route_refusal(plan, t, route_at(&plan.route, r))
 }
 
 // What is refused of cancelling a route.
