@@ -29,7 +29,7 @@ pub struct Walked {
     pub seconds: [u8; TRAIN_ROUTES],
 }
 
-// The walk over a layout's routes, after an event that made the state s: signals fall and routes are let go in one turn, since far sections move no route.
+// The walk over a layout's routes: signals fall and routes are let go in one turn, since far sections move no route.
 fn walk_routes(l: &Layout, s: Core, lamps: &[u8; LAMPS], e: Gives) -> Walked
     requires { l.now.routes ≤ most_train_routes }
     ensures { IsWalk l.now (bare s) e (replicate most_train_routes 0) result }
@@ -75,8 +75,8 @@ fn walk_routes(l: &Layout, s: Core, lamps: &[u8; LAMPS], e: Gives) -> Walked
     }
 }
 
-// What follows an event that made the state s of the state before it: the walk over the routes, far sections, blocks that wait, where there is one, since an
-// entrance route may have been released, and the line release.
+// What follows an event that made the state s of the one before: the walk over the routes, far sections, blocks that wait, where one does, for an
+// entrance route that was released, and the line release.
 fn followed(l: &Layout, before: Core, s: Core, lamps: &[u8; LAMPS], e: Gives) -> Core
     requires { (l.now.lines ≤ most_lines) × (l.now.routes ≤ most_train_routes) }
     ensures { result ≡ core_of (settle l.now (bare before) (bare s) e) }

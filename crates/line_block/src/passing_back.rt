@@ -51,7 +51,7 @@ fn waited_stage(b: Line, before: Tables, now: Tables, arrived: bool, l: u8, i: u
     STAGE_3
 }
 
-// The stages of the first m places, where arrived tells the lines at whose arrival end an entrance route was released. Blocks that do not wait are left at once.
+// The stages of the first m places, where arrived tells the lines at which an entrance route was released. Blocks that do not wait are left at once.
 #[tactic(auto, using(laws::proofs::Each::redoes))]
 pub(super) fn passed_back(
     m: u8,
