@@ -12,7 +12,7 @@ use axles::Axles;
 use layout::Layout;
 use line_block::far_sections::far_stages;
 use line_block::line_release::directions_after;
-use line_block::passing_back::{none_waits, stages_after_arrivals};
+use line_block::passing_back::stages_after_arrivals;
 use release::{Locking, route_settled};
 use tables::{Gives, Tables};
 use track::codes::IDLE;
@@ -101,21 +101,17 @@ fn followed(l: &Layout, before: Core, s: Core, lamps: &[u8; LAMPS], e: Gives) ->
         lamp: lamps,
     };
     let far = far_stages(l, &w.entry, old, now);
-    let mut stage = far;
-    if !none_waits(&far) {
-        let then = Tables {
-            phase: &w.phase,
-            stage: &far,
-            ..now
-        };
-        stage = stages_after_arrivals(l, old, then);
-    }
     let then = Tables {
         phase: &w.phase,
-        stage: &stage,
+        stage: &far,
         ..now
     };
-    let direction = directions_after(l, old, then);
+    let stage = stages_after_arrivals(l, old, then);
+    let last = Tables {
+        stage: &stage,
+        ..then
+    };
+    let direction = directions_after(l, old, last);
     Core {
         phase: w.phase,
         steps: w.steps,

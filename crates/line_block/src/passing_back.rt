@@ -114,10 +114,15 @@ pub fn none_waits(stages: &[u8; PLACES]) -> bool
     none
 }
 
-// The stages of the blocks of a layout's lines, after entrance routes were released: the last block in travel opens, and those before it that wait.
+// The stages of the blocks of a layout's lines, after entrance routes were released: the last block in travel opens, and those before it that wait. Which
+// routes were is asked only where a block waits.
 pub fn stages_after_arrivals(l: &Layout, before: Tables, now: Tables) -> [u8; PLACES]
     ensures { result ≡ passed_back (few_lines l.now.lines) l.now.line now.entry.direction.now no_opening (arrives l.now.routes l.now.route before.entry.phase.now now.entry.phase.now) now.entry.stage.now }
 {
+    let stage = copied(now.stage);
+    if none_waits(&stage) {
+        return stage;
+    }
     let arrived = arrivals(l, before, now);
     passed_back(MOST_BLOCKS * few_lines(l.lines), &l.line, now, now, arrived)
 }
