@@ -13,7 +13,7 @@ use axles::Axles;
 use layout::Layout;
 use line_block::far_sections::far_stages;
 use line_block::line_release::directions_after;
-use line_block::passing_back::{none_waits, stages_after_arrivals};
+use line_block::passing_back::stages_after_arrivals;
 use release::{Locking, route_settled};
 use tables::{Gives, Tables};
 use track::codes::IDLE;
@@ -30,7 +30,7 @@ pub struct Walked {
     pub seconds: [u8; TRAIN_ROUTES],
 }
 
-// The walk over a layout's routes, after an event that made the state s: signals fall and routes are let go in one turn, since far sections move no route.
+// The walk over a layout's routes: signals fall and routes are let go in one turn, since far sections move no route.
 fn walk_routes(l: &Layout, s: Core, lamps: &[u8; LAMPS], e: Gives) -> Walked
     requires { l.now.routes ≤ most_train_routes }
     ensures { IsWalk l.now (bare s) e (replicate most_train_routes 0) result }
@@ -76,8 +76,8 @@ fn walk_routes(l: &Layout, s: Core, lamps: &[u8; LAMPS], e: Gives) -> Walked
     }
 }
 
-// What follows an event that made the state s of the state before it: the walk over the routes, far sections, blocks that wait, where there is one, since an
-// entrance route may have been released, and the line release.
+// What follows an event that made the state s of the one before: the walk over the routes, far sections, blocks that wait, where one does, for an
+// entrance route that was released, and the line release.
 fn followed(l: &Layout, before: Core, s: Core, lamps: &[u8; LAMPS], e: Gives) -> Core
     requires { (l.now.lines ≤ most_lines) × (l.now.routes ≤ most_train_routes) }
     ensures { result ≡ core_of (settle l.now (bare before) (bare s) e) }
@@ -102,21 +102,17 @@ fn followed(l: &Layout, before: Core, s: Core, lamps: &[u8; LAMPS], e: Gives) ->
         lamp: lamps,
     };
     let far = far_stages(l, &w.entry, old, now);
-    let mut stage = far;
-    if !none_waits(&far) {
-        let then = Tables {
-            phase: &w.phase,
-            stage: &far,
-            ..now
-        };
-        stage = stages_after_arrivals(l, old, then);
-    }
     let then = Tables {
         phase: &w.phase,
-        stage: &stage,
+        stage: &far,
         ..now
     };
-    let direction = directions_after(l, old, then);
+    let stage = stages_after_arrivals(l, old, then);
+    let last = Tables {
+        stage: &stage,
+        ..then
+    };
+    let direction = directions_after(l, old, last);
     Core {
         phase: w.phase,
         steps: w.steps,

@@ -7,7 +7,7 @@ use mathlib.Core.Logic.{⊎_elim}
 use native.Mathlib.Decide.{ℕ_discrete}
 use native.Mathlib.Numerals.{add-one}
 use native.Mathlib.Omega.{arith}
-use borrow.Author.Tests.{eqb-true, eqb-false, leb-true, leb-false, eq-eqb, ne_eqb, lt-ltb, le-ltb, not-false}
+use borrow.Author.Tests.{eqb-true, eqb-false, leb-true, leb-false, eq-eqb, ne_eqb, lt-ltb, le-ltb}
 use lib.Dec.{eqb, leb}
 use lib.ListN.{length, get_or, set, replicate, length-set}
 use lib.Seq.{get_or-set_same, get_or-set_other}
@@ -216,9 +216,9 @@ module _ (n : ℕ) (ls : List Line) (directions stages : List ℕ) (b : most_blo
 
 -- so where the code asked for the lines that the tables hold
 pub passed_idle : (m : ℕ) (ls : List Line) (directions stages : List ℕ) (a : ℕ → ℕ → Bool) (none : Bool) → length stages ≡ most_places → none ≡ none_waits stages
-    → not none ≡ false → stages ≡ passed_back (few_lines m) ls directions no_opening a stages
+    → none ≡ true → stages ≡ passed_back (few_lines m) ls directions no_opening a stages
 passed_idle m ls directions stages a none len e t =
-    passed_unwaited (few_lines m) ls directions stages (few_long m (few_lines m) stages refl len) no_opening a (few_fit m (few_lines m) refl) (sym e ∙ not-false none t)
+    passed_unwaited (few_lines m) ls directions stages (few_long m (few_lines m) stages refl len) no_opening a (few_fit m (few_lines m) refl) (sym e ∙ t)
 
 -- no block goes from stage 2 to open where no stage changes: it would have to be both
 pub goes_still : (stages : List ℕ) (l i : ℕ) → goes_open stages stages l i ≡ false

@@ -66,7 +66,7 @@ fn block_proceeds(b: Line, t: Tables, l: u8, i: u8, w: u8) -> bool
     direction_of(t.direction, l) == w && signals::may_enter_line(t, b, l, i)
 }
 
-// The far signal of block i of line l, of which the record is b, in direction w shows proceed: the next block's signal, or the line's entrance signal.
+// The far signal of block i of line l, which is b, in direction w shows proceed: the next block's signal, or the line's entrance signal.
 #[tactic(auto, using(crate::proofs::FarSections::far_block, crate::proofs::FarSections::far_station))]
 fn far_proceeds(b: Line, s: Starts, t: Tables, l: u8, i: u8, w: u8) -> bool
     ensures { (ls : List Line) → b ≡ line ls l → result ≡ proceeds_by ls s.entry.routes s.entry.entry.now t.entry.phase.now t.entry.direction.now t.entry.point.now t.entry.stage.now t.entry.bar.now (far_signal b l i w) }
@@ -129,7 +129,7 @@ fn moved_stages(m: u8, ls: &[Line; LINES], s: Starts, before: Tables, now: Table
     stage
 }
 
-// The stages of the blocks of a layout's lines, where entries has the signal at which each route starts. The stages after the event are those that are made anew.
+// The stages of the blocks of a layout's lines, those of `now` made anew; entries has the signal at which each route starts.
 #[tactic(auto, using(crate::proofs::Lines::few_fit), unfolding(crate::specs::FarSections::far_stages))]
 pub fn far_stages(
     l: &Layout,

@@ -38,7 +38,7 @@ fn given_stage(m: u8, ls: &[Line; LINES], t: Tables, k: u8, given: u8, was: u8) 
     passage::own_stage(given, false, was)
 }
 
-// The stages of the first places after what the event gives their blocks, where there are m main signals; those to which it gives nothing are left at once.
+// The stages of the first places after what the event gives their blocks, of m main signals; those to which it gives nothing are left at once.
 #[tactic(auto, using(laws::proofs::Each::redoes, crate::proofs::OwnReadingLaws::own_elsewhere))]
 fn given_stages(places: u8, m: u8, ls: &[Line; LINES], t: Tables, e: Gives) -> [u8; PLACES]
     requires { places ≤ most_places }

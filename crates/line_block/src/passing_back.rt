@@ -51,7 +51,7 @@ fn waited_stage(b: Line, before: Tables, now: Tables, arrived: bool, l: u8, i: u
     STAGE_3
 }
 
-// The stages of the first m places, where arrived tells the lines at whose arrival end an entrance route was released. Blocks that do not wait are left at once.
+// The stages of the first m places, where arrived tells the lines at which an entrance route was released. Blocks that do not wait are left at once.
 #[tactic(auto, using(laws::proofs::Each::redoes))]
 pub(super) fn passed_back(
     m: u8,
@@ -114,10 +114,15 @@ pub fn none_waits(stages: &[u8; PLACES]) -> bool
     none
 }
 
-// The stages of the blocks of a layout's lines, after entrance routes were released: the last block in travel opens, and those before it that wait.
+// The stages of the blocks of a layout's lines, after entrance routes were released: the last block in travel opens, and those before it that wait. Which
+// routes were is asked only where a block waits.
 pub fn stages_after_arrivals(l: &Layout, before: Tables, now: Tables) -> [u8; PLACES]
     ensures { result ≡ passed_back (few_lines l.now.lines) l.now.line now.entry.direction.now no_opening (arrives l.now.routes l.now.route before.entry.phase.now now.entry.phase.now) now.entry.stage.now }
 {
+    let stage = copied(now.stage);
+    if none_waits(&stage) {
+        return stage;
+    }
     let arrived = arrivals(l, before, now);
     passed_back(MOST_BLOCKS * few_lines(l.lines), &l.line, now, now, arrived)
 }

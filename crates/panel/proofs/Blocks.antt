@@ -6,17 +6,13 @@ use mathlib.Core.List.{List}
 use native.Mathlib.Nat.{le_refl, add-zero, add-suc}
 use native.Mathlib.Numerals.{add-one}
 use native.Mathlib.Omega.{arith}
-use borrow.Author.Tests.{lt-ltb}
-use lib.ListN.{length, get_or, set, length-append}
-use Rattle.laws.specs.Choice.{when◌then◌else◌}
+use lib.ListN.{length, set, length-append}
 use Rattle.laws.specs.Tables.{read, join}
 use Rattle.laws.proofs.Joins.{length_join}
-use Rattle.laws.proofs.Arrays.{read_in}
 use Rattle.track.specs.declared.Line.{Line}
 use Rattle.track.specs.Codes.{a_to_b, b_to_a, stage0}
-use Rattle.track.specs.Sizes.{most_lines, most_places}
-use Rattle.track.specs.Objects.{line, no_line}
-use Rattle.tables.specs.Readings.{line_placed}
+use Rattle.track.specs.Sizes.{most_places}
+use Rattle.track.specs.Objects.{line}
 use Rattle.tables.specs.Blocks.{place}
 use Rattle.signals.specs.Signals.{enterable_by, enterable}
 use Rattle.signals.specs.BlockSignals.{block_shows, block_shown_where}
@@ -59,10 +55,9 @@ module _ (ls : List Line) where
   blocks_none = refl
 
   -- one line more
-  blocks_more : (l n : ℕ) (d : Line) → length ls ≡ most_lines → l < n → n ≤ most_lines → blocks (l + 1) ls ≡ blocks l ls + (get_or ls l d).blocks
-  unfolding blocks line
-  blocks_more l n d q b few =
-      rw (add-one, blocks) (ap (λ (a : Line). blocks l ls + a.blocks) (read_in ls l most_lines no_line d q (omega arith)))
+  blocks_more : (l : ℕ) → blocks (l + 1) ls ≡ blocks l ls + (line ls l).blocks
+  unfolding blocks
+  blocks_more l = rw (add-one, blocks) refl
 
   -- more lines have no fewer blocks
   blocks_add : (l k : ℕ) → blocks l ls ≤ blocks (l + k) ls
@@ -75,23 +70,17 @@ module _ (ls : List Line) where
   blocks_up l n b = let rest : l + (n - l) ≡ n = omega arith in rw rest at (blocks_add l (n - l))
 
   -- the loop that counts them: line l adds its own
-  pub count_on : (l n count : ℕ) (d : Line) → count ≡ blocks l ls → length ls ≡ most_lines → l < n → n ≤ most_lines → count + (get_or ls l d).blocks ≡ blocks (l + 1) ls
-  count_on l n count d e q b few = ap (λ k. k + (get_or ls l d).blocks) e ∙ sym (blocks_more l n d q b few)
+  pub count_on : (l count : ℕ) (b : Line) → count ≡ blocks l ls → b ≡ line ls l → count + b.blocks ≡ blocks (l + 1) ls
+  count_on l count b e same = ap₂ (λ k (a : Line). k + a.blocks) e same ∙ sym (blocks_more l)
 
   -- after the last line all are counted
   pub count_end : (l n count : ℕ) → count ≡ blocks l ls → l ≤ n → n ≤ l → count ≡ blocks n ls
   count_end l n count e b f = let d : l ≡ n = omega arith in e ∙ ap (λ k. blocks k ls) d
 
   -- there is room for line l where there is room for n lines
-  pub line_room : (l n next at size : ℕ) (d : Line) (b : List ℕ) → length ls ≡ most_lines → l < n → n ≤ most_lines → next ≡ at + 3 * blocks l ls → length b ≡ size
-      → at + 3 * blocks n ls ≤ size → next + 3 * (get_or ls l d).blocks ≤ length b
-  line_room l n next at size d b q c few e f h = omega (arith, blocks_more l n d q c few, blocks_up (l + 1) n (omega arith))
-
--- the bytes of a line, from what is known of it
-pub line_made : (b : Line) (directions points stages bars : List ℕ) (l : ℕ) (placed : Bool) (a c : List ℕ) (k m : ℕ) → l < most_lines → placed ≡ line_placed points b
-    → Wrote a k (join b.blocks (block_by stages bars b.blocks (get_or directions l 0) placed l)) c m → Wrote a k (line_by b directions points stages bars l) c m
-unfolding line_by read when◌then◌else◌
-line_made b directions points stages bars l placed a c k m h e p = rw (lt-ltb l most_lines h, ← e) p
+  pub line_room : (l n next at size : ℕ) (b : Line) (bytes : List ℕ) → b ≡ line ls l → l < n → next ≡ at + 3 * blocks l ls → length bytes ≡ size
+      → at + 3 * blocks n ls ≤ size → next + 3 * b.blocks ≤ length bytes
+  line_room l n next at size b bytes same c e f h = omega (arith, blocks_more l, ap (λ (a : Line). a.blocks) same, blocks_up (l + 1) n (omega arith))
 
 module _ (directions points stages bars : List ℕ) (l : ℕ) where
   -- the place after a line
@@ -100,22 +89,19 @@ module _ (directions points stages bars : List ℕ) (l : ℕ) where
   line_next b {k = k} p = p.place ∙ ap (λ w. k + w) (blocks_length stages bars b.blocks _ _ l b.blocks)
 
   -- and after the lines up to it
-  pub lines_next : (ls : List Line) (n at k m : ℕ) (d : Line) (a c : List ℕ) → length ls ≡ most_lines → l < n → n ≤ most_lines → k ≡ at + 3 * blocks l ls
-      → Wrote a k (line_by (get_or ls l d) directions points stages bars l) c m → m ≡ at + 3 * blocks (l + 1) ls
-  lines_next ls n at k m d a c q b few e p = omega (arith, line_next (get_or ls l d) p, blocks_more ls l n d q b few)
+  pub lines_next : (ls : List Line) (at k m : ℕ) (b : Line) (a c : List ℕ) → b ≡ line ls l → k ≡ at + 3 * blocks l ls
+      → Wrote a k (line_by b directions points stages bars l) c m → m ≡ at + 3 * blocks (l + 1) ls
+  lines_next ls at k m b a c same e p = omega (arith, line_next b p, ap (λ (x : Line). x.blocks) same, blocks_more ls l)
 
   -- the bytes of a line by its record are those by its number
   same_line : (ls : List Line) → line_by (line ls l) directions points stages bars l ≡ line_bytes ls directions points stages bars l
   unfolding line_by line_bytes block_by block_bytes block_shows block_shown_where enterable enterable_by
   same_line ls = refl
 
-  -- line l, as the code takes it out of the table
-  pub line_at : (ls : List Line) (n : ℕ) (d : Line) (a c : List ℕ) (k m : ℕ) → length ls ≡ most_lines → l < n → n ≤ most_lines
-      → Wrote a k (line_by (get_or ls l d) directions points stages bars l) c m → Wrote a k (line_bytes ls directions points stages bars l) c m
-  unfolding line
-  line_at ls n d a c k m q b few p =
-      let same : get_or ls l d ≡ get_or ls l no_line = read_in ls l most_lines d no_line q (omega arith) in
-      rw (← same_line ls, ← same) p
+  -- line l, by its record
+  pub line_at : (ls : List Line) (b : Line) (a c : List ℕ) (k m : ℕ) → b ≡ line ls l
+      → Wrote a k (line_by b directions points stages bars l) c m → Wrote a k (line_bytes ls directions points stages bars l) c m
+  line_at ls b a c k m same p = rw (← same_line ls, ← same) p
 
   -- three bytes for each of its blocks
   length_line : (ls : List Line) → length (line_bytes ls directions points stages bars l) ≡ 3 * (line ls l).blocks

@@ -67,19 +67,6 @@ module _ (L : Layout) (s : State) (w : FitsTables L) where
         ← table_read (λ x. x) L.lines most_lines neutral s.direction w.lines,
       ) (wrote_then (wrote_then (wrote_then f g) t) h)
 
--- ---- the places after them
-
-module _ (L : Layout) (s : State) {a b : List ℕ} {k m : ℕ} where
-  -- after the first part: a byte for each section and point
-  pub readings_next : Wrote a k (reading_bytes L s) b m → m ≡ k + (L.sections + L.points)
-  unfolding reading_bytes
-  readings_next p = p.place ∙ ap (λ w. k + w) (simp (length-append, length_table))
-
-  -- after the second part: a byte for each signal, route, distant and line
-  pub objects_next : Wrote a k (object_bytes L s) b m → m ≡ k + (L.signals + L.routes + L.distants + L.lines)
-  unfolding object_bytes
-  objects_next p = p.place ∙ ap (λ w. k + w) (simp (length-append, length_table))
-
 -- ---- the whole
 
 -- the image from its parts

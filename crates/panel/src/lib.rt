@@ -7,16 +7,22 @@ mod objects;
 
 ghost use Rattle.std.specs.Prelude.{◌≡◌, true, ◌≤◌, length};
 ghost use Rattle.std.proofs.lemmas.List.Edits.{sets};
-ghost use Rattle.track.specs.Sizes.{most_lines};
 ghost use Rattle.interlocking.specs.Parts.{bare};
 ghost use Rattle.panel.specs.Panel.{image, panel_length, answer_where, drawn_where, answer, drawn, panel_asked_in_run, answer_in_run, drawn_in_run};
 ghost use Rattle.panel.specs.Writes.{FitsTables};
 
+use distants::put_distants;
 use interlocking::parts::core_of;
 use interlocking::{Core, State};
 use layout::Layout;
+use lines::{count_blocks, put_lines};
+use objects::{copy, put_routes};
+use signals::{Shown, main_shown};
+use tables::Tables;
+use track::codes::LAMP_NONE;
+use track::is_between;
 use track::sizes::{
-    MOST_DISTANTS, MOST_LINES, MOST_POINTS, MOST_SECTIONS, MOST_SIGNALS, MOST_TRAIN_ROUTES,
+    LAMPS, MOST_DISTANTS, MOST_LINES, MOST_POINTS, MOST_SECTIONS, MOST_SIGNALS, MOST_TRAIN_ROUTES,
 };
 
 // The answer to a request for the image: 0 and how many bytes it has; 18 or 27 and 0.
@@ -28,42 +34,59 @@ pub struct Drawn {
 }
 
 // How many bytes the image has.
-fn panel_length(l: Layout) -> usize
-    requires { l.lines ≤ most_lines }
-    ensures { result ≡ panel_length l }
+fn panel_length(l: &Layout) -> usize
+    ensures { result ≡ panel_length l.now }
 {
-    let ls = l.line;
-    let blocks = lines::count_blocks(l.lines, ls);
+    let blocks = count_blocks(l.lines, &l.line);
     let readings = l.sections as usize + l.points as usize;
     let objects = l.signals as usize + l.routes as usize + l.distants as usize + l.lines as usize;
     readings + objects + 3 * blocks
 }
 
-// The image, over the first bytes of the buffer.
-fn draw(l: Layout, s: Core, buffer: &mut [u8])
-    requires { FitsTables l × (panel_length l ≤ length buffer.old) }
-    ensures { buffer.new ≡ sets buffer.old 0 (image l (bare s)) }
+// The image, over the first bytes of the buffer: each part after the one before it. What lamps report is no part of it, so none are lent.
+fn draw(l: &Layout, s: Core, buffer: &mut [u8])
+    requires { FitsTables l.now × (panel_length l.now ≤ length buffer.old) }
+    ensures { buffer.new ≡ sets buffer.old 0 (image l.now (bare s)) }
 {
-    let ls = l.line;
-    let objects = objects::put_readings(l, s, buffer);
-    let blocks = objects::put_objects(l, s, buffer, objects);
-    lines::put_lines(
-        l.lines,
-        ls,
-        &s.direction,
-        &s.point,
-        &s.stage,
-        &s.bar,
+    let no_lamps = [LAMP_NONE; LAMPS];
+    let t = Tables {
+        section: &s.section,
+        point: &s.point,
+        phase: &s.phase,
+        direction: &s.direction,
+        stage: &s.stage,
+        bar: &s.bar,
+        lamp: &no_lamps,
+    };
+    let mains = main_shown(l.routes, &l.route, &s.phase);
+    let shown = Shown {
+        mains: l.signals,
+        lines: l.lines,
+        line: &l.line,
+        main: &mains,
+        tables: t,
+    };
+    let points = copy(&s.section, l.sections, buffer, 0);
+    let signals = copy(&s.point, l.points, buffer, points);
+    let routes = copy(&mains, l.signals, buffer, signals);
+    let distants = put_routes(&s.phase, l.routes, buffer, routes);
+    let lines = put_distants(
+        shown,
+        l.distants,
+        &l.carrier,
+        &l.announced,
         buffer,
-        blocks,
+        distants,
     );
+    let blocks = copy(&s.direction, l.lines, buffer, lines);
+    put_lines(l.lines, &l.line, t, buffer, blocks);
 }
 
 // The image of a layout within the tables into a lent buffer: 0 and its length, with later bytes untouched; 27 for a buffer that is too short, with
 // length 0 and the whole buffer untouched.
-fn draw_in(l: Layout, s: Core, buffer: &mut [u8]) -> Drawn
-    requires { FitsTables l }
-    ensures { (result ≡ answer_where true l (bare s) (length buffer.old)) × (buffer.new ≡ drawn_where true l (bare s) buffer.old) }
+fn draw_in(l: &Layout, s: Core, buffer: &mut [u8]) -> Drawn
+    requires { FitsTables l.now }
+    ensures { (result ≡ answer_where true l.now (bare s) (length buffer.old)) × (buffer.new ≡ drawn_where true l.now (bare s) buffer.old) }
 {
     let n = panel_length(l);
     if buffer.len() < n {
@@ -96,17 +119,21 @@ pub fn panel(state: State, layout: Layout, buffer: &mut [u8]) -> Drawn
         };
     }
     let core = core_of(state);
-    draw_in(layout, core, buffer)
+    draw_in(&layout, core, buffer)
 }
 
 // There is a section, none that is fitted is lacking, and there are no more objects than the tables hold.
-fn is_drawable(l: Layout) -> bool
-    ensures { result ≡ panel_asked_in_run l }
+#[tactic(auto, unfolding(crate::specs::Panel::panel_asked_in_run, laws::specs::Tests::every))]
+fn is_drawable(l: &Layout) -> bool
+    ensures { result ≡ panel_asked_in_run l.now }
 {
-    let lines = (l.distants <= MOST_DISTANTS) & ((l.lines <= MOST_LINES) & (l.lacking == 0));
-    let ways = (l.signals <= MOST_SIGNALS) & ((l.routes <= MOST_TRAIN_ROUTES) & lines);
-    let objects = (l.points <= MOST_POINTS) & ways;
-    (1 <= l.sections) & (l.sections <= MOST_SECTIONS) & objects
+    is_between(1, MOST_SECTIONS, l.sections)
+        && l.points <= MOST_POINTS
+        && l.signals <= MOST_SIGNALS
+        && l.routes <= MOST_TRAIN_ROUTES
+        && l.distants <= MOST_DISTANTS
+        && l.lines <= MOST_LINES
+        && l.lacking == 0
 }
 
 // The same in a run that asked soundness before its first event, of the nine tables: 18 asks no more of the layout than is needed to draw it and that no
@@ -114,11 +141,11 @@ fn is_drawable(l: Layout) -> bool
 pub fn panel_in_run(core: Core, layout: Layout, buffer: &mut [u8]) -> Drawn
     ensures { (result ≡ answer_in_run layout (bare core) (length buffer.old)) × (buffer.new ≡ drawn_in_run layout (bare core) buffer.old) }
 {
-    if !is_drawable(layout) {
+    if !is_drawable(&layout) {
         return Drawn {
             number: 18,
             length: 0,
         };
     }
-    draw_in(layout, core, buffer)
+    draw_in(&layout, core, buffer)
 }

@@ -11,7 +11,7 @@ use track::codes::A_TO_B;
 use track::sizes::LINES;
 use track::{Line, line_at};
 
-// What a line's block signals are told by besides the tables: how many blocks it has, the direction it is secured in, and whether its points are in position.
+// What is known of a line whose block signals are asked: how many blocks it has, the direction it is secured in, whether its points are in position.
 #[derive(Clone, Copy)]
 pub struct Secured {
     pub blocks: u8,
