@@ -92,6 +92,7 @@ pub struct Tried {
     pub detail: u32,
 }
 
+#[tactic(auto, using(crate::proofs::ByKind::kinds))]
 impl State {
     // The cold start: everything reads none, no order, no route, no line secured, every block held in stage 0, no bar,
     // every head silent, every lamp at none.
@@ -169,119 +170,104 @@ impl State {
     pub fn read_section(self, layout: Layout, section: u32, code: u32) -> Answer
         ensures { result ≡ answered_by (sound layout and in_range self) layout self section (section_row layout self section code) }
     {
-        let asked = self.is_sound(layout);
-        self.answer(layout, asked, READ_SECTION, section, code)
+        self.step(layout, READ_SECTION, section, code)
     }
 
     // 2: a point reading.
     pub fn read_point(self, layout: Layout, point: u32, code: u32) -> Answer
         ensures { result ≡ answered_by (sound layout and in_range self) layout self point (point_row layout self point code) }
     {
-        let asked = self.is_sound(layout);
-        self.answer(layout, asked, READ_POINT, point, code)
+        self.step(layout, READ_POINT, point, code)
     }
 
     // 3: throw a point, to 1 left or 2 right.
     pub fn throw_point(self, layout: Layout, point: u32, position: u32) -> Answer
         ensures { result ≡ answered_by (sound layout and in_range self) layout self point (throw_row layout self point position) }
     {
-        let asked = self.is_sound(layout);
-        self.answer(layout, asked, THROW, point, position)
+        self.step(layout, THROW, point, position)
     }
 
     // 4: set a route; an exit route on a neutral line secures it first (request L5).
     pub fn set_route(self, layout: Layout, route: u32) -> Answer
         ensures { result ≡ answered_by (sound layout and in_range self) layout self route (set_row layout self route 0) }
     {
-        let asked = self.is_sound(layout);
-        self.answer(layout, asked, SET_ROUTE, route, 0)
+        self.step(layout, SET_ROUTE, route, 0)
     }
 
     // 5: cancel a route.
     pub fn cancel_route(self, layout: Layout, route: u32) -> Answer
         ensures { result ≡ answered_by (sound layout and in_range self) layout self route (cancel_row layout self route 0) }
     {
-        let asked = self.is_sound(layout);
-        self.answer(layout, asked, CANCEL_ROUTE, route, 0)
+        self.step(layout, CANCEL_ROUTE, route, 0)
     }
 
     // 6: secure a line, 1 from A to B or 2 from B to A.
     pub fn secure_line(self, layout: Layout, line: u32, direction: u32) -> Answer
         ensures { result ≡ answered_by (sound layout and in_range self) layout self line (secure_row layout self line direction) }
     {
-        let asked = self.is_sound(layout);
-        self.answer(layout, asked, SECURE_LINE, line, direction)
+        self.step(layout, SECURE_LINE, line, direction)
     }
 
     // 7: release a line by hand, on ground 1 not left, 2 in siding, 3 returned.
     pub fn release_line(self, layout: Layout, line: u32, ground: u32) -> Answer
         ensures { result ≡ answered_by (sound layout and in_range self) layout self line (manual_row layout self line ground) }
     {
-        let asked = self.is_sound(layout);
-        self.answer(layout, asked, RELEASE_LINE, line, ground)
+        self.step(layout, RELEASE_LINE, line, ground)
     }
 
     // 8: bar a block, counted from 0.
     pub fn bar_block(self, layout: Layout, line: u32, block: u32) -> Answer
         ensures { result ≡ answered_by (sound layout and in_range self) layout self line (bar_row 1 layout self line block) }
     {
-        let asked = self.is_sound(layout);
-        self.answer(layout, asked, BAR, line, block)
+        self.step(layout, BAR, line, block)
     }
 
     // 9: unbar a block.
     pub fn unbar_block(self, layout: Layout, line: u32, block: u32) -> Answer
         ensures { result ≡ answered_by (sound layout and in_range self) layout self line (bar_row 0 layout self line block) }
     {
-        let asked = self.is_sound(layout);
-        self.answer(layout, asked, UNBAR, line, block)
+        self.step(layout, UNBAR, line, block)
     }
 
     // 10: one second has passed.
     pub fn second_passed(self, layout: Layout) -> Answer
         ensures { result ≡ answered_by (sound layout and in_range self) layout self 0 (second_row self 0 0) }
     {
-        let asked = self.is_sound(layout);
-        self.answer(layout, asked, SECOND, 0, 0)
+        self.step(layout, SECOND, 0, 0)
     }
 
     // 11: a head, twice the section plus 0 or 1, has counted so many axles in.
     pub fn axles_in(self, layout: Layout, head: u32, count: u32) -> Answer
         ensures { result ≡ answered_by (sound layout and in_range self) layout self head (count_row layout self (heads_by (heads_of self axles_in head) axles_in head count) head count) }
     {
-        let asked = self.is_sound(layout);
-        self.answer(layout, asked, AXLES_IN, head, count)
+        self.step(layout, AXLES_IN, head, count)
     }
 
     // 12: so many axles out.
     pub fn axles_out(self, layout: Layout, head: u32, count: u32) -> Answer
         ensures { result ≡ answered_by (sound layout and in_range self) layout self head (count_row layout self (heads_by (heads_of self axles_out head) axles_out head count) head count) }
     {
-        let asked = self.is_sound(layout);
-        self.answer(layout, asked, AXLES_OUT, head, count)
+        self.step(layout, AXLES_OUT, head, count)
     }
 
     // 13: a head is silent.
     pub fn head_silent(self, layout: Layout, head: u32) -> Answer
         ensures { result ≡ answered_by (sound layout and in_range self) layout self head (silent_row layout self (heads_by (heads_of self head_silent head) head_silent head 0) head 0) }
     {
-        let asked = self.is_sound(layout);
-        self.answer(layout, asked, HEAD_SILENT, head, 0)
+        self.step(layout, HEAD_SILENT, head, 0)
     }
 
     // 14: a section's heads are reset.
     pub fn reset_axles(self, layout: Layout, section: u32) -> Answer
         ensures { result ≡ answered_by (sound layout and in_range self) layout self section (reset_row layout self (heads_of self reset_axles section) (heads_by (heads_of self reset_axles section) reset_axles section 0) section 0) }
     {
-        let asked = self.is_sound(layout);
-        self.answer(layout, asked, RESET_AXLES, section, 0)
+        self.step(layout, RESET_AXLES, section, 0)
     }
 
     // 15: the lamp of a main or block signal, by its number, reports 1 stop or 2 another light.
     pub fn report_lamp(self, layout: Layout, signal: u32, code: u32) -> Answer
         ensures { result ≡ answered_by (sound layout and in_range self) layout self signal (lamp_row layout self signal code) }
     {
-        let asked = self.is_sound(layout);
-        self.answer(layout, asked, REPORT_LAMP, signal, code)
+        self.step(layout, REPORT_LAMP, signal, code)
     }
 }

@@ -7,9 +7,10 @@ ghost use Rattle.interlocking.specs.Own.{own_section, own_point, throw_reading, 
 
 use super::Core;
 use super::stores::store;
+use super::trial::tables_of;
 use layout::Layout;
 use line_block::own_readings::own_stages;
-use tables::{Gives, Tables, departs};
+use tables::{Gives, departs};
 use track::codes::{AT_PROCEED, CANCELLING, NEUTRAL, NONE, OPEN};
 use track::sizes::{
     BLOCKS, LAMPS, LINES, MOST_BLOCKS, PLACES, POINTS, ROUTES, SECTIONS, TRAIN_ROUTES,
@@ -28,20 +29,12 @@ pub fn read_section<'a>(s: Core, a: &'a Layout, lamps: &'a [u8; LAMPS], g: u8, v
         reading: v,
         tick: 0,
     };
-    let lent = Tables {
-        section: &s.section,
-        point: &s.point,
-        phase: &s.phase,
-        direction: &s.direction,
-        stage: &s.stage,
-        bar: &s.bar,
-        lamp: lamps,
-    };
-    let stage = own_stages(a.lines, a.signals, &a.line, lent, e);
-    let mut t = s;
-    t.section = section;
-    t.stage = stage;
-    t
+    let stage = own_stages(a.lines, a.signals, &a.line, tables_of(&s, lamps), e);
+    Core {
+        section,
+        stage,
+        ..s
+    }
 }
 
 // 2: point p reads v.
@@ -50,9 +43,7 @@ pub fn read_point(s: Core, p: u8, v: u8) -> Core
 {
     let mut point = s.point;
     store(&mut point, POINTS, p as usize, v);
-    let mut t = s;
-    t.point = point;
-    t
+    Core { point, ..s }
 }
 
 // 4: route r locks, and its signal shows proceed.
@@ -60,16 +51,17 @@ pub fn lock(s: Core, r: u8) -> Core
     ensures { result ≡ core_of (own_lock (bare s) r) }
 {
     let mut phase = s.phase;
-    let mut step = s.steps;
-    let mut second = s.seconds;
+    let mut steps = s.steps;
+    let mut seconds = s.seconds;
     store(&mut phase, ROUTES, r as usize, AT_PROCEED);
-    store(&mut step, TRAIN_ROUTES, r as usize, 0);
-    store(&mut second, TRAIN_ROUTES, r as usize, 0);
-    let mut t = s;
-    t.phase = phase;
-    t.steps = step;
-    t.seconds = second;
-    t
+    store(&mut steps, TRAIN_ROUTES, r as usize, 0);
+    store(&mut seconds, TRAIN_ROUTES, r as usize, 0);
+    Core {
+        phase,
+        steps,
+        seconds,
+        ..s
+    }
 }
 
 // 5: route r is cancelled, and its seconds begin.
@@ -77,13 +69,14 @@ pub fn cancel(s: Core, r: u8) -> Core
     ensures { result ≡ core_of (own_cancel (bare s) r) }
 {
     let mut phase = s.phase;
-    let mut second = s.seconds;
+    let mut seconds = s.seconds;
     store(&mut phase, ROUTES, r as usize, CANCELLING);
-    store(&mut second, TRAIN_ROUTES, r as usize, 0);
-    let mut t = s;
-    t.phase = phase;
-    t.seconds = second;
-    t
+    store(&mut seconds, TRAIN_ROUTES, r as usize, 0);
+    Core {
+        phase,
+        seconds,
+        ..s
+    }
 }
 
 // 6: line l is secured in direction w.
@@ -92,9 +85,7 @@ pub fn secure(s: Core, l: u8, w: u8) -> Core
 {
     let mut direction = s.direction;
     store(&mut direction, LINES, l as usize, w);
-    let mut t = s;
-    t.direction = direction;
-    t
+    Core { direction, ..s }
 }
 
 // 4, before it locks: where a route is an exit route on a neutral line, the line is secured the route's way (request L5).
@@ -141,10 +132,11 @@ pub fn release_by_hand(s: Core, a: &Layout, l: u8) -> Core
     store(&mut direction, LINES, l as usize, NEUTRAL);
     let stages = s.stage;
     let stage = opened_stages(stages, MOST_BLOCKS * a.lines, &a.line, l);
-    let mut t = s;
-    t.direction = direction;
-    t.stage = stage;
-    t
+    Core {
+        direction,
+        stage,
+        ..s
+    }
 }
 
 // 8, 9: a bar is set, 1, or cleared, 0, on block i of line l.
@@ -154,9 +146,7 @@ pub fn set_bar(s: Core, l: u8, i: u32, on: u8) -> Core
     let k = BLOCKS * (l as usize) + (i as usize);
     let mut bar = s.bar;
     store(&mut bar, PLACES, k, on);
-    let mut t = s;
-    t.bar = bar;
-    t
+    Core { bar, ..s }
 }
 
 // The reading of a point that is thrown to w: none, unless it already read that position.
@@ -178,8 +168,5 @@ pub fn throw(s: Core, p: u8, w: u8) -> Core
     let mut order = s.order;
     store(&mut point, POINTS, p as usize, x);
     store(&mut order, POINTS, p as usize, w);
-    let mut t = s;
-    t.point = point;
-    t.order = order;
-    t
+    Core { point, order, ..s }
 }

@@ -14,18 +14,22 @@ use track::codes::{AXLES_IN, REPORT_LAMP, RESET_AXLES};
 use track::sizes::{LAMPS, MOST_LINES, MOST_SECTIONS, MOST_TRAIN_ROUTES, SECTIONS};
 
 // The nine tables of a state.
+#[tactic(auto, unfolding(crate::specs::Parts::core_of))]
 pub fn core_of(s: State) -> Core
     ensures { result ≡ core_of s }
 {
-    let section = s.section;
-    let point = s.point;
-    let order = s.order;
-    let phase = s.phase;
-    let steps = s.steps;
-    let seconds = s.seconds;
-    let direction = s.direction;
-    let stage = s.stage;
-    let bar = s.bar;
+    let State {
+        section,
+        point,
+        order,
+        phase,
+        steps,
+        seconds,
+        direction,
+        stage,
+        bar,
+        ..
+    } = s;
     Core {
         section,
         point,
@@ -43,15 +47,17 @@ pub fn core_of(s: State) -> Core
 pub fn whole(c: Core, axles: [Axles; SECTIONS], lamp: [u8; LAMPS]) -> State
     ensures { result ≡ whole c axles lamp }
 {
-    let section = c.section;
-    let point = c.point;
-    let order = c.order;
-    let phase = c.phase;
-    let steps = c.steps;
-    let seconds = c.seconds;
-    let direction = c.direction;
-    let stage = c.stage;
-    let bar = c.bar;
+    let Core {
+        section,
+        point,
+        order,
+        phase,
+        steps,
+        seconds,
+        direction,
+        stage,
+        bar,
+    } = c;
     State {
         section,
         point,

@@ -16,10 +16,8 @@ fn all_between(xs: &[u8], n: usize, low: u8, high: u8) -> bool
     ensures { result ≡ codes n low high xs.now }
 {
     let mut all = true;
-    let mut i: usize = 0;
-    while i < n {
+    for i in 0..n {
         all = all & is_between(low, high, xs[i]);
-        i += 1;
     }
     all
 }
