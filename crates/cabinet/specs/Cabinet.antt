@@ -1,8 +1,9 @@
 -- What a call tells, as the records that the entries return have it (sections 2, 3, 7, L1).
 use Rattle.std.specs.Prelude.{ℕ}
 use Rattle.layout.specs.declared.Layout.{Layout}
-use Rattle.layout.specs.declared.Loaded.{Loaded}
-use Rattle.fitted.specs.declared.Fitting.{Fitting}
+use Rattle.layout.specs.Records.{Loaded}
+use Rattle.fitted.specs.Records.{Fitting}
+use Rattle.interlocking.specs.declared.State.{State}
 use Rattle.panel.specs.declared.Drawn.{Drawn}
 use Rattle.cabinet.specs.declared.Reply.{Reply}
 use Rattle.cabinet.specs.declared.LoadReply.{LoadReply}
@@ -22,6 +23,10 @@ unfoldable pub drawn_reply : Told → Drawn
 drawn_reply t = record { number = t.number; length = t.detail }
 
 -- ---- the answer to a file with what it leaves in both records, as the code hands it on
+
+-- an answer's number and detail with a layout and a state
+unfoldable pub over : ℕ → ℕ → Layout → State → LoadedOver
+over number detail layout state = record { number = number; detail = detail; layout = layout; state = state }
 
 -- by its number and detail and the layout that the file makes
 unfoldable pub file_over : Records → ℕ → ℕ → Layout → LoadedOver

@@ -3,10 +3,10 @@
 use Rattle.std.specs.Prelude.{ℕ, List, [], ◌∷◌, eqb, length}
 use Rattle.laws.specs.Choice.{when◌then◌else◌}
 use Rattle.layout.specs.declared.Layout.{Layout}
-use Rattle.layout.specs.declared.Loaded.{Loaded}
+use Rattle.layout.specs.Records.{Loaded}
 use Rattle.layout.specs.Layout.{no_layout}
 use Rattle.layout.specs.Load.{load}
-use Rattle.fitted.specs.declared.Fitting.{Fitting}
+use Rattle.fitted.specs.Records.{Fitting}
 use Rattle.fitted.specs.Fitted.{fit}
 use Rattle.interlocking.specs.declared.State.{State}
 use Rattle.interlocking.specs.declared.Answer.{Answer}

@@ -6,11 +6,13 @@
 ghost use Rattle.std.specs.Prelude.{◌≡◌};
 ghost use Rattle.layout.specs.Load.{load};
 ghost use Rattle.fitted.specs.Fitted.{fit};
+ghost use Rattle.fitted.specs.Reading.{told_of};
 ghost use Rattle.cabinet.specs.Calls.{records, power_on, load_file, fit_sections, give_event, draw_panel, after_call, tells};
-ghost use Rattle.cabinet.specs.Cabinet.{reply, load_reply, drawn_reply, file_over, load_over, fit_over};
+ghost use Rattle.cabinet.specs.Cabinet.{reply, load_reply, drawn_reply, over, load_over, fit_over};
 
 use interlocking::State;
 use layout::Layout;
+use numbers::Fault;
 use panel::Drawn;
 
 // What is told of an event: the answer's number and its detail.
@@ -52,20 +54,10 @@ pub fn event(state: &mut State, layout: Layout, kind: u32, first: u32, second: u
     }
 }
 
-// An answered file for records that hold a layout and a state: an accepted one leaves the layout that it makes and starts the state anew, a refused
-// one leaves both as they were.
-fn file_over(number: u8, detail: usize, made: Layout, layout: Layout, state: State) -> LoadedOver
-    ensures { result ≡ file_over (records layout state) number detail made }
+// An answer's number and detail with what it leaves in both records.
+fn over(number: u8, detail: usize, layout: Layout, state: State) -> LoadedOver
+    ensures { result ≡ over number detail layout state }
 {
-    let anew = State::cold();
-    if number == 0 {
-        return LoadedOver {
-            number,
-            detail,
-            layout: made,
-            state: anew,
-        };
-    }
     LoadedOver {
         number,
         detail,
@@ -74,22 +66,30 @@ fn file_over(number: u8, detail: usize, made: Layout, layout: Layout, state: Sta
     }
 }
 
+// An answered file for records that hold a layout and a state: an accepted one leaves the layout that it makes and starts the state anew, a refused
+// one leaves both as they were.
+fn file_over(file: Result<Layout, Fault>, layout: Layout, state: State) -> LoadedOver
+    ensures { result ≡ fit_over (records layout state) (told_of layout file) }
+{
+    let anew = State::cold();
+    match file {
+        Ok(made) => over(0, 0, made, anew),
+        Err(fault) => over(fault.number(), fault.detail(), layout, state),
+    }
+}
+
 // A layout file for them.
 fn load_over(bytes: &[u8], layout: Layout, state: State) -> LoadedOver
     ensures { result ≡ load_over (records layout state) (load bytes.now) }
 {
-    let loaded = layout::load(bytes);
-    let made = loaded.layout;
-    file_over(loaded.number, loaded.detail, made, layout, state)
+    file_over(layout::load(bytes), layout, state)
 }
 
 // A file of fitted sections for them (L1).
 fn fit_over(bytes: &[u8], layout: Layout, state: State) -> LoadedOver
     ensures { result ≡ fit_over (records layout state) (fit layout bytes.now) }
 {
-    let fitting = fitted::fit(layout, bytes);
-    let made = fitting.layout;
-    file_over(fitting.number, fitting.detail, made, layout, state)
+    file_over(fitted::fit(layout, bytes), layout, state)
 }
 
 // Both records at power-on: a layout with no objects, so that every event gets 18 until a file is loaded, and the cold start.

@@ -70,11 +70,13 @@ fn refuse(rt: &HostRuntime, number: u8, detail: usize) -> Result<(), Reported> {
 
 // The layout of a file.
 fn layout_of(rt: &HostRuntime, file: &[u8]) -> Result<Layout, Reported> {
-    let loaded = layout::load(file);
-    if loaded.number != 0 {
-        refuse(rt, loaded.number, loaded.detail)?;
+    match layout::load(file) {
+        Ok(layout) => Ok(layout),
+        Err(fault) => {
+            refuse(rt, fault.number(), fault.detail())?;
+            Ok(layout::no_layout())
+        }
     }
-    Ok(loaded.layout)
 }
 
 // The line of a file of fitted sections that is no numbers.
@@ -86,11 +88,13 @@ fn refuse_fitted(rt: &HostRuntime, number: u8, detail: usize) -> Result<(), Repo
 
 // The layout with the fitted sections of a file.
 fn equipped(rt: &HostRuntime, layout: Layout, file: &[u8]) -> Result<Layout, Reported> {
-    let fitting = fitted::fit(layout, file);
-    if fitting.number != 0 {
-        refuse_fitted(rt, fitting.number, fitting.detail)?;
+    match fitted::fit(layout, file) {
+        Ok(fitted) => Ok(fitted),
+        Err(fault) => {
+            refuse_fitted(rt, fault.number(), fault.detail())?;
+            Ok(layout)
+        }
     }
-    Ok(fitting.layout)
 }
 
 // The layout after the entry at a place: its own, where it is a layout file, and with its sections, where it is a file of fitted ones.
@@ -126,8 +130,7 @@ fn play_at(rt: &HostRuntime, layout: Layout, archive: &[u8], at: usize) -> Resul
 
 // All entries; before the first layout file there is no layout.
 fn play_all(rt: &HostRuntime, archive: &[u8]) -> Result<(), Reported> {
-    let none = layout::load(b"");
-    let mut layout = none.layout;
+    let mut layout = layout::no_layout();
     let mut at: usize = 0;
     for _ in 0u32..65536 {
         if archive.len() <= at {

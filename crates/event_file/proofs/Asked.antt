@@ -14,7 +14,7 @@ use Rattle.laws.proofs.Choice.{if_both}
 use Rattle.laws.proofs.Tests.{and_right, fails_from, every_at}
 use Rattle.layout.specs.declared.Layout.{Layout}
 use Rattle.layout.specs.Sound.{fits, sound}
-use Rattle.fitted.specs.declared.Fitting.{Fitting}
+use Rattle.fitted.specs.Records.{Fitting}
 use Rattle.fitted.specs.Numbers.{numbers_of}
 use Rattle.fitted.specs.Fitted.{lacks, told_by, with_told, equipped, fit_by, fit}
 use Rattle.fitted.proofs.Equipped.{none_lacks, equipped_sound}

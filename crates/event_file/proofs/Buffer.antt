@@ -15,7 +15,7 @@ use Rattle.numerals.specs.Digits.{fitting}
 use Rattle.layout.specs.declared.Layout.{Layout}
 use Rattle.layout.specs.Load.{load}
 use Rattle.layout_facts.proofs.Loaded.{loaded_sound}
-use Rattle.fitted.specs.declared.Fitting.{Fitting}
+use Rattle.fitted.specs.Records.{Fitting}
 use Rattle.fitted.specs.Fitted.{fit}
 use Rattle.fitted.proofs.Cut.{cut_fits_same}
 use Rattle.interlocking.specs.declared.State.{State}

@@ -6,8 +6,8 @@ use mathlib.Core.List.{List, ◌++◌}
 use lib.Dec.{ltb}
 use lib.ListN.{length}
 use Rattle.laws.specs.Choice.{when◌then◌else◌}
-use Rattle.numbers.specs.declared.Number.{Number}
-use Rattle.numbers.specs.declared.Number.TheVariants.{Value, Fault}
+use Rattle.numbers.specs.Number.{Number}
+use Rattle.numbers.specs.Number.{Value, Fault}
 use Rattle.numbers.specs.Number.{number_at}
 use Rattle.numbers.proofs.Further.{further, inside_further, number_further}
 use Rattle.event_file.specs.declared.Next.{Next}

@@ -12,8 +12,8 @@ use Rattle.laws.proofs.Choice.{if_both}
 use Rattle.interlocking.specs.declared.State.{State}
 use Rattle.interlocking.specs.declared.Answer.{Answer}
 use Rattle.step_facts.specs.Run.{Event}
-use Rattle.numbers.specs.declared.Number.{Number}
-use Rattle.numbers.specs.declared.Number.TheVariants.{Value, Fault}
+use Rattle.numbers.specs.Number.{Number}
+use Rattle.numbers.specs.Number.{Value, Fault}
 use Rattle.numbers.specs.Number.{number_at}
 use Rattle.numbers.proofs.Readings.{number_after, number_inside, fault_number}
 use Rattle.event_file.specs.declared.Next.{Next}

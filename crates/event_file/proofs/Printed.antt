@@ -16,7 +16,7 @@ use Rattle.layout.specs.declared.Layout.{Layout}
 use Rattle.layout.specs.Sound.{sound}
 use Rattle.layout.specs.Load.{load}
 use Rattle.layout_facts.proofs.Loaded.{loaded_sound}
-use Rattle.fitted.specs.declared.Fitting.{Fitting}
+use Rattle.fitted.specs.Records.{Fitting}
 use Rattle.fitted.specs.Numbers.{no_numbers, numbers_from, from_place, numbers_of}
 use Rattle.fitted.specs.Fitted.{Among, fit_by, fit}
 use Rattle.fitted.specs.InUse.{InUse}

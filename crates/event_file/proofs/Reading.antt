@@ -5,8 +5,11 @@ use mathlib.Core.List.{List}
 use lib.ListN.{length}
 use borrow.Author.Rules.{rules}
 use Rattle.laws.proofs.Choice.{if_lt, if_ge}
-use Rattle.numbers.specs.declared.Number.{Number}
-use Rattle.numbers.specs.declared.Number.TheVariants.{Value, Fault}
+use Rattle.std.specs.Prelude.{Result, Ok, Err}
+use Rattle.numbers.specs.declared.Given.{Given}
+use Rattle.numbers.specs.declared.Fault.{Fault as FileFault}
+use Rattle.numbers.specs.Given.{number_of, detail_of, given}
+use Rattle.numbers.specs.Number.{Number}
 use Rattle.numbers.specs.Number.{number_at, number_told}
 use Rattle.numbers.proofs.Cases.{number_same}
 use Rattle.numbers.proofs.Readings.{number_most}
@@ -18,40 +21,40 @@ use Rattle.event_file.specs.Read.{Small, with_second, with_first, with_kind, eve
 pub read_small : (file : List ℕ) (at : ℕ) (n : Number) → number_told n ≡ number_told (number_at file at) → Small n
 read_small file at n e value next f = number_most file at (number_same _ _ e) f
 
-module _ (n : Number) (kind first : ℕ) where
+module _ (r : Result Given FileFault) (kind first : ℕ) where
   -- the second number is there
-  pub second_taken : {second next : ℕ} → n ≡ Value second next → Taken kind first second next ≡ with_second kind first n
+  pub second_taken : {g : Given} → r ≡ Ok g → Taken kind first g.value g.next ≡ with_second kind first (given r)
   unfolding with_second
   second_taken e = rw e
 
   -- it is a fault
-  pub second_bad : {number at : ℕ} → n ≡ Fault number at → Bad number at ≡ with_second kind first n
+  pub second_bad : {f : FileFault} {number at : ℕ} → r ≡ Err f → number ≡ number_of f → at ≡ detail_of f → Bad number at ≡ with_second kind first (given r)
   unfolding with_second
-  second_bad e = rw e
+  second_bad e n a = rw (e, n, a)
 
-module _ (file : List ℕ) (n : Number) (kind : ℕ) where
+module _ (file : List ℕ) (r : Result Given FileFault) (kind : ℕ) where
   -- the first number is there, and what follows it is read behind it
-  pub first_taken : {first next : ℕ} (m : Number) (r : Next) → n ≡ Value first next → m ≡ number_at file next → r ≡ with_second kind first m
-      → r ≡ with_first file kind n
+  pub first_taken : {g : Given} (m : Number) (x : Next) → r ≡ Ok g → m ≡ number_at file g.next → x ≡ with_second kind g.value m
+      → x ≡ with_first file kind (given r)
   unfolding with_first
-  first_taken m r e f q = rw (e, ← f) q
+  first_taken m x e f q = rw (e, ← f) q
 
   -- it is a fault
-  pub first_bad : {number at : ℕ} → n ≡ Fault number at → Bad number at ≡ with_first file kind n
+  pub first_bad : {f : FileFault} {number at : ℕ} → r ≡ Err f → number ≡ number_of f → at ≡ detail_of f → Bad number at ≡ with_first file kind (given r)
   unfolding with_first
-  first_bad e = rw e
+  first_bad e n a = rw (e, n, a)
 
-module _ (file : List ℕ) (n : Number) where
+module _ (file : List ℕ) (r : Result Given FileFault) where
   -- the kind is there, and what follows it is read behind it
-  pub kind_taken : {kind next : ℕ} (m : Number) (r : Next) → n ≡ Value kind next → m ≡ number_at file next → r ≡ with_first file kind m
-      → r ≡ with_kind file n
+  pub kind_taken : {g : Given} (m : Number) (x : Next) → r ≡ Ok g → m ≡ number_at file g.next → x ≡ with_first file g.value m
+      → x ≡ with_kind file (given r)
   unfolding with_kind
-  kind_taken m r e f q = rw (e, ← f) q
+  kind_taken m x e f q = rw (e, ← f) q
 
   -- it is a fault
-  pub kind_bad : {number at : ℕ} → n ≡ Fault number at → Bad number at ≡ with_kind file n
+  pub kind_bad : {f : FileFault} {number at : ℕ} → r ≡ Err f → number ≡ number_of f → at ≡ detail_of f → Bad number at ≡ with_kind file (given r)
   unfolding with_kind
-  kind_bad e = rw e
+  kind_bad e n a = rw (e, n, a)
 
 module _ (file : List ℕ) (at : ℕ) where
   -- at the file's end or past it nothing stands

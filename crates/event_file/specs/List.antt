@@ -4,9 +4,9 @@ use Rattle.laws.specs.Choice.{when◌then◌else◌}
 use Rattle.numerals.specs.Digits.{fitting}
 use Rattle.numerals.specs.Words.{ascii}
 use Rattle.layout.specs.declared.Layout.{Layout}
-use Rattle.layout.specs.declared.Loaded.{Loaded}
+use Rattle.layout.specs.Records.{Loaded}
 use Rattle.layout.specs.Load.{load}
-use Rattle.fitted.specs.declared.Fitting.{Fitting}
+use Rattle.fitted.specs.Records.{Fitting}
 use Rattle.fitted.specs.Numbers.{numbers_of}
 use Rattle.fitted.specs.Fitted.{Among, fit}
 use Rattle.interlocking.specs.declared.State.{State}

@@ -6,10 +6,11 @@ mod lines;
 mod pieces;
 
 ghost use Rattle.std.specs.Prelude.{◌≡◌};
+ghost use Rattle.numbers.specs.Given.{given};
 ghost use Rattle.event_file.specs.Read.{Small, with_second, with_first, with_kind, event_at, next_told};
 
 pub use frame::{events_fault, fitted_fault, layout_fault, opening_line};
-use numbers::Number;
+use numbers::{Fault, Given};
 pub use pieces::{Piece, bring_rest, run_piece};
 
 // What stands at a place of an event file.
@@ -32,46 +33,55 @@ pub enum Next {
 }
 
 // The third number, after a kind and a first number.
-fn with_second(kind: u32, first: u32, n: Number) -> Next
-    requires { Small n }
-    ensures { result ≡ with_second kind first n }
+fn with_second(kind: u32, first: u32, n: Result<Given, Fault>) -> Next
+    requires { Small (given n) }
+    ensures { result ≡ with_second kind first (given n) }
 {
     match n {
-        Number::Value { value, next } => Next::Taken {
+        Ok(number) => Next::Taken {
             kind,
             first,
-            second: value as u32,
-            next,
+            second: number.value as u32,
+            next: number.next,
         },
-        Number::Fault { number, at } => Next::Bad { number, at },
+        Err(fault) => Next::Bad {
+            number: fault.number(),
+            at: fault.detail(),
+        },
     }
 }
 
 // The second number, and what follows it.
-fn with_first(file: &[u8], kind: u32, n: Number) -> Next
-    requires { Small n }
-    ensures { result ≡ with_first file.now kind n }
+fn with_first(file: &[u8], kind: u32, n: Result<Given, Fault>) -> Next
+    requires { Small (given n) }
+    ensures { result ≡ with_first file.now kind (given n) }
 {
     match n {
-        Number::Value { value, next } => {
-            let second = numbers::read(file, next);
-            with_second(kind, value as u32, second)
+        Ok(number) => {
+            let second = numbers::read(file, number.next);
+            with_second(kind, number.value as u32, second)
         }
-        Number::Fault { number, at } => Next::Bad { number, at },
+        Err(fault) => Next::Bad {
+            number: fault.number(),
+            at: fault.detail(),
+        },
     }
 }
 
 // The first number, and what follows it.
-fn with_kind(file: &[u8], n: Number) -> Next
-    requires { Small n }
-    ensures { result ≡ with_kind file.now n }
+fn with_kind(file: &[u8], n: Result<Given, Fault>) -> Next
+    requires { Small (given n) }
+    ensures { result ≡ with_kind file.now (given n) }
 {
     match n {
-        Number::Value { value, next } => {
-            let first = numbers::read(file, next);
-            with_first(file, value as u32, first)
+        Ok(number) => {
+            let first = numbers::read(file, number.next);
+            with_first(file, number.value as u32, first)
         }
-        Number::Fault { number, at } => Next::Bad { number, at },
+        Err(fault) => Next::Bad {
+            number: fault.number(),
+            at: fault.detail(),
+        },
     }
 }
 

@@ -1,7 +1,7 @@
 // The file of fitted sections (request L1): its numbers are told one after another, a piece of the file at a time.
 use crate::files;
 use console::Reported;
-use fitted::Told;
+use fitted::{End, Told};
 use std::fs::File;
 
 // How far the file was read: what was told until then, how many bytes in the buffer are left to read, the place in the file of the first of them, and
@@ -40,13 +40,18 @@ fn tell_on(
         return Ok(unread(before));
     }
     let p = fitted::tell_piece(sections, before, &buf[0..have], 0, held.last);
-    let left = event_file::bring_rest(buf, p.at, have);
+    let (stop, place) = match p.end {
+        End::Later { at } => (2, at),
+        End::AtEnd { at } => (3, at),
+        End::Bad { fault } => (fault.number(), fault.detail()),
+    };
+    let left = event_file::bring_rest(buf, place, have);
     let told = p.told;
     Ok(Reading {
         told,
         left,
-        at: files::sum(r.at, p.at),
-        stop: p.stop,
+        at: files::sum(r.at, place),
+        stop,
     })
 }
 

@@ -91,12 +91,13 @@ fn run(
     held: files::Held,
     buf: &mut [u8],
 ) -> Result<(), Reported> {
-    let loaded = layout::load(file);
-    let layout = loaded.layout;
     let mut out = [0u8; 65536];
-    if loaded.number != 0 {
-        return print_loaded(rt, layout_path, loaded.number, loaded.detail, &mut out);
-    }
+    let layout = match layout::load(file) {
+        Ok(layout) => layout,
+        Err(fault) => {
+            return print_loaded(rt, layout_path, fault.number(), fault.detail(), &mut out);
+        }
+    };
     let Some(heads) = heads else {
         return list(rt, layout, events, path, panel, held, buf, &mut out);
     };
@@ -183,9 +184,11 @@ fn with_events(
 
 // The layout is only loaded, and its answer printed.
 fn load_alone(rt: &HostRuntime, file: &[u8], path: &[u8]) -> Result<(), Reported> {
-    let loaded = layout::load(file);
     let mut out = [0u8; 4096];
-    print_loaded(rt, path, loaded.number, loaded.detail, &mut out)
+    match layout::load(file) {
+        Ok(_) => print_loaded(rt, path, 0, 0, &mut out),
+        Err(fault) => print_loaded(rt, path, fault.number(), fault.detail(), &mut out),
+    }
 }
 
 // The layout file is read, and loaded alone or with an event file that is run on it. Its first 65,536 bytes answer for a longer one.

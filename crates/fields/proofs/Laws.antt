@@ -1,63 +1,120 @@
--- The cases of a reading, each from the facts that choose it.
-use Prim.Native.Nat.{ℕ, ◌<◌, ◌≤◌}
-use mathlib.Core.Path.{◌≡◌, sym}
+-- The cases of a reading, each from the facts that choose it; and a fault met, which every further reading keeps.
+use Prim.Native.Nat.{ℕ, zero, suc, ◌+◌, ◌-◌, ◌<◌, ◌≤◌}
+use mathlib.Core.Path.{◌≡◌, refl, sym, ap, subst, ◌∙◌}
 use mathlib.Core.List.{List}
 use native.Mathlib.Omega.{arith}
-use borrow.Author.Rules.{rules}
-use lib.ListN.{length, set}
-use lib.Seq.{set_out}
+use native.Mathlib.Numerals.{unary_clauses}
+use Rattle.std.specs.Prelude.{Result, Ok, Err}
+use Rattle.laws.specs.Tables.{iter}
 use Rattle.laws.proofs.Choice.{if_eq, if_ne, if_lt, if_ge}
-use Rattle.numbers.specs.declared.Number.{Number}
-use Rattle.numbers.specs.declared.Number.TheVariants.{Value, Fault}
-use Rattle.numbers.specs.Number.{number_at}
+use Rattle.numbers.specs.declared.Fault.{Fault}
+use Rattle.numbers.specs.declared.Given.{Given}
+use Rattle.numbers.specs.Given.{number_of, detail_of, given}
+use Rattle.numbers.specs.Number.{Number, Value, number_at, number_told}
 use Rattle.numbers.proofs.Cases.{number_same}
-use Rattle.fields.specs.declared.Cursor.{Cursor}
-use Rattle.fields.specs.Fields.{failed, judge, field}
+use Rattle.numbers.proofs.Same.{not_none, fault_same}
+use Rattle.fields.specs.Cursor.{Cursor}
+use Rattle.fields.specs.Fields.{failed, judge, field, code, reference, none_or_reference}
+use Rattle.fields.specs.Reading.{Stands, Met, Reads, NumberRead}
 
--- ---- what was read, by cases
+-- ---- what stands at the place, judged
 
-module _ (n : Number) (at low limit fault : ℕ) (r : Cursor) where
-  -- a number below the range: the fault given
-  pub judge_low : {v next : ℕ} → n ≡ Value v next → v < low → r ≡ failed at fault → r ≡ judge n at low limit fault
+module _ {n : Number} {v next : ℕ} (low limit fault at : ℕ) (e : Value v next ≡ n) where
+  -- a number below the range
+  judge_low : v < low → judge n at low limit fault ≡ failed at fault
   unfolding judge
-  judge_low e h q = rw e (if_lt _ _ _ _ r h q)
+  judge_low h = rw (← e) (sym (if_lt _ _ _ _ _ h refl))
 
-  -- a number in the range: it, and the place after it
-  pub judge_in : {v next : ℕ} → n ≡ Value v next → low ≤ v → v < limit → r ≡ record { at = next; fault = 0; value = v } → r ≡ judge n at low limit fault
+  -- a number above the range
+  judge_high : low ≤ v → limit ≤ v → judge n at low limit fault ≡ failed at fault
   unfolding judge
-  judge_in e h l q = rw e (if_ge _ _ _ _ r h (if_lt _ _ _ _ r l q))
+  judge_high h l = rw (← e) (sym (if_ge _ _ _ _ _ h (if_ge _ _ _ _ _ l refl)))
 
-  -- a number above the range: the fault given
-  pub judge_high : {v next : ℕ} → n ≡ Value v next → low ≤ v → limit ≤ v → r ≡ failed at fault → r ≡ judge n at low limit fault
+  -- a number in the range
+  judge_in : low ≤ v → v < limit → judge n at low limit fault ≡ record { at = next; fault = 0; value = v }
   unfolding judge
-  judge_high e h l q = rw e (if_ge _ _ _ _ r h (if_ge _ _ _ _ r l q))
+  judge_in h l = rw (← e) (sym (if_ge _ _ _ _ _ h (if_lt _ _ _ _ _ l refl)))
 
-  -- a fault of the number form: it, at its own place
-  pub judge_fault : {number place : ℕ} → n ≡ Fault number place → r ≡ failed place number → r ≡ judge n at low limit fault
-  unfolding judge
-  judge_fault e q = rw e q
+-- ---- the next number, where no fault was met
 
--- for what was read, a case at each return
-pub ruleset judges = (rules, judge_low, judge_in, judge_high, judge_fault)
+-- a number in the range
+pub field_value : (s : List ℕ) (c : Cursor) (low limit fault : ℕ) {at v next : ℕ} → Stands c at → Value v next ≡ number_at s at → low ≤ v → v < limit
+    → field s c low limit fault ≡ record { at = next; fault = 0; value = v }
+unfolding field
+field_value s c low limit fault h e l m = sym (if_eq _ _ _ _ _ h.none (rw h.place (sym (judge_in low limit fault _ e l m))))
 
--- ---- the next number, by cases
-
-module _ (s : List ℕ) (c : Cursor) (low limit fault : ℕ) (r : Cursor) where
-  -- with a fault before, that fault stays
-  pub field_kept : (c.fault ≡ 0 → ⊥) → r ≡ failed c.at c.fault → r ≡ field s c low limit fault
+module _ (s : List ℕ) (c : Cursor) {at : ℕ} (low limit : ℕ) (outside : Fault) (h : Stands c at) where
+  -- what stands at the place is judged
+  field_judged : field s c low limit (number_of outside) ≡ judge (number_at s at) at low limit (number_of outside)
   unfolding field
-  field_kept h q = if_ne _ _ _ _ r h q
+  field_judged = sym (if_eq _ _ _ _ _ h.none (rw h.place))
 
-  -- with none, what stands at the place is judged
-  pub field_read : (n : Number) → c.fault ≡ 0 → n ≡ number_at s c.at → r ≡ judge n c.at low limit fault → r ≡ field s c low limit fault
-  unfolding field
-  field_read n h e q = if_eq _ _ _ _ r h (rw (← e) q)
+  -- a fault of the number form
+  pub next_bad : {f : Fault} → number_told (given (Err f)) ≡ number_told (number_at s at) → Met (field s c low limit (number_of outside)) f
+  unfolding judge failed
+  next_bad {f} e =
+      let j : judge (number_at s at) at low limit (number_of outside) ≡ failed (detail_of f) (number_of f) = rw (← number_same _ _ e) in
+      rw (field_judged, j) (record { number = refl; place = refl })
 
--- for the next number, by whether a fault was met before
-pub ruleset readings = (rules, number_same, field_kept, field_read)
+  module _ (n : Given) (e : number_told (given (Ok n)) ≡ number_told (number_at s at)) where
+    -- a number out of the range
+    pub next_low : detail_of outside ≡ at → n.value < low → Met (field s c low limit (number_of outside)) outside
+    unfolding failed
+    next_low p l = rw (field_judged, judge_low low limit (number_of outside) at (number_same _ _ e) l) (record { number = refl; place = sym p })
 
--- ---- a store that asks nothing
+    pub next_high : detail_of outside ≡ at → low ≤ n.value → limit ≤ n.value → Met (field s c low limit (number_of outside)) outside
+    unfolding failed
+    next_high p l m = rw (field_judged, judge_high low limit (number_of outside) at (number_same _ _ e) l m) (record { number = refl; place = sym p })
 
--- a store past the end changes nothing
-pub put_past : {A : Type 0} (l : List A) (i n : ℕ) (x : A) → length l ≡ n → n ≤ i → l ≡ set l i x
-put_past l i n x q b = sym (set_out l i x (omega arith))
+    -- a number in the range
+    pub next_in : low ≤ n.value → n.value < limit → NumberRead (Ok n.value) n.next (field s c low limit (number_of outside))
+    next_in l m = rw (field_judged, judge_in low limit (number_of outside) at (number_same _ _ e) l m) (record { none = refl; place = refl }, refl)
+
+-- ---- a fault that was met stays
+
+module _ (s : List ℕ) (c : Cursor) (f : Fault) (h : Met c f) where
+  -- the next number is not read
+  pub field_met : (low limit fault : ℕ) → Met (field s c low limit fault) f
+  unfolding field failed
+  field_met low limit fault =
+      let e : failed c.at c.fault ≡ field s c low limit fault = if_ne _ _ _ _ _ (λ z. not_none f (sym h.number ∙ z)) refl in
+      rw (← e) (record { number = h.number; place = h.place })
+
+  pub code_met : (low high : ℕ) → Met (code s c low high) f
+  unfolding code
+  code_met low high = field_met low (high + 1) 23
+
+  pub reference_met : (objects : ℕ) → Met (reference s c objects) f
+  unfolding reference
+  reference_met objects = field_met 0 objects 24
+
+  pub none_or_reference_met : (objects : ℕ) → Met (none_or_reference s c objects) f
+  unfolding none_or_reference
+  none_or_reference_met objects = reference_met (objects + 1)
+
+-- ---- turns
+
+module _ {A : Type 0} (P : A → Type 0) (f : ℕ → A → A) (a : A) (s : (i : ℕ) (b : A) → P b → P (f i b)) where
+  -- what each turn keeps holds from the turn i on
+  further : (i d : ℕ) → P (iter f i a) → P (iter f (i + d) a)
+  unfolding iter
+  further i zero p = simp unary_clauses p
+  further i (suc d) p = simp unary_clauses (s (i + d) (iter f (i + d) a) (further i d p))
+
+  -- and so after the last of n turns
+  pub after_turns : (i n : ℕ) → i ≤ n → P (iter f i a) → P (iter f n a)
+  after_turns i n l p = let e : i + (n - i) ≡ n = omega arith in subst (λ k. P (iter f k a)) e (further i (n - i) p)
+
+-- ---- two readings from one place give the same
+
+-- a cursor that stands at a place
+pub begun : (at : ℕ) → Stands (record { at = at; fault = 0; value = 0 }) at
+begun at = record { none = refl; place = refl }
+
+-- two readings that end at one cursor
+pub one_reading : {A : Type 0} (at : ℕ) (c : Cursor) (Gives : A → Type 0) → ((a b : A) → Gives a → Gives b → a ≡ b) → (r q : Result A Fault)
+    → Reads r at c Gives → Reads q at c Gives → r ≡ q
+one_reading at c Gives one (Ok a) (Ok b) p o = ap Ok (one a b p.1 o.1)
+one_reading at c Gives one (Ok a) (Err g) p o = absurd (not_none g (sym o.number ∙ p.0.none))
+one_reading at c Gives one (Err f) (Ok b) p o = absurd (not_none f (sym p.number ∙ o.0.none))
+one_reading at c Gives one (Err f) (Err g) p o = ap Err (fault_same f g (sym p.number ∙ o.number) (sym p.place ∙ o.place))

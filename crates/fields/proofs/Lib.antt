@@ -1,4 +1,5 @@
 pub mod Laws
+pub mod Turns
 pub mod Ranges
 pub mod Cleared
 pub mod Unique

@@ -10,14 +10,14 @@ use lib.ListN.{get_or, length-replicate}
 use Rattle.laws.proofs.Choice.{if_both}
 use Rattle.laws.proofs.Loops.{iter_keeps, iter_same}
 use Rattle.laws.proofs.Stores.{turns_each}
-use Rattle.numbers.specs.declared.Number.{Number}
-use Rattle.numbers.specs.declared.Number.TheVariants.{Value, Fault}
+use Rattle.numbers.specs.Number.{Number}
+use Rattle.numbers.specs.Number.{Value, Fault}
 use Rattle.numbers.specs.Number.{number_at}
 use Rattle.numbers.proofs.Readings.{fault_number}
 use Rattle.track.specs.Sizes.{most_listed}
-use Rattle.fields.specs.declared.Cursor.{Cursor}
-use Rattle.fields.specs.declared.Items.{Items}
-use Rattle.fields.specs.declared.Points.{Points}
+use Rattle.fields.specs.Cursor.{Cursor}
+use Rattle.fields.specs.Cursor.{Items}
+use Rattle.fields.specs.Cursor.{Points}
 use Rattle.fields.specs.Fields.{failed, judge, field, code, reference}
 use Rattle.fields.specs.Lists.{item_turn, items, point_turn, points}
 

@@ -1,5 +1,12 @@
 -- No second result meets the contract of a public function. Each `Post` is the contract itself, as the function is proved to meet it.
+use mathlib.Core.Path.{ap, ◌∙◌}
+use Prim.Native.Nat.{ℕ}
+use mathlib.Core.Path.{◌≡◌}
+use mathlib.Core.List.{List}
 use Rattle.laws.proofs.Only.{Determines, only}
+use Rattle.fields.specs.declared.Items.{Items}
+use Rattle.fields.specs.declared.Points.{Points}
+use Rattle.fields.proofs.Laws.{begun, one_reading}
 use Rattle.fields.proofs.read_code.Reads as read_code
 use Rattle.fields.proofs.read_reference.Reads as read_reference
 use Rattle.fields.proofs.read_none_or_reference.Reads as read_none_or_reference
@@ -8,20 +15,32 @@ use Rattle.fields.proofs.read_points.Reads as read_points
 
 -- a version, count or code
 pub read_code_determined : Determines read_code.Post
-read_code_determined κs a r q s = only
+read_code_determined κs a r q s p o = one_reading _ _ _ (λ a b. only) r q (p _ (begun _)) (o _ (begun _))
 
 -- a reference
 pub read_reference_determined : Determines read_reference.Post
-read_reference_determined κs a r q s = only
+read_reference_determined κs a r q s p o = one_reading _ _ _ (λ a b. only) r q (p _ (begun _)) (o _ (begun _))
 
 -- none, or a reference
 pub read_none_or_reference_determined : Determines read_none_or_reference.Post
-read_none_or_reference_determined κs a r q s = only
+read_none_or_reference_determined κs a r q s p o = one_reading _ _ _ (λ a b. only) r q (p _ (begun _)) (o _ (begun _))
+
+-- two lists that agree in each part are one
+pub same_items : {a b : Items} → a.count ≡ b.count → a.item ≡ b.item → a ≡ b
+same_items {a} {b} n l = ap (λ (k : ℕ). record { count = k; item = a.item }) n ∙ ap (λ (x : List ℕ). record { count = b.count; item = x }) l
+
+pub same_points : {a b : Points} → a.count ≡ b.count → a.point ≡ b.point → a.position ≡ b.position → a ≡ b
+same_points {a} {b} n l m =
+    ap (λ (k : ℕ). record { count = k; point = a.point; position = a.position }) n
+    ∙ ap (λ (x : List ℕ). record { count = b.count; point = x; position = a.position }) l
+    ∙ ap (λ (x : List ℕ). record { count = b.count; point = b.point; position = x }) m
 
 -- a list of references
 pub read_items_determined : Determines read_items.Post
-read_items_determined κs a r q s = only
+read_items_determined κs a r q s p o =
+    one_reading _ _ _ (λ (a b : Items) x y. same_items (only x.0 y.0) (only x.1 y.1)) r q (p _ (begun _)) (o _ (begun _))
 
 -- points with positions
 pub read_points_determined : Determines read_points.Post
-read_points_determined κs a r q s = only
+read_points_determined κs a r q s p o =
+    one_reading _ _ _ (λ (a b : Points) x y. same_points (only x.0 y.0) (only x.1 y.1) (only x.2 y.2)) r q (p _ (begun _)) (o _ (begun _))

@@ -1,10 +1,10 @@
 -- One number of the layout file, with the fault that it may bring (section 2).
 use Rattle.std.specs.Prelude.{ℕ, ◌+◌, List, ltb, eqb}
 use Rattle.laws.specs.Choice.{when◌then◌else◌}
-use Rattle.numbers.specs.declared.Number.{Number}
-use Rattle.numbers.specs.declared.Number.TheVariants.{Value, Fault}
+use Rattle.numbers.specs.Number.{Number}
+use Rattle.numbers.specs.Number.{Value, Fault}
 use Rattle.numbers.specs.Number.{number_at}
-use Rattle.fields.specs.declared.Cursor.{Cursor}
+use Rattle.fields.specs.Cursor.{Cursor}
 
 -- a fault, told of a place
 unfoldable pub failed : ℕ → ℕ → Cursor

@@ -1,2 +1,4 @@
+pub mod Cursor
 pub mod Fields
 pub mod Lists
+pub mod Reading

@@ -1,4 +1,6 @@
+pub mod Records
 pub mod Sections
 pub mod Lines
 pub mod Distants
 pub mod Routes
+pub mod Reading

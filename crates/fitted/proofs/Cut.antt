@@ -12,15 +12,15 @@ use lib.ListN.{length, take, drop, length-append, take-append-drop}
 use lib.Seq.{length-take-le}
 use Rattle.laws.specs.Choice.{when◌then◌else◌}
 use Rattle.laws.proofs.Choice.{if_eq, if_ne, if_both, if_under}
-use Rattle.numbers.specs.declared.Number.{Number}
-use Rattle.numbers.specs.declared.Number.TheVariants.{Value, Fault}
+use Rattle.numbers.specs.Number.{Number}
+use Rattle.numbers.specs.Number.{Value, Fault}
 use Rattle.numbers.specs.Number.{number_at}
 use Rattle.numbers.proofs.Readings.{number_inside, fault_place, fault_number}
 use Rattle.numbers.proofs.Prefix.{Kept, number_kept}
 use Rattle.numbers.proofs.Further.{further, inside_further, number_further}
 use Rattle.layout.specs.declared.Layout.{Layout}
 use Rattle.fitted.specs.declared.Told.{Told}
-use Rattle.fitted.specs.declared.Piece.{Piece}
+use Rattle.fitted.specs.Records.{Piece}
 use Rattle.fitted.specs.Numbers.{Numbers, no_numbers, before, numbers_next, numbers_from, from_place}
 use Rattle.fitted.specs.Fitted.{tell, fit, none_told, tell_all}
 use Rattle.fitted.specs.Pieces.{stop_of, ended, piece_of, in_file, told_in_reads, fit_in_reads}

@@ -5,5 +5,5 @@ pub mod Whole
 pub mod Answers
 pub mod Equipped
 pub mod Cut
-pub mod Unique
 pub mod InUse
+pub mod Unique

@@ -9,14 +9,19 @@ use lib.Dec.{ltb}
 use lib.ListN.{length}
 use Rattle.laws.specs.Choice.{when◌then◌else◌}
 use Rattle.laws.proofs.Choice.{if_eq, if_ne, if_both}
-use Rattle.numbers.specs.declared.Number.{Number}
-use Rattle.numbers.specs.declared.Number.TheVariants.{Value, Fault}
+use Rattle.numbers.specs.Number.{Number}
+use Rattle.numbers.specs.Number.{Value, Fault}
 use Rattle.numbers.specs.Number.{number_at}
 use Rattle.numbers.proofs.Readings.{fault_number}
 use Rattle.layout.specs.declared.Layout.{Layout}
 use Rattle.fitted.specs.declared.Told.{Told}
-use Rattle.fitted.specs.declared.Piece.{Piece}
-use Rattle.fitted.specs.declared.Fitting.{Fitting}
+use Rattle.fitted.specs.Records.{Piece}
+use Rattle.numbers.specs.declared.Fault.{Fault as FileFault}
+use Rattle.fitted.specs.declared.Piece.{Piece as PieceGiven}
+use Rattle.fitted.specs.declared.End.{End}
+use Rattle.fitted.specs.declared.End.TheVariants.{Later, AtEnd, Bad}
+use Rattle.fitted.specs.Reading.{in_numbers, stop_given}
+use Rattle.fitted.specs.Records.{Fitting}
 use Rattle.fitted.specs.Numbers.{Numbers, no_numbers, before, numbers_next, numbers_from, from_place, numbers_of}
 use Rattle.fitted.specs.Fitted.{with_told, equipped, fit_by, none_told, tell_all, fit}
 use Rattle.fitted.specs.Pieces.{stop_of, ended, piece_of, answer}
@@ -86,3 +91,15 @@ answer_is L r = ⊎_elim (answer_whole L r) (answer_bad L r)
 pub fit_is : (L : Layout) (file : List ℕ) (none : Told) (p : Piece) {r : Fitting} → none ≡ none_told → p ≡ piece_of L.sections true file none 0 → r ≡ answer L p → r ≡ fit L file
 unfolding fit piece_of numbers_of
 fit_is L file none p e f g = g ∙ ap (answer L) f ∙ ap (λ (t : Told). answer L (piece_of L.sections true file t 0)) e ∙ answer_is L (from_place file 0) (from_known file 0)
+
+-- a file that is read as one piece ends at a fault or at its end
+by_end : (end : End) (fault : ℕ) → Known fault → stop_given end ≡ stop_of true fault → ((f : FileFault) → end ≡ Bad f → ⊥) → stop_given end ≡ 3
+by_end (Later at) fault (inl z) e h = absurd (omega (arith, stop_end fault z))
+by_end (Later at) fault (inr z) e h = absurd (⊎_elim (λ y. omega (arith, stop_fault fault z)) (λ y. omega (arith, stop_fault fault z)) z)
+by_end (AtEnd at) fault k e h = refl
+by_end (Bad f) fault k e h = absurd (h f refl)
+
+pub whole_end : (L : Layout) (file : List ℕ) (t : Told) (p : PieceGiven) → in_numbers p ≡ piece_of L.sections true file t 0 → ((f : FileFault) → p.end ≡ Bad f → ⊥)
+    → stop_given p.end ≡ 3
+unfolding piece_of ended
+whole_end L file t p e h = by_end p.end (from_place file 0).fault (from_known file 0) (ap (λ (q : Piece). q.stop) e) h

@@ -8,7 +8,7 @@ use Rattle.track.specs.Sizes.{most_sections}
 use Rattle.layout.specs.declared.Layout.{Layout}
 use Rattle.layout.specs.Layout.{none_fitted}
 use Rattle.fitted.specs.declared.Told.{Told}
-use Rattle.fitted.specs.declared.Fitting.{Fitting}
+use Rattle.fitted.specs.Records.{Fitting}
 use Rattle.fitted.specs.Numbers.{Numbers, numbers_of}
 
 -- ---- what a list of numbers tells

@@ -3,8 +3,8 @@ use Rattle.std.specs.Prelude.{ℕ, ◌+◌, Bool, true, false, List, [], ◌∷�
 use Rattle.laws.specs.Choice.{when◌then◌else◌}
 use Rattle.layout.specs.declared.Layout.{Layout}
 use Rattle.fitted.specs.declared.Told.{Told}
-use Rattle.fitted.specs.declared.Piece.{Piece}
-use Rattle.fitted.specs.declared.Fitting.{Fitting}
+use Rattle.fitted.specs.Records.{Piece}
+use Rattle.fitted.specs.Records.{Fitting}
 use Rattle.fitted.specs.Numbers.{Numbers, from_place}
 use Rattle.fitted.specs.Fitted.{with_told, none_told, tell_all}
 

@@ -3,11 +3,13 @@
 
 ghost use Rattle.std.specs.Prelude.{◌≡◌, set};
 ghost use Rattle.fitted.specs.Fitted.{with_told, none_told, lacking_with, tell, fit};
-ghost use Rattle.fitted.specs.Pieces.{stop_of, ended, piece_of, answer};
+ghost use Rattle.fitted.specs.Pieces.{ended, piece_of};
+ghost use Rattle.fitted.specs.Reading.{in_numbers, told_of};
+ghost use Rattle.numbers.specs.Given.{number_of, detail_of};
 
 use laws::wide;
 use layout::Layout;
-use numbers::Number;
+use numbers::Fault;
 use track::sizes::SECTIONS;
 
 // What was told so far: fitted has 1 where a section was told, else 0; lacking is 1 where one was told that there is not, else 0.
@@ -17,21 +19,28 @@ pub struct Told {
     pub lacking: u8,
 }
 
-// How far a piece of the file was read: what was told until then, the place of the next number, and why it ended.
-// 2 the next number lies past the piece's end; 3 the file's end; 21, 22 a fault, at its place.
+// Where reading a piece of the file ended.
+#[derive(Clone, Copy)]
+pub enum End {
+    // The next number, whose place this is, lies past the piece's end.
+    Later {
+        at: usize,
+    },
+    // At the file's end.
+    AtEnd {
+        at: usize,
+    },
+    // At a fault.
+    Bad {
+        fault: Fault,
+    },
+}
+
+// How far a piece of the file was read: what was told until then, and where it ended.
 #[derive(Clone, Copy)]
 pub struct Piece {
     pub told: Told,
-    pub at: usize,
-    pub stop: u8,
-}
-
-// The answer to a file of fitted sections: 0, 0 and the layout with them; or a fault's number with its place, and the layout as it was.
-#[derive(Clone, Copy)]
-pub struct Fitting {
-    pub number: u8,
-    pub detail: usize,
-    pub layout: Layout,
+    pub end: End,
 }
 
 // Nothing was told.
@@ -73,49 +82,60 @@ fn tell(sections: u8, t: Told, n: u64) -> Told
     Told { fitted, lacking }
 }
 
-// Why reading ended: at a fault, or at the end of the bytes, where it is 0.
-fn stop_of(last: bool, fault: u8) -> u8
-    ensures { result ≡ stop_of last fault }
+// A piece that was read as far as a fault. A number that a piece cuts off is read again with what follows the piece.
+fn ended(last: bool, told: Told, fault: Fault) -> Piece
+    ensures { in_numbers result ≡ ended last told (detail_of fault) (number_of fault) }
 {
-    if fault == 22 {
-        return 22;
-    }
     if last {
-        if fault == 0 {
-            return 3;
-        }
-        return fault;
+        return Piece {
+            told,
+            end: End::Bad { fault },
+        };
     }
-    2
+    if fault.number() == 22 {
+        return Piece {
+            told,
+            end: End::Bad { fault },
+        };
+    }
+    Piece {
+        told,
+        end: End::Later { at: fault.detail() },
+    }
 }
 
-// A piece that was read as far as a place.
-fn ended(last: bool, told: Told, at: usize, fault: u8) -> Piece
-    ensures { result ≡ ended last told at fault }
+// A piece that was read through, up to a place.
+fn read_through(last: bool, told: Told, at: usize) -> Piece
+    ensures { in_numbers result ≡ ended last told at 0 }
 {
-    let stop = stop_of(last, fault);
-    Piece { told, at, stop }
+    if last {
+        return Piece {
+            told,
+            end: End::AtEnd { at },
+        };
+    }
+    Piece {
+        told,
+        end: End::Later { at },
+    }
 }
 
 // The numbers of a piece of the file from a place on are told of a layout with so many sections, after what was told before.
 pub fn tell_piece(sections: u8, told: Told, bytes: &[u8], from: usize, last: bool) -> Piece
-    ensures { result ≡ piece_of sections last bytes.now told from }
+    ensures { in_numbers result ≡ piece_of sections last bytes.now told from }
 {
     let mut t = told;
     let mut at = from;
     while at < bytes.len() {
-        let there = numbers::read(bytes, at);
-        match there {
-            Number::Value { value, next } => {
-                t = tell(sections, t, value);
-                at = next;
+        match numbers::read(bytes, at) {
+            Ok(number) => {
+                t = tell(sections, t, number.value);
+                at = number.next;
             }
-            Number::Fault { number, at: place } => {
-                return ended(last, t, place, number);
-            }
+            Err(fault) => return ended(last, t, fault),
         }
     }
-    ended(last, t, at, 0)
+    read_through(last, t, at)
 }
 
 // The layout with what was told.
@@ -129,31 +149,15 @@ pub fn equip(layout: Layout, told: Told) -> Layout
     l
 }
 
-// The answer to a file that was read to its end or to a fault.
-fn answer(layout: Layout, p: Piece) -> Fitting
-    ensures { result ≡ answer layout p }
-{
-    if p.stop == 3 {
-        let told = p.told;
-        let fitted = equip(layout, told);
-        return Fitting {
-            number: 0,
-            detail: 0,
-            layout: fitted,
-        };
-    }
-    Fitting {
-        number: p.stop,
-        detail: p.at,
-        layout,
-    }
-}
-
-// The answer to a file of fitted sections, whatever its bytes.
-pub fn fit(layout: Layout, bytes: &[u8]) -> Fitting
-    ensures { result ≡ fit layout bytes.now }
+// The layout with the sections that a file tells, whatever its bytes, or the first fault met.
+pub fn fit(layout: Layout, bytes: &[u8]) -> Result<Layout, Fault>
+    ensures { told_of layout result ≡ fit layout bytes.now }
 {
     let none = none_told();
     let p = tell_piece(layout.sections, none, bytes, 0, true);
-    answer(layout, p)
+    if let End::Bad { fault } = p.end {
+        return Err(fault);
+    }
+    let told = p.told;
+    Ok(equip(layout, told))
 }

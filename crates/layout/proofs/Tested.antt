@@ -17,7 +17,7 @@ use Rattle.track.specs.declared.Counts.{Counts}
 use Rattle.track.specs.declared.Line.{Line}
 use Rattle.track.specs.declared.Route.{Route}
 use Rattle.track.specs.Sizes.{most_sections, most_points, most_signals, most_lines, most_distants, most_train_routes, last_version}
-use Rattle.track.specs.Objects.{line, route, no_route}
+use Rattle.track.specs.Objects.{route, no_route}
 use Rattle.track.specs.SignalNumbers.{signal_count}
 use Rattle.track.specs.Lists.{between}
 use Rattle.track.specs.Ranges.{line_fits, distant_fits, route_fits}
@@ -31,8 +31,10 @@ use Rattle.layout.specs.declared.Layout.{Layout}
 use Rattle.layout.specs.Layout.{counts, line_in, signals_in, carrier_of, announced_by, route_in, conflict, entry_of}
 use Rattle.layout.specs.Rules.{rule1, rule2, rule3, rule4, rule5, rule6, rule7, first_failed, broken}
 use Rattle.layout.specs.Sound.{sections_fit, fits}
-use Rattle.layout.specs.Walks.{line_keeps, route_keeps, distant_keeps, blocks_apart, lists_differ, no_reach, reaches, pair_keeps, row_keeps, broken_early, broken_late}
-use Rattle.layout.proofs.Laws.{Few, broken_first, broken_last}
+use Rattle.layout.specs.Walks.{line_keeps, route_keeps, distant_keeps, blocks_apart, lists_differ, no_reach, reaches, pair_keeps, row_keeps}
+use Rattle.std.specs.Prelude.{None, Some}
+use Rattle.layout.specs.Reading.{RuleGiven}
+use Rattle.layout.proofs.Laws.{Few}
 
 -- ---- an entry of an array of routes, as the code reads it
 
@@ -137,27 +139,30 @@ module _ (L : Layout) where
 
   -- ---- the first broken rule, by these walks
 
-  -- the first broken one of the rules 1 to 3
-  early_is : broken_early (counts L) L.line L.routes L.route ≡ first_failed 1 (rule1 L ∷ rule2 L ∷ rule3 L ∷ [])
-  unfolding broken_early counts
-  early_is = rw (rule1_is, rule2_is, rule3_is)
+  -- what the seven walks find
+  abbrev pub walks : List Bool
+  walks =
+      blocks_apart (counts L) L.line L.routes L.route
+      ∷ all_below L.lines (line_keeps 2 (counts L) L.line)
+      ∷ lists_differ (counts L) L.line L.routes L.route
+      ∷ all_below L.routes (λ r. route_keeps 4 (counts L) L.line 0 (route L.route r))
+      ∷ all_below L.routes (λ r. route_keeps 5 (counts L) L.line 0 (route L.route r))
+      ∷ all_below L.routes (λ r. all_below r (row_keeps L.conflict (reaches L.route) r))
+      ∷ all_below L.distants (distant_keeps 7 0 L.carrier L.announced)
+      ∷ []
 
-  -- the first broken one of the rules 4 to 7
-  abbrev late : ℕ
-  late = broken_late (counts L) L.line L.routes L.route L.conflict L.distants L.carrier L.announced
+  -- the first walk that fails is that of the first broken rule
+  walks_broken : L.routes ≤ most_train_routes → first_failed 1 walks ≡ broken L
+  unfolding broken
+  walks_broken few = rw (rule1_is, rule2_is, rule3_is, rule4_is, rule5_is, rule6_is few, rule7_is)
 
-  late_is : L.routes ≤ most_train_routes → late ≡ first_failed 4 (rule4 L ∷ rule5 L ∷ rule6 L ∷ rule7 L ∷ [])
-  unfolding broken_late
-  late_is few = rw (rule4_is, rule5_is, rule6_is few, rule7_is)
+  -- it is the walk k
+  pub walk_fails : Few L → {k : ℕ} → k ≡ first_failed 1 walks → (k ≡ 0 → ⊥) → RuleGiven (Some k) (broken L)
+  walk_fails few e h = (e ∙ walks_broken few.0, h)
 
-  module _ (k : ℕ) (early : k ≡ broken_early (counts L) L.line L.routes L.route) where
-    -- one of the first three is broken
-    pub first_early : (k ≡ 0 → ⊥) → k ≡ broken L
-    first_early d = broken_first L k (early ∙ early_is) d
-
-    -- none of them is
-    pub first_late : Few L → k ≡ 0 → (r : ℕ) → r ≡ late → r ≡ broken L
-    first_late few z r e = broken_last L k r (early ∙ early_is) z (e ∙ late_is few.0)
+  -- none fails
+  pub walks_pass : Few L → first_failed 1 walks ≡ 0 → RuleGiven None (broken L)
+  walks_pass few e = sym (walks_broken few.0) ∙ e
 
 -- ---- the ranges, by the walks that test them
 

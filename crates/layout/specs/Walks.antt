@@ -14,7 +14,6 @@ use Rattle.rules.specs.declared.Reach.{Reach}
 use Rattle.rules.specs.Rules.{once, line_ends, line_points, route_lists, route_length, route_ends, announces_carrier}
 use Rattle.rules.specs.Sets.{block_set, inner_set, off_blocks, reach_of, clashing}
 use Rattle.layout.specs.Layout.{entry_of}
-use Rattle.layout.specs.Rules.{first_failed}
 
 -- line l keeps rule k, 1 to 3; 0 asks that its numbers are in range
 unfoldable pub line_keeps : ℕ → Counts → List Line → ℕ → Bool
@@ -62,16 +61,3 @@ pair_keeps m r q a b = implies (clashing a b) (eqb (entry_of m r q) 1)
 -- and by the table
 unfoldable pub row_keeps : List ℕ → List Reach → ℕ → ℕ → Bool
 row_keeps m t r q = pair_keeps m r q (get_or t r no_reach) (get_or t q no_reach)
-
--- the first broken one of the rules 1 to 3, or 0
-unfoldable pub broken_early : Counts → List Line → ℕ → List Route → ℕ
-broken_early c ls n rs = first_failed 1 (blocks_apart c ls n rs ∷ all_below c.lines (line_keeps 2 c ls) ∷ lists_differ c ls n rs ∷ [])
-
--- the first broken one of the rules 4 to 7, or 0
-unfoldable pub broken_late : Counts → List Line → ℕ → List Route → List ℕ → ℕ → List ℕ → List ℕ → ℕ
-broken_late c ls n rs m distants carriers announced = first_failed 4 (
-    all_below n (λ r. route_keeps 4 c ls 0 (route rs r))
-    ∷ all_below n (λ r. route_keeps 5 c ls 0 (route rs r))
-    ∷ all_below n (λ r. all_below r (row_keeps m (reaches rs) r))
-    ∷ all_below distants (distant_keeps 7 0 carriers announced)
-    ∷ [])

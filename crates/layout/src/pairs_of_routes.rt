@@ -33,16 +33,14 @@ fn no_reach() -> Reach
 }
 
 // What rule 6 asks of each route.
-fn reach_table(rs: [Route; TRAIN_ROUTES]) -> [Reach; TRAIN_ROUTES]
-    ensures { result ≡ reaches rs }
+fn reach_table(rs: &[Route; TRAIN_ROUTES]) -> [Reach; TRAIN_ROUTES]
+    ensures { result ≡ reaches rs.now }
 {
     let none = no_reach();
     let mut t = [none; TRAIN_ROUTES];
-    let mut i: u8 = 0;
-    while i < MOST_TRAIN_ROUTES {
+    for i in 0..MOST_TRAIN_ROUTES {
         let a = rs[i as usize];
         t[i as usize] = rules::route_reach(a);
-        i += 1;
     }
     t
 }
@@ -59,33 +57,29 @@ fn pair_keeps(m: &[u8; PAIRS], r: u8, q: u8, a: Reach, b: Reach) -> bool
 }
 
 // Rule 6 for each of n routes and each before it.
-fn rows_keep(m: &[u8; PAIRS], t: [Reach; TRAIN_ROUTES], n: u8) -> bool
+fn rows_keep(m: &[u8; PAIRS], t: &[Reach; TRAIN_ROUTES], n: u8) -> bool
     requires { n ≤ most_train_routes }
-    ensures { result ≡ all_below n (λ r. all_below r (row_keeps m.now t r)) }
+    ensures { result ≡ all_below n (λ r. all_below r (row_keeps m.now t.now r)) }
 {
-    let mut r: u8 = 0;
-    while r < n {
+    for r in 0..n {
         let a = t[r as usize];
-        let mut q: u8 = 0;
-        while q < r {
+        for q in 0..r {
             let b = t[q as usize];
             if !pair_keeps(m, r, q, a, b) {
                 return false;
             }
-            q += 1;
         }
-        r += 1;
     }
     true
 }
 
 // Rule 6.
-pub fn rule_6(m: &[u8; PAIRS], n: u8, rs: [Route; TRAIN_ROUTES]) -> bool
+pub fn rule_6(m: &[u8; PAIRS], n: u8, rs: &[Route; TRAIN_ROUTES]) -> bool
     requires { n ≤ most_train_routes }
-    ensures { result ≡ all_below n (λ r. all_below r (row_keeps m.now (reaches rs) r)) }
+    ensures { result ≡ all_below n (λ r. all_below r (row_keeps m.now (reaches rs.now) r)) }
 {
     let t = reach_table(rs);
-    rows_keep(m, t, n)
+    rows_keep(m, &t, n)
 }
 
 // The table says the same of r and q as of q and r, and says 0 or 1.
@@ -103,12 +97,10 @@ fn pairs_mirror(m: &[u8; PAIRS], r: u8) -> bool
     requires { r < most_train_routes }
     ensures { result ≡ all_below r (pair_mirrors m.now r) }
 {
-    let mut q: u8 = 0;
-    while q < r {
+    for q in 0..r {
         if !pair_mirrors(m, r, q) {
             return false;
         }
-        q += 1;
     }
     true
 }
@@ -128,12 +120,10 @@ pub fn mirrored(m: &[u8; PAIRS], n: u8) -> bool
     requires { n ≤ most_train_routes }
     ensures { result ≡ all_below n (row_mirrors m.now) }
 {
-    let mut r: u8 = 0;
-    while r < n {
+    for r in 0..n {
         if !row_mirrors(m, r) {
             return false;
         }
-        r += 1;
     }
     true
 }

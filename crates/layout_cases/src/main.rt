@@ -11,9 +11,10 @@ const ARCHIVE: &[u8] = b"layouts";
 
 // Writes what loading a file answers.
 fn show(rt: &HostRuntime, file: &[u8]) -> Result<(), Reported> {
-    let r = layout::load(file);
-    let number = r.number;
-    let detail = r.detail;
+    let (number, detail) = match layout::load(file) {
+        Ok(_) => (0, 0),
+        Err(fault) => (fault.number(), fault.detail()),
+    };
     console::print_value(rt, format_args!("{number} {detail}\n"))
 }
 

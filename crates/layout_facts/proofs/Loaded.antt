@@ -19,8 +19,8 @@ use Rattle.fields.proofs.Ranges.{Known, code_known, code_most, code_in}
 use Rattle.file_objects.proofs.Ranges.{between_from, sections_known, sections_in, lines_known, lines_in, routes_known, routes_in}
 use Rattle.file_objects.proofs.DistantRanges.{distants_known, distants_in}
 use Rattle.pairs.proofs.Ranges.{Said, neither, both, pairs_known, pairs_in}
-use Rattle.layout.specs.declared.Loaded.{Loaded}
-use Rattle.layout.specs.declared.file.Whole.{Whole}
+use Rattle.layout.specs.Records.{Loaded}
+use Rattle.layout.specs.Records.{Whole}
 use Rattle.layout.specs.Layout.{none_fitted, no_layout, counts, line_in, signals_in, carrier_of, announced_by, route_in, entry_of}
 use Rattle.layout.specs.Rules.{first_failed, broken}
 use Rattle.layout.specs.Sound.{sections_fit, fits, pair_mirrors, row_mirrors, mirrored, sound}

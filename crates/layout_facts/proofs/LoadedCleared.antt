@@ -9,7 +9,7 @@ use Rattle.laws.proofs.Choice.{if_both}
 use Rattle.file_objects.proofs.Cleared.{sections_past, lines_past, lines_cleared, distants_past, routes_past, routes_cleared}
 use Rattle.pairs.proofs.Ranges.{Said, neither, both, pairs_in}
 use Rattle.layout.specs.declared.Layout.{Layout}
-use Rattle.layout.specs.declared.Loaded.{Loaded}
+use Rattle.layout.specs.Records.{Loaded}
 use Rattle.layout.specs.Layout.{no_layout, none_fitted, line_in, carrier_of, announced_by, route_in, entry_of}
 use Rattle.layout.specs.Rules.{broken}
 use Rattle.layout.specs.Load.{heading, whole, refused, finished, load}

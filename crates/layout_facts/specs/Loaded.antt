@@ -3,7 +3,7 @@ use Rattle.std.specs.Prelude.{ℕ, ◌<◌, ◌≤◌, ◌≡◌, ◌⊎◌, get
 use Rattle.track.specs.Sizes.{most_routes}
 use Rattle.track.specs.Objects.{no_line, no_route}
 use Rattle.layout.specs.declared.Layout.{Layout}
-use Rattle.layout.specs.declared.Loaded.{Loaded}
+use Rattle.layout.specs.Records.{Loaded}
 use Rattle.layout.specs.Layout.{none_fitted, line_in, carrier_of, announced_by, route_in, entry_of}
 
 -- the answer is 0 or one of 21 to 26; the detail of 0 is 0, and that of 25 is the number of one of the seven rules

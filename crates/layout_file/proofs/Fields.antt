@@ -7,15 +7,15 @@ use borrow.Author.Tests.{eqb-true, eqb-false}
 use lib.Dec.{ltb, eqb}
 use lib.ListN.{length, drop}
 use Rattle.laws.proofs.Choice.{if_both}
-use Rattle.numbers.specs.declared.Number.{Number}
-use Rattle.numbers.specs.declared.Number.TheVariants.{Value, Fault}
+use Rattle.numbers.specs.Number.{Number}
+use Rattle.numbers.specs.Number.{Value, Fault}
 use Rattle.numbers.specs.Number.{largest, number_at}
 use Rattle.numbers.specs.Form.{encode, Bytes}
 use Rattle.numbers.proofs.Forms.{accepts, exact}
-use Rattle.fields.specs.declared.Cursor.{Cursor}
+use Rattle.fields.specs.Cursor.{Cursor}
 use Rattle.fields.specs.Fields.{failed, judge, field, code, reference}
 use Rattle.fields.proofs.Ranges.{form_bad}
-use Rattle.fields.proofs.Laws.{judge_in, field_read}
+use Rattle.fields.proofs.Laws.{field_value}
 use Rattle.layout_file.specs.Written.{forms}
 use Rattle.layout_file.proofs.Stands.{Stand}
 
@@ -83,10 +83,9 @@ module _ (s : List ℕ) where
       let place = p.place in
       let x : number_at s at ≡ Value v (at + length (encode v)) = accepts s at v (drop next s) (omega arith) (rw (form_one v) at text) in
       let n : next ≡ at + length (encode v) = rw (form_one v) at place in
-      let r : Cursor = record { at = next; fault = 0; value = v } in
-      let e : r ≡ field s c low limit fault =
-      field_read s c low limit fault r (Value v next) k.none (rw k.here (ap (λ m. Value v m) n ∙ sym x)) (judge_in (Value v next) c.at low limit fault r refl l h refl) in
-      subst (λ (d : Cursor). Gave d next v) e (record { clear = record { none = refl; here = refl }; value = refl })
+      let e : field s c low limit fault ≡ record { at = next; fault = 0; value = v } =
+      field_value s c low limit fault (record { none = k.none; place = k.here }) (ap (λ m. Value v m) n ∙ sym x) l h in
+      rw e (record { clear = record { none = refl; here = refl }; value = refl })
 
   -- a version, count or code
   pub code_gives : (c : Cursor) (low high at v next : ℕ) → Clear c at → Stand s at (v ∷ []) next → low ≤ v → v ≤ high → high < largest

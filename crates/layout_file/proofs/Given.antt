@@ -12,19 +12,19 @@ use Rattle.laws.proofs.Choice.{chosen}
 use Rattle.laws.proofs.Tests.{every_at}
 use Rattle.track.specs.Sizes.{most_sections, most_signals, most_routes, most_conflicts, last_version}
 use Rattle.track.specs.SignalNumbers.{signal_count}
-use Rattle.fields.specs.declared.Cursor.{Cursor}
+use Rattle.fields.specs.Cursor.{Cursor}
 use Rattle.fields.specs.Fields.{code}
-use Rattle.file_objects.specs.declared.Lines.{Lines}
-use Rattle.file_objects.specs.declared.distants.Distants.{Distants}
-use Rattle.file_objects.specs.declared.Routes.{Routes}
+use Rattle.file_objects.specs.Records.{Lines}
+use Rattle.file_objects.specs.Records.{Distants}
+use Rattle.file_objects.specs.Records.{Routes}
 use Rattle.file_objects.specs.Sections.{sections}
 use Rattle.file_objects.specs.Lines.{lines}
 use Rattle.file_objects.specs.Distants.{distants}
 use Rattle.file_objects.specs.Routes.{routes}
 use Rattle.pairs.specs.Pairs.{place_of, pairs}
 use Rattle.layout.specs.declared.Layout.{Layout}
-use Rattle.layout.specs.declared.file.Heading.{Heading}
-use Rattle.layout.specs.declared.file.Whole.{Whole}
+use Rattle.layout.specs.Records.{Heading}
+use Rattle.layout.specs.Records.{Whole}
 use Rattle.layout.specs.Layout.{line_in, route_in, signals_in, entry_of, conflict}
 use Rattle.layout.specs.Rules.{broken}
 use Rattle.layout.specs.Sound.{sound}

@@ -9,7 +9,7 @@ use lib.ListN.{length, take}
 use lib.Seq.{length-take-le, get_or-take, take_all}
 use Rattle.numbers.specs.Number.{max_groups, groups_at, number_at}
 use Rattle.numbers.specs.Form.{Bytes}
-use Rattle.layout.specs.declared.file.Whole.{Whole}
+use Rattle.layout.specs.Records.{Whole}
 use Rattle.layout.specs.Load.{whole, finished, load}
 use Rattle.layout_file.specs.Lengths.{whole_span, enough, buffer}
 use Rattle.layout_file.proofs.Near.{Alike}

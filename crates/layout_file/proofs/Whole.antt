@@ -11,7 +11,7 @@ use Rattle.laws.proofs.Choice.{if_both}
 use Rattle.numbers.specs.Form.{Bytes}
 use Rattle.track.specs.Sizes.{most_sections, most_signals, most_pairs, last_version}
 use Rattle.layout.specs.declared.Layout.{Layout}
-use Rattle.layout.specs.declared.Loaded.{Loaded}
+use Rattle.layout.specs.Records.{Loaded}
 use Rattle.layout.specs.Layout.{line_in, route_in, conflict}
 use Rattle.layout.specs.Load.{start, heading, whole, refused, finished, load}
 use Rattle.layout.proofs.Laws.{whole_few}

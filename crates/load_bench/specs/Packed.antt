@@ -1,7 +1,7 @@
 -- What loading answers, in one number.
 use Rattle.std.specs.Prelude.{ℕ, ◌+◌, ◌*◌, ◌%◌, get_or}
 use Rattle.track.specs.Objects.{route}
-use Rattle.layout.specs.declared.Loaded.{Loaded}
+use Rattle.layout.specs.Records.{Loaded}
 
 -- the answer in the lowest byte, then 16 bits of the detail, then the overlap section at a place of a route
 abbrev pub packed : Loaded → ℕ → ℕ → ℕ

@@ -30,8 +30,11 @@ fn pack(number: u8, detail: usize, section: u8) -> u64
 pub extern "C" fn load_bench_answer(bytes: &[u8], r: u8, place: u8) -> u64
     ensures { result ≡ packed (load bytes.now) r place }
 {
-    let loaded = layout::load(bytes);
-    let l = loaded.layout;
-    let section = look(l, r, place);
-    pack(loaded.number, loaded.detail, section)
+    match layout::load(bytes) {
+        Ok(l) => pack(0, 0, look(l, r, place)),
+        Err(fault) => {
+            let section = look(layout::no_layout(), r, place);
+            pack(fault.number(), fault.detail(), section)
+        }
+    }
 }

@@ -12,8 +12,8 @@ use Rattle.laws.specs.Choice.{when◌then◌else◌}
 use Rattle.laws.specs.Tests.{◌or◌}
 use Rattle.laws.proofs.Choice.{if_eq, if_ne, if_both}
 use Rattle.laws.proofs.Loops.{iter_keeps}
-use Rattle.numbers.specs.declared.Number.{Number}
-use Rattle.numbers.specs.declared.Number.TheVariants.{Value, Fault}
+use Rattle.numbers.specs.Number.{Number}
+use Rattle.numbers.specs.Number.{Value, Fault}
 use Rattle.numbers.specs.Number.{largest, number_at}
 use Rattle.numbers.specs.Form.{encode, Bytes}
 use Rattle.numbers.proofs.Readings.{fault_place}

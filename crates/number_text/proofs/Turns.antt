@@ -11,8 +11,12 @@ use lib.ListN.{length}
 use Rattle.laws.specs.Choice.{when◌then◌else◌}
 use Rattle.laws.specs.Tables.{iter}
 use Rattle.laws.proofs.Choice.{if_eq, if_ne}
-use Rattle.numbers.specs.declared.Number.{Number}
-use Rattle.numbers.specs.declared.Number.TheVariants.{Value, Fault}
+use Rattle.std.specs.Prelude.{Result, Ok, Err}
+use Rattle.numbers.specs.declared.Given.{Given}
+use Rattle.numbers.specs.declared.Fault.{Fault as FileFault}
+use Rattle.numbers.specs.Given.{number_of, detail_of, given}
+use Rattle.numbers.specs.Number.{Number}
+use Rattle.numbers.specs.Number.{Value, Fault}
 use Rattle.numbers.specs.Number.{number_at}
 use Rattle.numbers.proofs.Cases.{number_same}
 use Rattle.numerals.specs.Writes.{Put}
@@ -23,20 +27,21 @@ use Rattle.number_text.specs.Pieces.{held, Went}
 
 -- ---- one turn
 
-module _ (per : ℕ) (p : Unpacked) (x : Number) (a : List ℕ) where
+module _ (per : ℕ) (p : Unpacked) (r : Result Given FileFault) (a : List ℕ) where
   -- a number's text is written
-  pub value_went : (b : List ℕ) {n next : ℕ} (column k : ℕ) → x ≡ Value n next → column ≡ next_column per p.column
-      → Put a p.written (number_text per p.column n) 7 b k
-      → Went a p.written 7 b (record { column = column; at = next; written = k; stop = 0 }) (onward per (held p) x)
+  pub value_went : (b : List ℕ) {n : Given} (column k : ℕ) → r ≡ Ok n → column ≡ next_column per p.column
+      → Put a p.written (number_text per p.column n.value) 7 b k
+      → Went a p.written 7 b (record { column = column; at = n.next; written = k; stop = 0 }) (onward per (held p) (given r))
   unfolding onward held
   value_went b column k e f t = rw e (record { column = f; at = refl; stop = refl; text = t })
 
   -- a fault writes nothing
-  pub fault_went : {number place : ℕ} → x ≡ Fault number place
-      → Went a p.written 7 a (record { column = p.column; at = place; written = p.written; stop = number }) (onward per (held p) x)
+  pub fault_went : {f : FileFault} {number place : ℕ} → r ≡ Err f → number ≡ number_of f → place ≡ detail_of f
+      → Went a p.written 7 a (record { column = p.column; at = place; written = p.written; stop = number }) (onward per (held p) (given r))
   unfolding onward held
-  fault_went e = rw e (record { column = refl; at = refl; stop = refl; text = put_none 7 })
+  fault_went e n d = rw (e, n, d) (record { column = refl; at = refl; stop = refl; text = put_none 7 })
 
+module _ (per : ℕ) (p : Unpacked) (x : Number) (a : List ℕ) where
   -- where there was no fault before, what stands at the next place
   pub turn_goes : (bytes b : List ℕ) (r : Unpacked) → p.stop ≡ 0 → x ≡ number_at bytes p.at → Went a p.written 7 b r (onward per (held p) x)
       → Went a p.written 7 b r (turn_of per bytes (held p))

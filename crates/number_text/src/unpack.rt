@@ -1,10 +1,11 @@
 // The number form into text.
 ghost use Rattle.std.specs.Prelude.{◌≡◌, ◌+◌, ◌/◌, ◌≤◌, length};
 ghost use Rattle.numerals.specs.Writes.{Put};
+ghost use Rattle.numbers.specs.Given.{given};
 ghost use Rattle.number_text.specs.Lines.{next_column, before, behind, number_text, onward, turn_of, unpacked};
 ghost use Rattle.number_text.specs.Pieces.{held, Went};
 
-use numbers::Number;
+use numbers::{Fault, Given};
 
 // A piece of a file was read: how many numbers stand in the last line, the next number's place, how many bytes of text were written, and the
 // fault at that place: 0 none, 21 the piece ends, 22 a bad number.
@@ -64,25 +65,25 @@ fn put_number(per: u64, column: u64, n: u64, out: &mut [u8], at: usize) -> usize
 }
 
 // What stands at the next place.
-fn go_on(per: u64, p: Unpacked, n: Number, out: &mut [u8]) -> Unpacked
+fn go_on(per: u64, p: Unpacked, n: Result<Given, Fault>, out: &mut [u8]) -> Unpacked
     requires { p.written + 7 ≤ length out.old }
-    ensures { Went out.old p.written 7 out.new result (onward per (held p) n) }
+    ensures { Went out.old p.written 7 out.new result (onward per (held p) (given n)) }
 {
     match n {
-        Number::Value { value, next } => {
-            let written = put_number(per, p.column, value, out, p.written);
+        Ok(number) => {
+            let written = put_number(per, p.column, number.value, out, p.written);
             Unpacked {
                 column: next_column(per, p.column),
-                at: next,
+                at: number.next,
                 written,
                 stop: 0,
             }
         }
-        Number::Fault { number, at } => Unpacked {
+        Err(fault) => Unpacked {
             column: p.column,
-            at,
+            at: fault.detail(),
             written: p.written,
-            stop: number,
+            stop: fault.number(),
         },
     }
 }

@@ -7,8 +7,8 @@ use native.Mathlib.Omega.{arith}
 use lib.ListN.{length, get_or}
 use borrow.Author.Rules.{rules}
 use Rattle.laws.proofs.Choice.{choices}
-use Rattle.numbers.specs.declared.Number.{Number}
-use Rattle.numbers.specs.declared.Number.TheVariants.{Value, Fault}
+use Rattle.numbers.specs.Number.{Number}
+use Rattle.numbers.specs.Number.{Value, Fault}
 use Rattle.numbers.specs.Number.{with_group, groups_at, at_most, number_at, largest, max_groups, number_told}
 
 module _ (first low : ℕ) (n : Number) where
@@ -69,6 +69,38 @@ module _ (s : List ℕ) (first at : ℕ) where
   groups_more zero low rest n h l b e f g = absurd (h refl)
   groups_more (suc k) low rest n h l b e f g = rw (g, e, f, sub-one) (search choices)
 
+  module _ (k : ℕ) (h : k ≡ 0 → ⊥) (l : at < length s) (b : 128 ≤ get_or s at 0) where
+    -- the groups after a group have a fault
+    pub after_fault : {m place : ℕ} → Fault m place ≡ groups_at (k - 1) s first (at + 1) → Fault m place ≡ groups_at k s first at
+    after_fault e = groups_more k _ _ _ h l b refl e (with_group_fault first _ _ refl)
+
+    -- they are 0
+    pub after_zero : {v next : ℕ} → Value v next ≡ groups_at (k - 1) s first (at + 1) → v ≡ 0 → Fault 22 first ≡ groups_at k s first at
+    after_zero e z = groups_more k _ _ _ h l b refl e (with_group_zero first _ _ refl z)
+
+    -- they are a number other than 0
+    pub after_value : {v next : ℕ} (low : ℕ) → low ≡ get_or s at 0 - 128 → Value v next ≡ groups_at (k - 1) s first (at + 1) → (v ≡ 0 → ⊥)
+        → Value (low + 128 * v) next ≡ groups_at k s first at
+    after_value low f e z = groups_more k low _ _ h l b f e (with_group_value first _ _ refl z)
+
+-- ---- what stands at a place
+
+module _ (s : List ℕ) (at : ℕ) where
+  -- the groups there have a fault
+  pub number_fault : {m place : ℕ} → Fault m place ≡ groups_at max_groups s at at → Fault m place ≡ number_at s at
+  unfolding number_at
+  number_fault e = most_fault at largest _ (sym e)
+
+  -- they are too large a number
+  pub number_over : {v next : ℕ} → Value v next ≡ groups_at max_groups s at at → largest < v → Fault 22 at ≡ number_at s at
+  unfolding number_at
+  number_over e l = most_over at largest _ (sym e) l
+
+  -- they are a number up to the largest
+  pub number_within : {v next : ℕ} → Value v next ≡ groups_at max_groups s at at → v ≤ largest → Value v next ≡ number_at s at
+  unfolding number_at
+  number_within e l = most_within at largest _ (sym e) l
+
 -- a number of one byte
 pub number_short : (s : List ℕ) (at byte : ℕ) → at < length s → byte ≡ get_or s at 0 → get_or s at 0 < 128 → Value byte (at + 1) ≡ number_at s at
 unfolding number_at
@@ -83,5 +115,4 @@ number_same (Fault m at) (Value v next) e = cc
 number_same (Fault m at) (Fault k place) e = cc
 
 -- for the functions, a case at each return
-pub ruleset cases =
-    (rules, with_group_zero, with_group_value, with_group_fault, most_over, most_within, most_fault, groups_none, groups_end, groups_last, groups_more, number_short)
+pub ruleset cases = (rules, groups_none, groups_end, groups_last, after_fault, after_zero, after_value, number_fault, number_over, number_within, number_short)

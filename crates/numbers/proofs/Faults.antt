@@ -7,7 +7,7 @@ use native.Mathlib.Nat.{eq-zero-or-pos, le_refl, not-suc-le-zero}
 use native.Mathlib.Numerals.{sub-one}
 use native.Mathlib.Omega.{arith}
 use lib.ListN.{length, get_or}
-use Rattle.numbers.specs.declared.Number.TheVariants.{Fault}
+use Rattle.numbers.specs.Number.{Fault}
 use Rattle.numbers.specs.Number.{max_groups, largest, groups_at, number_at}
 use Rattle.numbers.specs.Form.{Cut}
 use Rattle.numbers.proofs.Cases.{with_group_fault, groups_none, groups_end, groups_more, most_fault}

@@ -10,7 +10,7 @@ use lib.Seq.{drop-drop, drop-length, get_or-drop}
 use lib.Dec.{ltb}
 use borrow.Author.Tests.{ltb-true, ltb-false}
 use Rattle.laws.proofs.Choice.{if_both}
-use Rattle.numbers.specs.declared.Number.TheVariants.{Value}
+use Rattle.numbers.specs.Number.{Value}
 use Rattle.numbers.specs.Number.{max_groups, largest, groups_at, number_at}
 use Rattle.numbers.specs.Form.{encode_in, encode, Bytes, OneForm}
 use Rattle.numbers.proofs.Cases.{with_group_value, groups_last, groups_more, most_within}

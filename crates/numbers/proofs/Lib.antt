@@ -4,4 +4,5 @@ pub mod Forms
 pub mod Faults
 pub mod Prefix
 pub mod Further
+pub mod Same
 pub mod Unique

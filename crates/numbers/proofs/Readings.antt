@@ -12,8 +12,8 @@ use lib.Seq.{drop-cons}
 use lib.Dec.{ltb, eqb, lit<}
 use borrow.Author.Tests.{ltb-true, ltb-false, eqb-false}
 use Rattle.laws.proofs.Choice.{choices, if_both}
-use Rattle.numbers.specs.declared.Number.{Number}
-use Rattle.numbers.specs.declared.Number.TheVariants.{Value, Fault}
+use Rattle.numbers.specs.Number.{Number}
+use Rattle.numbers.specs.Number.{Value, Fault}
 use Rattle.numbers.specs.Number.{max_groups, largest, with_group, groups_at, at_most, number_at}
 use Rattle.numbers.specs.Form.{encode_in, encode, Bytes, Cut}
 

@@ -1,7 +1,7 @@
 -- The number form of the layout file (section 2), as it is written, and what is said of reading it.
 use Rattle.std.specs.Prelude.{ℕ, zero, suc, ◌+◌, ◌-◌, ◌/◌, ◌%◌, ◌<◌, ◌≤◌, ◌≡◌, List, [], ◌∷◌, length, get_or, ltb}
 use Rattle.laws.specs.Choice.{when◌then◌else◌}
-use Rattle.numbers.specs.declared.Number.TheVariants.{Value}
+use Rattle.numbers.specs.Number.{Value}
 use Rattle.numbers.specs.Number.{max_groups, number_at}
 
 -- section 2, lowest group first, top bit set on every byte but the last: a number in so many groups at most

@@ -1,8 +1,11 @@
 -- The number form of the layout file (section 2), as it is read.
 use Rattle.std.specs.Prelude.{ℕ, zero, suc, ◌+◌, ◌-◌, ◌*◌, List, [], ◌∷◌, length, get_or, ltb, eqb}
 use Rattle.laws.specs.Choice.{when◌then◌else◌}
-use Rattle.numbers.specs.declared.Number.{Number}
-use Rattle.numbers.specs.declared.Number.TheVariants.{Value, Fault}
+
+-- section 2, what stands at a place: a number with the place after it, or a fault's number with the number's first place
+pub data Number : Type 0 where
+  Value : ℕ → ℕ → Number
+  Fault : ℕ → ℕ → Number
 
 -- section 2, the most bytes of a number
 abbrev pub max_groups : ℕ

@@ -1,62 +1,97 @@
--- The cases of the number of pairs, and a turn put together from what was read.
-use Prim.Native.Nat.{ℕ, ◌+◌, ◌<◌, ◌≤◌}
-use mathlib.Core.Path.{◌≡◌, refl, ap, ◌∙◌}
+-- The number of pairs, a pair and the turns, put together from what was read; and a fault met before or in them, which stays.
+use Prim.Native.Nat.{ℕ, ◌+◌, ◌<◌, ◌≤◌, min}
+use mathlib.Core.Path.{◌≡◌, refl, sym, ap, subst, ◌∙◌}
+use mathlib.Core.Bool.{true, false}
 use mathlib.Core.List.{List}
+use native.Mathlib.Numerals.{add-one}
 use native.Mathlib.Omega.{arith}
-use borrow.Author.Rules.{rules}
-use borrow.Author.Tests.{ltb-true}
+use borrow.Author.Tests.{ltb-true, ltb-false}
 use lib.Dec.{ltb}
 use lib.ListN.{set}
-use Rattle.laws.proofs.Choice.{if_eq, if_ne, if_lt, if_ge, if_both}
-use Rattle.laws.proofs.Loops.{Turned, turn_done}
-use Rattle.numbers.specs.declared.Number.{Number}
-use Rattle.numbers.specs.declared.Number.TheVariants.{Value, Fault}
-use Rattle.numbers.specs.Number.{number_at}
-use Rattle.numbers.proofs.Cases.{number_same}
+use Rattle.std.specs.Prelude.{Ok}
+use Rattle.laws.specs.Choice.{when◌then◌else◌}
+use Rattle.laws.specs.Tables.{iter}
+use Rattle.laws.proofs.Choice.{if_eq, if_ne, if_both}
+use Rattle.numbers.specs.declared.Fault.{Fault}
+use Rattle.numbers.specs.declared.Fault.TheVariants.{OutOfRange}
+use Rattle.numbers.proofs.Same.{not_none}
 use Rattle.track.specs.Sizes.{most_train_routes, most_routes, most_pairs, most_conflicts}
-use Rattle.fields.specs.declared.Cursor.{Cursor}
-use Rattle.fields.specs.Fields.{failed, judge, field, code, reference}
+use Rattle.fields.specs.Cursor.{Cursor}
+use Rattle.fields.specs.Fields.{failed, field, code, reference}
+use Rattle.fields.specs.Reading.{Stands, Met, NumberRead}
+use Rattle.fields.proofs.Laws.{code_met, reference_met, after_turns}
 use Rattle.fields.proofs.Ranges.{reference_below}
-use Rattle.pairs.specs.declared.Count.{Count}
 use Rattle.pairs.specs.declared.Pair.{Pair}
-use Rattle.pairs.specs.declared.PairRead.{PairRead}
-use Rattle.pairs.specs.declared.Pairs.{Pairs}
-use Rattle.pairs.specs.Pairs.{place_of, no_pairs, counted, pair_count, pair_of, a_pair, listed, pair_turn, no_pair, pairs_from, named}
+use Rattle.pairs.specs.Records.{PairRead, Pairs}
+use Rattle.pairs.specs.Pairs.{place_of, no_pairs, counted, pair_count, in_order, pair_of, ordered, a_pair, listed, pair_turn, no_pair, pairs_from, named, pairs}
+use Rattle.pairs.specs.Reading.{CountRead, PairGiven, PairsRead}
 
--- ---- the number of pairs, by cases
+-- ---- the number of pairs
 
-module _ (n : Number) (at : ℕ) (r : Count) where
-  -- a number above 1,128: fault 23
-  pub count_large : {v next : ℕ} → n ≡ Value v next → most_conflicts < v → r ≡ counted (failed at 23) → r ≡ counted (judge n at 0 (most_conflicts + 1) 23)
-  unfolding judge
-  count_large {v} e h q = rw e (q ∙ ap counted (if_ge v 0 _ _ _ (omega arith) (if_ge v (most_conflicts + 1) _ _ _ (omega arith) refl)))
+module _ (s : List ℕ) (c : Cursor) where
+  -- it is a number read as a code is
+  pub count_given : {n at : ℕ} → NumberRead (Ok n) at (field s c 0 (most_conflicts + 1) 23) → CountRead (Ok n) at (pair_count s c)
+  unfolding pair_count counted code
+  count_given h = (record { none = h.0.none; place = h.0.place }, h.1)
 
-  -- a number up to 1,128: it, and the place after it
-  pub count_in : {v next : ℕ} → n ≡ Value v next → v ≤ most_conflicts → r ≡ record { cur = record { at = next; fault = 0; value = 0 }; pairs = v }
-      → r ≡ counted (judge n at 0 (most_conflicts + 1) 23)
-  unfolding judge counted
-  count_in {v} e h q = rw e (q ∙ ap counted (if_ge v 0 _ _ _ (omega arith) (if_lt v (most_conflicts + 1) _ _ _ (omega arith) refl)))
+  -- a fault in place of it
+  pub count_none : {f : Fault} → Met (field s c 0 (most_conflicts + 1) 23) f → Met (pair_count s c).cur f
+  unfolding pair_count counted code
+  count_none h = record { number = h.number; place = h.place }
 
-  -- a fault of the number form: it, at its own place
-  pub count_fault : {number place : ℕ} → n ≡ Fault number place → r ≡ counted (failed place number) → r ≡ counted (judge n at 0 (most_conflicts + 1) 23)
-  unfolding judge
-  count_fault e q = rw e q
+  -- a fault before
+  count_met : {f : Fault} → Met c f → Met (pair_count s c).cur f
+  unfolding code
+  count_met h = count_none (code_met s c _ h 0 most_conflicts)
 
-module _ (s : List ℕ) (c : Cursor) (r : Count) where
-  -- with a fault before, that fault stays
-  pub count_kept : (c.fault ≡ 0 → ⊥) → r ≡ counted (failed c.at c.fault) → r ≡ pair_count s c
-  unfolding pair_count code field
-  count_kept h q = q ∙ ap counted (if_ne _ _ _ _ _ h refl)
+-- ---- a pair
 
-  -- with none, what stands at the place is judged
-  pub count_read : (n : Number) → c.fault ≡ 0 → n ≡ number_at s c.at → r ≡ counted (judge n c.at 0 (most_conflicts + 1) 23) → r ≡ pair_count s c
-  unfolding pair_count code field
-  count_read n h e q = q ∙ ap counted (if_eq _ _ _ _ _ h (ap (λ m. judge m c.at 0 (most_conflicts + 1) 23) e))
+module _ (s : List ℕ) (routes : ℕ) (c : Cursor) (last : Pair) where
+  -- the cursors behind its two numbers
+  abbrev pub first_read : Cursor
+  first_read = reference s c routes
 
--- for the number of pairs, a case at each return
-pub ruleset counts = (rules, number_same, count_large, count_in, count_fault, count_kept, count_read)
+  abbrev pub second_read : Cursor
+  second_read = reference s first_read routes
 
--- ---- the turns
+  module _ {f : Fault} where
+    -- a fault in place of its second number, of its first, and before it
+    pub pair_cut : Met second_read f → Met (a_pair s routes c last).cur f
+    unfolding a_pair ordered
+    pair_cut h =
+        let e : second_read ≡ ordered last first_read second_read = if_ne _ _ _ _ _ (λ z. not_none f (sym h.number ∙ z)) refl in
+        subst (λ (d : Cursor). Met d f) e h
+
+    pub pair_cut1 : Met first_read f → Met (a_pair s routes c last).cur f
+    pair_cut1 h = pair_cut (reference_met s first_read f h routes)
+
+    pub pair_met : Met c f → Met (a_pair s routes c last).cur f
+    pair_met h = pair_cut1 (reference_met s c f h routes)
+
+  module _ {first second between at : ℕ} (a : NumberRead (Ok first) between first_read) (b : NumberRead (Ok second) at second_read) where
+    -- its two numbers
+    both_read : record { first = first; second = second } ≡ pair_of first_read second_read
+    unfolding pair_of
+    both_read = rw (a.1, b.1)
+
+    -- it is in order
+    pub pair_made : true ≡ in_order last (record { first = first; second = second })
+        → PairGiven (Ok (record { first = first; second = second })) at (a_pair s routes c last)
+    unfolding a_pair ordered when◌then◌else◌
+    pair_made e =
+        let t : in_order last (pair_of first_read second_read) ≡ true = ap (in_order last) (sym both_read) ∙ sym e in
+        let d : second_read ≡ ordered last first_read second_read = if_eq _ _ _ _ _ b.0.none (rw t) in
+        (subst (λ (d : Cursor). Stands d at) d b.0, both_read)
+
+    -- it is not
+    pub pair_bad : false ≡ in_order last (record { first = first; second = second }) → Met (a_pair s routes c last).cur (OutOfRange between)
+    unfolding a_pair ordered failed when◌then◌else◌
+    pair_bad e =
+        let t : in_order last (pair_of first_read second_read) ≡ false = ap (in_order last) (sym both_read) ∙ sym e in
+        let d : failed first_read.at 23 ≡ ordered last first_read second_read = if_eq _ _ _ _ _ b.0.none (rw t) in
+        subst (λ (d : Cursor). Met d (OutOfRange between)) d (record { number = refl; place = a.0.place })
+
+-- ---- where a pair stands in the table
 
 -- no more routes are named than a layout has
 pub named_few : (routes : ℕ) {r : ℕ} → r ≡ named routes → r ≤ most_train_routes
@@ -64,40 +99,99 @@ unfolding named
 named_few routes e =
     rw e (if_both (λ r. r ≤ most_train_routes) (ltb routes most_train_routes) (λ t. omega (arith, ltb-true routes most_train_routes t)) (λ f. omega arith))
 
+-- the smaller of their number and 48
+named_is : (routes : ℕ) → min routes most_train_routes ≡ named routes
+unfolding named
+named_is routes =
+    if_both (λ r. min routes most_train_routes ≡ r) (ltb routes most_train_routes) (λ t. omega (arith, ltb-true routes most_train_routes t))
+    (λ f. omega (arith, ltb-false routes most_train_routes f))
+
+pub few_is : (routes : ℕ) {few : ℕ} → few ≡ min routes most_train_routes → few ≡ named routes
+few_is routes e = e ∙ named_is routes
+
 -- the place of two routes below 48 lies in the table
 pub place_inside : (i j : ℕ) {p : ℕ} → p ≡ place_of i j → i < most_routes → j < most_routes → p < most_pairs
 unfolding place_of
 place_inside i j e h k = omega arith
 
-module _ (s : List ℕ) (routes : ℕ) (c : Cursor) (last : Pair) (one : PairRead) (few : routes ≤ most_train_routes) (e : one ≡ a_pair s routes c last) where
-  -- the first route of a pair that was read is one of the table, since a reference is below the count even with a fault
-  first_below : one.pair.first < most_routes
+module _ (s : List ℕ) (routes : ℕ) (c : Cursor) (last : Pair) {p : Pair} (few : routes ≤ most_train_routes) (e : p ≡ (a_pair s routes c last).pair) where
+  -- both routes of a pair that was read are of the table, since a reference is below the count
+  first_below : p.first < most_routes
   unfolding a_pair pair_of
   first_below = rw e (reference_below s c routes most_train_routes refl few (omega arith))
 
-  -- and so is the second
-  second_below : one.pair.second < most_routes
+  second_below : p.second < most_routes
   unfolding a_pair pair_of
   second_below = rw e (reference_below s (reference s c routes) routes most_train_routes refl few (omega arith))
 
-  -- so its place lies in the table
-  pub pair_place : (p : ℕ) → p ≡ place_of one.pair.first one.pair.second → p < most_pairs
-  pair_place p q = place_inside _ _ q first_below second_below
+  -- so its place lies in the table, and so does its mirror
+  pub pair_place : {k : ℕ} → k ≡ place_of p.first p.second → k < most_pairs
+  pair_place q = place_inside _ _ q first_below second_below
 
-  -- and so does its mirror
-  pub pair_mirror : (p : ℕ) → p ≡ place_of one.pair.second one.pair.first → p < most_pairs
-  pair_mirror p q = place_inside _ _ q second_below first_below
+  pub pair_mirror : {k : ℕ} → k ≡ place_of p.second p.first → k < most_pairs
+  pair_mirror q = place_inside _ _ q second_below first_below
 
--- one pair more, from what was read of it and its two places
-pub pair_turned : (s : List ℕ) (routes i : ℕ) (cur : Cursor) (last : Pair) (conflict : List ℕ) (one : PairRead) (place mirror : ℕ)
-    → one ≡ a_pair s routes cur last → place ≡ place_of one.pair.first one.pair.second → mirror ≡ place_of one.pair.second one.pair.first
-    → record { cur = one.cur; last = one.pair; conflict = set (set conflict place 1) mirror 1 }
-    ≡ pair_turn s routes i (record { cur = cur; last = last; conflict = conflict })
-unfolding pair_turn listed
-pair_turned s routes i cur last conflict one place mirror e p m = rw (p, m, e)
+-- ---- the pairs
 
--- after the last turn all pairs are read
-pub pairs_read : (s : List ℕ) (routes : ℕ) (n : Count) (none : List ℕ) (t : Pairs) (i : ℕ)
-    → Turned n.pairs (pair_turn s routes) (record { cur = n.cur; last = no_pair; conflict = none }) t i → n.pairs ≤ i → none ≡ no_pairs → t ≡ pairs_from s routes n
-unfolding pairs_from
-pairs_read s routes n none t i h l e = rw (← e) (turn_done _ _ _ t i h l)
+module _ (s : List ℕ) (routes : ℕ) (c : Cursor) where
+  -- what i turns read
+  abbrev pub pairs_to : ℕ → Pairs
+  pairs_to i = iter (pair_turn s (named routes)) i (record { cur = (pair_count s c).cur; last = no_pair; conflict = no_pairs })
+
+  -- i pairs are read, the last before a place
+  pub record PairsDone (count : ℕ) (last : Pair) (conflict : List ℕ) (at i : ℕ) : Type 0 where
+    pub counted : count ≡ (pair_count s c).pairs
+    pub stands : Stands (pairs_to i).cur at
+    pub is_last : last ≡ (pairs_to i).last
+    pub is_conflict : conflict ≡ (pairs_to i).conflict
+
+  -- the count is read
+  pub pairs_begin : {count at : ℕ} → CountRead (Ok count) at (pair_count s c) → PairsDone count (record { first = 0; second = 0 }) no_pairs at 0
+  unfolding iter no_pair
+  pairs_begin h = record { counted = h.1; stands = h.0; is_last = refl; is_conflict = refl }
+
+  -- the pair that is read after i turns
+  abbrev pub pair_there : ℕ → PairRead
+  pair_there i = a_pair s (named routes) (pairs_to i).cur (pairs_to i).last
+
+  -- one more
+  pub pairs_next : {count at next place mirror : ℕ} {last p : Pair} {conflict : List ℕ} (i : ℕ) → PairsDone count last conflict at i
+      → PairGiven (Ok p) next (pair_there i) → place ≡ place_of p.first p.second → mirror ≡ place_of p.second p.first
+      → PairsDone count p (set (set conflict place 1) mirror 1) next (i + 1)
+  unfolding iter pair_turn listed
+  pairs_next i d h e f = rw add-one (record { counted = d.counted; stands = h.0; is_last = h.1; is_conflict = rw (d.is_conflict, e, f, h.1) })
+
+  -- each turn keeps a fault
+  pairs_kept : (f : Fault) (i : ℕ) (t : Pairs) → Met t.cur f → Met (pair_turn s (named routes) i t).cur f
+  unfolding pair_turn
+  pairs_kept f i t h = pair_met s (named routes) t.cur t.last h
+
+  -- a fault met after i turns
+  pairs_stop : (f : Fault) (i : ℕ) → i ≤ (pair_count s c).pairs → Met (pairs_to i).cur f → Met (pairs s routes c).cur f
+  unfolding pairs pairs_from
+  pairs_stop f i l h = after_turns (λ (t : Pairs). Met t.cur f) (pair_turn s (named routes)) _ (pairs_kept f) i (pair_count s c).pairs l h
+
+  -- a fault in place of the count
+  pub pairs_none : {f : Fault} → Met (pair_count s c).cur f → Met (pairs s routes c).cur f
+  unfolding iter
+  pairs_none h = pairs_stop _ 0 (omega arith) h
+
+  -- a fault before
+  pub pairs_met : {f : Fault} → Met c f → Met (pairs s routes c).cur f
+  pairs_met h = pairs_none (count_met s c h)
+
+  -- a fault in place of a pair
+  pub pairs_cut : {count at : ℕ} {f : Fault} {last : Pair} {conflict : List ℕ} (i : ℕ) → PairsDone count last conflict at i → i < count
+      → Met (pair_there i).cur f → Met (pairs s routes c).cur f
+  unfolding iter pair_turn
+  pairs_cut i d l h = pairs_stop _ (i + 1) (omega (arith, d.counted)) (rw add-one h)
+
+  -- all are read
+  pub pairs_end : {count at : ℕ} {last : Pair} {conflict : List ℕ} (i : ℕ) → PairsDone count last conflict at i → i ≤ count → count ≤ i
+      → PairsRead (Ok (record { last = last; conflict = conflict })) at (pairs s routes c)
+  unfolding pairs pairs_from
+  pairs_end {count} {at} i d l h =
+      let e : i ≡ (pair_count s c).pairs = omega (arith, d.counted) in (
+        subst (λ j. Stands (pairs_to j).cur at) e d.stands,
+        (d.is_last ∙ ap (λ j. (pairs_to j).last) e, d.is_conflict ∙ ap (λ j. (pairs_to j).conflict) e),
+      )

@@ -156,12 +156,15 @@ fn play_named(
 
 // The layout in the first n bytes of a file.
 fn layout_of(file: &[u8], n: usize) -> Layout {
-    if file.len() < n {
-        let loaded = layout::load(file);
-        return loaded.layout;
+    let loaded = if file.len() < n {
+        layout::load(file)
+    } else {
+        layout::load(&file[0..n])
+    };
+    match loaded {
+        Ok(layout) => layout,
+        Err(_) => layout::no_layout(),
     }
-    let loaded = layout::load(&file[0..n]);
-    loaded.layout
 }
 
 // The layout with the sections that the first n bytes of a file tell as fitted.
@@ -169,8 +172,10 @@ fn equipped(plan: Layout, file: &[u8], n: usize) -> Layout {
     if file.len() < n {
         return plan;
     }
-    let fitting = fitted::fit(plan, &file[0..n]);
-    fitting.layout
+    match fitted::fit(plan, &file[0..n]) {
+        Ok(equipped) => equipped,
+        Err(_) => plan,
+    }
 }
 
 // The layout in the file that an argument names.

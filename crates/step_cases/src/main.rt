@@ -223,10 +223,17 @@ fn equip_by(
         return Ok(plan);
     }
     read_full(rt, archive, &mut room[0..n])?;
-    let fitting = fitted::fit(plan, &room[0..n]);
     console::print(rt, b" ")?;
-    write_answer(rt, fitting.number, fitting.detail)?;
-    Ok(fitting.layout)
+    match fitted::fit(plan, &room[0..n]) {
+        Ok(equipped) => {
+            write_answer(rt, 0, 0)?;
+            Ok(equipped)
+        }
+        Err(fault) => {
+            write_answer(rt, fault.number(), fault.detail())?;
+            Ok(plan)
+        }
+    }
 }
 
 // The same of the next file of the archive, where it has bytes.
@@ -241,9 +248,17 @@ fn equip(rt: &HostRuntime, archive: &mut File, plan: Layout) -> Result<Layout, R
 
 // Plays a run on a layout file.
 fn play_on(rt: &HostRuntime, archive: &mut File, file: &[u8]) -> Result<(), Reported> {
-    let loaded = layout::load(file);
-    write_answer(rt, loaded.number, loaded.detail)?;
-    let plan = equip(rt, archive, loaded.layout)?;
+    let loaded = match layout::load(file) {
+        Ok(layout) => {
+            write_answer(rt, 0, 0)?;
+            layout
+        }
+        Err(fault) => {
+            write_answer(rt, fault.number(), fault.detail())?;
+            layout::no_layout()
+        }
+    };
+    let plan = equip(rt, archive, loaded)?;
     console::print(rt, b"\n")?;
     let state = State::cold();
     let given = Records { plan, state };
