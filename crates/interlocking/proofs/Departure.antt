@@ -1,12 +1,11 @@
 -- Setting a route, with its line secured first where it is an exit route on a neutral line (L5): of the tables that locking it leaves alone, only the
 -- directions are another.
 use Prim.Native.Nat.{ℕ}
-use mathlib.Core.Path.{◌≡◌, refl, sym, ap, ◌∙◌}
+use mathlib.Core.Path.{◌≡◌, refl, ap, ◌∙◌}
 use mathlib.Core.Bool.{Bool, true, false}
 use mathlib.Core.List.{List}
 use Rattle.laws.specs.Choice.{when◌then◌else◌}
 use Rattle.laws.specs.Tables.{put}
-use Rattle.laws.proofs.Choice.{chosen, passed_over}
 use Rattle.track.specs.declared.Route.{Route}
 use Rattle.track.specs.Codes.{leaving}
 use Rattle.track.specs.Objects.{route}
@@ -36,16 +35,6 @@ first_lines s a = go (departs s.direction a)
 pub set_lines : (rs : List Route) (s : State) (r : ℕ) → own_set rs s r ≡ own_lock (with_lines s (first_directions s.direction (route rs r)) s.stage) r
 unfolding own_set
 set_lines rs s r = ap (λ t. own_lock t r) (first_lines s (route rs r))
-
--- as the code secures it, where d says that it is to
-module _ (s : Core) (a : Route) (d : Bool) (e : d ≡ departs s.direction a) where
-  pub first_secured : (w : ℕ) (t : Core) → d ≡ true → w ≡ leaving a.end → t ≡ core_of (own_secure (bare s) a.line w) → t ≡ core_of (secure_first (bare s) a)
-  unfolding secure_first
-  first_secured w t h q x = rw q at x ∙ ap core_of (sym (chosen _ _ _ (sym e ∙ h)))
-
-  pub first_stays : d ≡ false → s ≡ core_of (secure_first (bare s) a)
-  unfolding secure_first core_of
-  first_stays h = ap core_of (sym (passed_over _ _ _ (sym e ∙ h)))
 
 -- what setting a route does looks at no lamp
 pub set_moved : (s : Core) (lamps : List ℕ) (rs : List Route) (r : ℕ) (a : Route) (first t : Core) → a ≡ route rs r → first ≡ core_of (secure_first (bare s) a)

@@ -1,21 +1,17 @@
 -- The cases of what an event itself does and of a state's ranges, each from the facts that choose it.
-use Prim.Native.Nat.{ℕ, ◌*◌, ◌/◌, ◌%◌, ◌≤◌}
+use Prim.Native.Nat.{ℕ, ◌*◌, ◌≤◌}
 use mathlib.Core.Path.{◌≡◌, sym, ◌∙◌}
-use mathlib.Core.Bool.{Bool, true, false, ◌&&◌}
+use mathlib.Core.Bool.{Bool, ◌&&◌}
 use mathlib.Core.List.{List}
 use native.Mathlib.Omega.{arith}
-use lib.Dec.{eqb, ltb}
 use lib.ListN.{length, set}
 use lib.Seq.{set_out}
-use Rattle.laws.specs.Tests.{◌and◌, every}
+use Rattle.laws.specs.Tests.{every}
 use Rattle.laws.specs.Tables.{each, put}
-use Rattle.laws.proofs.Choice.{if_true, if_false, if_eq, if_ne}
 use Rattle.laws.proofs.Each.{put_set}
 use Rattle.track.specs.declared.Line.{Line}
 use Rattle.track.specs.Codes.{free, left, right, reads_none, neutral, b_to_a, open_block, stage3, idle, at_proceed, cancelling, lamp_stop, lamp_none}
 use Rattle.track.specs.Sizes.{most_sections, most_points, most_lines, most_blocks, most_places, most_train_routes, most_routes, most_lamps}
-use Rattle.track.specs.Objects.{line}
-use Rattle.tables.specs.Readings.{point_reading}
 use Rattle.tables.specs.Blocks.{place}
 use Rattle.line_block.specs.Entries.{few_lines}
 use Rattle.line_block.specs.OwnReadings.{own_stages}
@@ -34,28 +30,6 @@ put_inside n xs a v q e = e ∙ put_set n xs a v q
 -- past the table's end nothing is stored
 pub put_past : (n : ℕ) (xs : List ℕ) (a v : ℕ) {ys : List ℕ} → length xs ≡ n → n ≤ a → ys ≡ xs → ys ≡ put n xs a v
 put_past n xs a v q b e = e ∙ sym (set_out xs a v (omega arith)) ∙ put_set n xs a v q
-
--- the point already reads the position that it is thrown to: it reads that
-pub throw_kept : (points : List ℕ) (p w x r : ℕ) → x ≡ point_reading points p → x ≡ w → r ≡ w → r ≡ throw_reading points p w
-unfolding throw_reading
-throw_kept points p w x r e h q = if_eq (point_reading points p) w _ _ r (sym e ∙ h) q
-
--- it does not: it reads none
-pub throw_lost : (points : List ℕ) (p w x r : ℕ) → x ≡ point_reading points p → (x ≡ w → ⊥) → r ≡ reads_none → r ≡ throw_reading points p w
-unfolding throw_reading
-throw_lost points p w x r e h q = if_ne (point_reading points p) w _ _ r (λ z. h (e ∙ z)) q
-
--- the stage of a block that is opened by hand, and of one that is not
-module _ (ls : List Line) (l k was r : ℕ) (b : Line) (e : b ≡ line ls l) where
-  -- a block of that line is opened
-  pub open_here : eqb (k / most_blocks) l && ltb (k % most_blocks) b.blocks ≡ true → r ≡ open_block → r ≡ open_at ls l k was
-  unfolding open_at ◌and◌
-  open_here h q = if_true _ _ _ r (rw (← e) h) q
-
-  -- any other place stays
-  pub open_elsewhere : eqb (k / most_blocks) l && ltb (k % most_blocks) b.blocks ≡ false → r ≡ was → r ≡ open_at ls l k was
-  unfolding open_at ◌and◌
-  open_elsewhere h q = if_false _ _ _ r (rw (← e) h) q
 
 -- ---- what each event itself does, put together from its stores
 

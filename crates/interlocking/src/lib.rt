@@ -65,7 +65,8 @@ pub struct State {
     pub lamp: [u8; LAMPS],
 }
 
-// The answer to an event: 0 and 0 with the next state, or a refusal's number and detail with the state as it was.
+// The answer to an event: 0 and 0 with the next state, or a refusal's number and detail with the state as it was. The number stays beside the state: so
+// the C interface has it, and `answered_by` and the theorems of `step_facts`, `safety` and `way_out` speak of these fields.
 #[derive(Clone, Copy)]
 pub struct Answer {
     pub number: u8,
@@ -73,7 +74,7 @@ pub struct Answer {
     pub next: State,
 }
 
-// The same of the nine tables and of the heads of the section that the event names.
+// The same of the nine tables and of the heads of the section that the event names, for the same reason (`core_step`, `together`).
 #[derive(Clone, Copy)]
 pub struct CoreAnswer {
     pub number: u8,
@@ -83,7 +84,8 @@ pub struct CoreAnswer {
 }
 
 // An event tried, before signals, far sections, routes and lines follow: 0 and 0 with the tables that it makes itself and what it gives, or a
-// refusal's number and detail with the tables as they were.
+// refusal's number and detail with the tables as they were. It is made of what the event answered (`trial::tried_by`), since `tried` and `followed` speak
+// of its fields.
 #[derive(Clone, Copy)]
 pub struct Tried {
     pub next: Core,
@@ -96,6 +98,7 @@ pub struct Tried {
 impl State {
     // The cold start: everything reads none, no order, no route, no line secured, every block held in stage 0, no bar,
     // every head silent, every lamp at none.
+    #[tactic(auto, unfolding(crate::specs::State::cold))]
     pub fn cold() -> State
         ensures { result ≡ cold }
     {

@@ -89,6 +89,7 @@ pub fn secure(s: Core, l: u8, w: u8) -> Core
 }
 
 // 4, before it locks: where a route is an exit route on a neutral line, the line is secured the route's way (request L5).
+#[tactic(auto, using(reasons::proofs::Decided::decided), unfolding(crate::specs::Own::secure_first, crate::specs::Parts::core_of))]
 pub fn secure_first(s: Core, a: Route) -> Core
     ensures { result ≡ core_of (secure_first (bare s) a) }
 {
@@ -150,6 +151,7 @@ pub fn set_bar(s: Core, l: u8, i: u32, on: u8) -> Core
 }
 
 // The reading of a point that is thrown to w: none, unless it already read that position.
+#[tactic(auto, using(reasons::proofs::Decided::decided), unfolding(crate::specs::Own::throw_reading))]
 fn thrown_reading(points: &[u8; POINTS], p: u8, w: u8) -> u8
     ensures { result ≡ throw_reading points.now p w }
 {

@@ -74,6 +74,7 @@ pub fn whole(c: Core, axles: [Axles; SECTIONS], lamp: [u8; LAMPS]) -> State
 }
 
 // The event is one of heads.
+#[tactic(auto, using(crate::proofs::Trying::both_are), unfolding(crate::specs::Parts::is_of_heads, track::specs::Lists::between))]
 pub(super) fn is_of_heads(kind: u32) -> bool
     ensures { result ≡ is_of_heads kind }
 {
@@ -81,6 +82,7 @@ pub(super) fn is_of_heads(kind: u32) -> bool
 }
 
 // The section that an event of heads names.
+#[tactic(auto, using(reasons::proofs::Decided::decided), unfolding(crate::specs::Own::head_section))]
 pub(super) fn head_section(kind: u32, first: u32) -> u32
     ensures { result ≡ head_section kind first }
 {
@@ -91,6 +93,7 @@ pub(super) fn head_section(kind: u32, first: u32) -> u32
 }
 
 // The place of that section's heads in the table; 0 for an event that names none.
+#[tactic(auto, using(reasons::proofs::Decided::decided, crate::proofs::Trying::both_are), unfolding(crate::specs::Parts::head_place))]
 pub fn head_place(kind: u32, first: u32) -> usize
     ensures { result ≡ head_place kind first }
 {
@@ -103,6 +106,7 @@ pub fn head_place(kind: u32, first: u32) -> usize
 }
 
 // What an event makes of the heads of the section that it names.
+#[tactic(auto, using(reasons::proofs::Decided::decided), unfolding(crate::specs::Parts::heads_then, crate::specs::Own::heads_by))]
 pub fn heads_then(x: Axles, kind: u32, first: u32, second: u32) -> Axles
     ensures { result ≡ heads_then x kind first second }
 {
@@ -118,6 +122,7 @@ pub fn heads_then(x: Axles, kind: u32, first: u32, second: u32) -> Axles
 }
 
 // The lamps after an event that was answered by a number: where it was accepted and reports a lamp, that report is stored.
+#[tactic(auto, using(reasons::proofs::Decided::decided, crate::proofs::Trying::both_are), unfolding(crate::specs::Parts::lamps_then))]
 pub fn lamps_then(lamps: &mut [u8; LAMPS], number: u8, kind: u32, first: u32, second: u32)
     ensures { lamps.new ≡ lamps_then lamps.old number kind first second }
 {

@@ -5,12 +5,12 @@ use Rattle.reasons.specs.declared.answers.Reason.{Reason}
 use Rattle.reasons.specs.Told.{number_of}
 use Rattle.reasons.proofs.Told.{number_given}
 use mathlib.Core.Path.{◌≡◌, refl, sym, ap, fun_ext, ◌∙◌}
-use mathlib.Core.Bool.{Bool, true, false}
+use mathlib.Core.Bool.{Bool, true}
 use mathlib.Core.List.{List, [], ◌∷◌}
 use native.Mathlib.Omega.{arith}
 use borrow.Author.Tests.{le-leb}
 use lib.Dec.{eqb, ltb, leb}
-use lib.ListN.{length, get_or, get_or-eq_default}
+use lib.ListN.{length, get_or}
 use Rattle.laws.specs.Tests.{◌and◌, lowest}
 use Rattle.laws.proofs.Arrays.{read_past, lent_at}
 use Rattle.laws.proofs.Choice.{if_eq, if_ne, if_true, if_false, Is, holds, fails, which, chosen, passed_over}
@@ -156,7 +156,3 @@ module _ (L : Layout) (l i : ℕ) where
   pub no_block : length L.line ≤ l → true ≡ leb (line_in L l).blocks i
   unfolding line_in line no_line
   no_block h = sym (le-leb 0 i (omega arith)) ∙ ap (λ (b : Line). leb b.blocks i) (read_past L.line l (length L.line) no_line no_line refl h refl)
-
--- past the table of fitted sections there is none
-pub none_fitted_past : (fitted : List ℕ) (g : ℕ) → length fitted ≡ most_sections → most_sections ≤ g → false ≡ eqb (get_or fitted g 0) 1
-none_fitted_past fitted g e h = ap (λ n. eqb n 1) (sym (get_or-eq_default fitted 0 (omega arith)))

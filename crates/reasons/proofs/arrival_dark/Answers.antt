@@ -2,6 +2,7 @@
 use Rattle.reasons.specs.Reasons.{arrival_dark}
 use Rattle.reasons.proofs.arrival_dark.Goals as goal
 
+-- the answer
 pub returns : goal.returns
 unfolding arrival_dark
 returns c = cc

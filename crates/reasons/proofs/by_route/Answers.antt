@@ -5,10 +5,12 @@ use Rattle.laws.proofs.Arrays.{length_mapped}
 use Rattle.reasons.specs.Reasons.{by_route}
 use Rattle.reasons.proofs.by_route.Goals as goal
 
+-- one is found
 pub returns-in-Some : goal.returns-in-Some
 unfolding by_route
 returns-in-Some c = search (rules, length_mapped, found_some)
 
+-- none is found
 pub returns-in-None : goal.returns-in-None
 unfolding by_route
 returns-in-None c = search (rules, length_mapped, found_none)

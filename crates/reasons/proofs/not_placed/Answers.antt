@@ -5,10 +5,12 @@ use Rattle.laws.proofs.Arrays.{length_mapped}
 use Rattle.reasons.specs.Reasons.{not_placed}
 use Rattle.reasons.proofs.not_placed.Goals as goal
 
+-- one is found
 pub returns-in-Some : goal.returns-in-Some
 unfolding not_placed
 returns-in-Some c = search (rules, length_mapped, found_some)
 
+-- none is found
 pub returns-in-None : goal.returns-in-None
 unfolding not_placed
 returns-in-None c = search (rules, length_mapped, found_none)

@@ -7,12 +7,15 @@ use Rattle.interlocking.specs.Parts.{core_of, headless}
 use Rattle.interlocking.proofs.Trying.{moves_on, misfit_none, lines_known, heads_moved, reading_given, fitted_known}
 use Rattle.interlocking.proofs.heads.said_of.Goals as goal
 
+-- the section has heads
 pub fitted_number-section-requires : goal.fitted_number-section-requires
 fitted_number-section-requires c = fitted_known _ _ _ _ _ c.in_ok-numbers_refusal.ensures _ _ _ c.refused_if-misfit.ensures c.is_fitted.ensures
 
+-- there are no more lines than the tables hold
 pub read_section-requires : goal.read_section-requires
 read_section-requires c = lines_known _ _ _ _ _ c.in_ok-numbers_refusal.ensures _ c.requires
 
+-- done
 pub returns : goal.returns
 unfolding head_row
 returns c =

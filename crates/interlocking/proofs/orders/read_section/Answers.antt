@@ -7,6 +7,7 @@ use Rattle.interlocking.specs.Parts.{core_of}
 use Rattle.interlocking.specs.State.{with_sections}
 use Rattle.interlocking.proofs.orders.read_section.Goals as goal
 
+-- the answer
 pub returns : goal.returns
 unfolding with_sections core_of
 returns c =

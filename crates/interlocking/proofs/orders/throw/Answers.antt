@@ -5,6 +5,7 @@ use Rattle.interlocking.specs.Parts.{core_of}
 use Rattle.interlocking.specs.State.{with_points}
 use Rattle.interlocking.proofs.orders.throw.Goals as goal
 
+-- the answer
 pub returns : goal.returns
 unfolding with_points core_of
 returns c = search (rules, throw_made)

@@ -3,5 +3,6 @@ use borrow.Author.Rules.{rules}
 use Rattle.reasons.proofs.InTheWay.{point_found}
 use Rattle.reasons.proofs.searches.lowest_misplaced.Goals as goal
 
+-- the answer
 pub returns : goal.returns
 returns c = search (rules, point_found)

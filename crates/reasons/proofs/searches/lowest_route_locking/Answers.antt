@@ -2,14 +2,18 @@
 use Rattle.reasons.proofs.SearchLaws.{routes}
 use Rattle.reasons.proofs.searches.lowest_route_locking.Goals as goal
 
+-- before the first turn
 pub loop-r-init : goal.loop-r-init
 loop-r-init c = search routes
 
+-- one turn more
 pub loop-r-preserved : goal.loop-r-preserved
 loop-r-preserved c = search routes
 
+-- none is found
 pub returns : goal.returns
 returns c = search routes
 
+-- it leaves here
 pub returns-then-route_locks : goal.returns-then-route_locks
 returns-then-route_locks c = search routes
