@@ -25,7 +25,7 @@ use track::sizes::{
     LAMPS, MOST_DISTANTS, MOST_LINES, MOST_POINTS, MOST_SECTIONS, MOST_SIGNALS, MOST_TRAIN_ROUTES,
 };
 
-// The answer to a request for the image: 0 and how many bytes it has; 18 or 27 and 0.
+// The answer to a request for the image: 0 and how many bytes it has; 18 or 27 and 0. A number with a value beside it, as the C interface has it.
 #[repr(C)]
 #[derive(Clone, Copy)]
 pub struct Drawn {
