@@ -62,7 +62,7 @@ pub fn put_lines<'a>(
 {
     let mut next = at;
     for l in 0..n {
-        next = put_line(line_at(*ls, l), t, l, buffer, next);
+        next = put_line(line_at(ls, l), t, l, buffer, next);
     }
     next
 }
@@ -73,7 +73,7 @@ pub fn count_blocks(n: u8, ls: &[Line; LINES]) -> usize
 {
     let mut count: usize = 0;
     for l in 0..n {
-        count += line_at(*ls, l).blocks as usize;
+        count += line_at(ls, l).blocks as usize;
     }
     count
 }
