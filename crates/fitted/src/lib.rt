@@ -23,17 +23,11 @@ pub struct Told {
 #[derive(Clone, Copy)]
 pub enum End {
     // The next number, whose place this is, lies past the piece's end.
-    Later {
-        at: usize,
-    },
+    Later { at: usize },
     // At the file's end.
-    AtEnd {
-        at: usize,
-    },
+    AtEnd { at: usize },
     // At a fault.
-    Bad {
-        fault: Fault,
-    },
+    Bad { fault: Fault },
 }
 
 // How far a piece of the file was read: what was told until then, and where it ended.

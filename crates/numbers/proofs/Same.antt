@@ -8,7 +8,6 @@ use Rattle.laws.specs.Choice.{when◌then◌else◌}
 use Rattle.numbers.specs.declared.Given.{Given}
 use Rattle.numbers.specs.declared.Fault.{Fault}
 use Rattle.numbers.specs.declared.Fault.TheVariants.{EndsEarly, BadlyFormed, OutOfRange, NoSuchObject, RuleBroken, LeftOver}
-use Rattle.numbers.specs.Number.{Value, Fault as Failed}
 use Rattle.numbers.specs.Given.{number_of, detail_of, given}
 
 -- the fault of a number, told of a place
@@ -47,13 +46,6 @@ not_none f e = omega (arith, from_21 f)
 -- two faults of one number, told of one place, are one
 pub fault_same : (f g : Fault) → number_of f ≡ number_of g → detail_of f ≡ detail_of g → f ≡ g
 fault_same f g n d = cc (of_its_number f, of_its_number g)
-
--- what is given, by the result
-pub given_ok : {r : Result Given Fault} {a : Given} → r ≡ Ok a → given r ≡ Value a.value a.next
-given_ok e = ap given e
-
-pub given_err : {r : Result Given Fault} {f : Fault} → r ≡ Err f → given r ≡ Failed (number_of f) (detail_of f)
-given_err e = ap given e
 
 -- two results that are given alike are one
 pub given_same : (r q : Result Given Fault) → given r ≡ given q → r ≡ q
