@@ -9,7 +9,6 @@ use Rattle.block_lengths.specs.declared.Refusal.{Refusal}
 use Rattle.block_lengths.specs.declared.Refusal.TheVariants.{BadHeadway, BadSpeed}
 use Rattle.block_lengths.specs.Lengths.{refusal}
 use Rattle.block_lengths.specs.Told.{told}
-use Rattle.block_lengths.proofs.Refusal.number.Reads as number
 use Rattle.block_lengths.proofs.lengths.Reads as lengths
 use Rattle.block_lengths.proofs.hiruketawha_lengths.Reads as hiruketawha_lengths
 use Rattle.block_lengths.proofs.metres.millimetres.Reads as millimetres
@@ -43,7 +42,3 @@ millimetres_determined κs a r q s = only
 -- the speed of a column
 pub speed_of_determined : Determines speed_of.Post
 speed_of_determined κs a r q s = only
-
--- a refusal's number
-pub number_determined : Determines number.Post
-number_determined κs a r q s = only

@@ -43,7 +43,7 @@ pub enum Refusal {
 
 impl Refusal {
     // The refusal's number.
-    pub fn number(self) -> u8
+    fn number(self) -> u8
         ensures { result ≡ refusal_number self }
     {
         match self {
