@@ -63,13 +63,13 @@ fn run(rt: &HostRuntime) -> Result<(), Reported> {
     match console::argument_count(rt) {
         1 => return sheet(rt),
         3 => {
-            let mut first = [0u8; 4096];
-            let mut second = [0u8; 4096];
-            if let (Some(f), Some(s)) = (
-                console::argument(rt, 1, &mut first),
-                console::argument(rt, 2, &mut second),
+            let mut headway = [0u8; 4096];
+            let mut speed = [0u8; 4096];
+            if let (Some(headway), Some(speed)) = (
+                console::argument(rt, 1, &mut headway),
+                console::argument(rt, 2, &mut speed),
             ) {
-                return with_arguments(rt, &first[..f], &second[..s]);
+                return with_arguments(rt, headway, speed);
             }
         }
         _ => {}
