@@ -6,20 +6,14 @@ use Rattle.layout.specs.declared.Layout.{Layout}
 use Rattle.interlocking.specs.declared.State.{State}
 use Rattle.interlocking.specs.State.{cold}
 use Rattle.cabinet.specs.Calls.{Records, records, after_file}
-use Rattle.cabinet.specs.Cabinet.{file_over}
-use Rattle.cabinet.specs.declared.LoadedOver.{LoadedOver}
 
-module _ (L : Layout) (s : State) (number detail : ℕ) (made : Layout) where
-  -- the answer's number and detail with records
-  abbrev leaving : Records → LoadedOver
-  leaving left = record { number = number; detail = detail; layout = left.layout; state = left.state }
-
+module _ (before : Records) (number : ℕ) (made : Layout) where
   -- an accepted file: the layout that it makes, and the state that starts anew
-  pub file_accepted : (anew : State) → anew ≡ cold → number ≡ 0 → leaving (records made anew) ≡ file_over (records L s) number detail made
-  unfolding file_over after_file
-  file_accepted anew c h = ap (λ (t : State). leaving (records made t)) c ∙ ap leaving (if_eq _ _ _ _ _ h refl)
+  pub file_accepted : (anew : State) → anew ≡ cold → number ≡ 0 → records made anew ≡ after_file before number made
+  unfolding after_file
+  file_accepted anew c h = ap (records made) c ∙ if_eq _ _ _ _ _ h refl
 
   -- a refused one: the records before
-  pub file_refused : (number ≡ 0 → ⊥) → leaving (records L s) ≡ file_over (records L s) number detail made
-  unfolding file_over after_file
-  file_refused h = ap leaving (if_ne _ _ _ _ _ h refl)
+  pub file_refused : (number ≡ 0 → ⊥) → before ≡ after_file before number made
+  unfolding after_file
+  file_refused h = if_ne _ _ _ _ _ h refl
