@@ -9,13 +9,10 @@ ghost use Rattle.load_bench.specs.Packed.{packed};
 use layout::Layout;
 
 // The overlap section at a place of a route.
-fn look(l: Layout, r: u8, place: u8) -> u8
-    ensures { result ≡ get_or (route l.route r).overlap place 0 }
+fn look(l: &Layout, r: u8, place: u8) -> u8
+    ensures { result ≡ get_or (route l.now.route r).overlap place 0 }
 {
-    let rs = l.route;
-    let x = track::route_at(rs, r);
-    let overlap = x.overlap;
-    laws::at8(overlap, place)
+    laws::at8(track::route_at(l.route, r).overlap, place)
 }
 
 // The answer in the lowest byte, then 16 bits of the detail, then a section.
@@ -31,7 +28,6 @@ pub extern "C" fn load_bench_answer(bytes: &[u8], r: u8, place: u8) -> u64
     ensures { result ≡ packed (load bytes.now) r place }
 {
     let loaded = layout::load(bytes);
-    let l = loaded.layout;
-    let section = look(l, r, place);
+    let section = look(&loaded.layout, r, place);
     pack(loaded.number, loaded.detail, section)
 }
