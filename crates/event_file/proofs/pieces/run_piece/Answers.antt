@@ -1,44 +1,29 @@
--- The run came as far as its first i turns, and did not stop; its state is held in three parts.
-use Prim.Native.Nat.{◌-◌, ◌≤◌}
+-- Each turn answers the event that stands there, and its state is held in three parts.
 use mathlib.Core.Path.{◌≡◌, refl, sym, subst}
 use mathlib.Core.Bool.{true}
 use native.Mathlib.Omega.{arith}
 use borrow.Author.Rules.{rules}
 use lib.ListN.{length}
-use Rattle.laws.specs.Tables.{iter}
 use Rattle.laws.proofs.Arrays.{length_mapped}
 use Rattle.track.specs.Sizes.{most_sections}
-use Rattle.interlocking.specs.Parts.{whole, together}
+use Rattle.interlocking.specs.Parts.{together}
 use Rattle.interlocking.proofs.Lifted.{place_small}
-use Rattle.step_facts.specs.Run.{box_in_run}
-use Rattle.event_file.specs.Lines.{shown_in_run}
-use Rattle.event_file.specs.Run.{turn_run, start, turns, so_far, Went}
 use Rattle.event_file.proofs.PanelText.{most_panel, most_plain, line_plain, line_panel}
 use Rattle.event_file.proofs.Reading.{next_same}
 use Rattle.event_file.proofs.Turns.{runs, run_full, run_halted, run_taken, run_done}
 use Rattle.event_file.proofs.Parted.{from_parts, so_far_whole, so_far_tables, line_of_whole, run_together, heads_kept}
-use Rattle.event_file.proofs.pieces.run_piece.Lts.{then-panel, else-panel, then-kind-ge-AXLES_IN, else-kind-ge-AXLES_IN}
-use Rattle.event_file.proofs.pieces.run_piece.Statement.{statement}
-use Rattle.event_file.proofs.pieces.run_piece.Tie as tie
-
-abbrev invariant-loop : tie.invariant-loop
-invariant-loop panel layout count₀ bytes at₀ last out₀ core₀ axles₀ lamps₀ written₀ turn₀ count at out core axles lamps written turn =
-    (turn ≤ turns) × (length axles ≡ most_sections)
-    × Went out₀ 0 (length out₀) out (so_far (whole core axles lamps) count at written)
-    (iter (λ k. turn_run (box_in_run layout) panel (shown_in_run layout) last bytes (length out₀)) turn (start (whole core₀ axles₀ lamps₀) count₀ at₀))
-
-abbrev decreases-loop : tie.decreases-loop
-decreases-loop panel layout count₀ bytes at₀ last out₀ core₀ axles₀ lamps₀ written₀ turn₀ count at out core axles lamps written turn = turns - turn
+use Rattle.event_file.proofs.pieces.run_piece.Goals.{then-panel, else-panel, then-kind-ge-AXLES_IN, else-kind-ge-AXLES_IN}
+use Rattle.event_file.proofs.pieces.run_piece.Goals as goal
 
 -- no turn is made yet, and the table of heads is as long as its array
-loop-holds : tie.Need-loop-init invariant-loop decreases-loop
-loop-holds c =
+pub loop-init : goal.loop-init
+loop-init c =
     let start = c in
     (omega arith, search (rules, length_mapped, start.well_formed.1.1.0.1.1.1.1.1.1.1.1.1.1.1.0), search runs)
 
 -- no room for another line
-full : tie.Need-returns-then-out-written invariant-loop decreases-loop
-full c =
+pub returns-then-out-written : goal.returns-then-out-written
+returns-then-out-written c =
     let asked = c in
     let turn = asked in
     from_parts _ _ _ _ _ _ _ _ _ _ _ _ _ turn.core_of-core.ensures
@@ -46,8 +31,8 @@ full c =
     (so_far_whole _ _ _ _ _ _ c.whole.ensures c.so_far.ensures) c.halt.ensures)
 
 -- no event stands at the next place
-halted : tie.Need-returns-in_default invariant-loop decreases-loop
-halted c =
+pub returns-in_default : goal.returns-in_default
+returns-in_default c =
     let found = c in
     let asked = found in
     let turn = asked in
@@ -57,29 +42,29 @@ halted c =
     (so_far_whole _ _ _ _ _ _ c.whole-in_default.ensures c.so_far-in_default.ensures) c.halt_by.ensures)
 
 -- all turns are made
-done : tie.Need-returns invariant-loop decreases-loop
-done c =
+pub returns : goal.returns
+returns c =
     let turn = c in
     from_parts _ _ _ _ _ _ _ _ _ _ _ _ _ turn.core_of-core.ensures
     (run_done _ _ _ _ _ _ _ _ _ _ _ _ _ turn.loop.invariant.2 (so_far_whole _ _ _ _ _ _ c.whole-2.ensures c.so_far-2.ensures) turn.loop.invariant.0
     (omega (arith, c.loop-test.false)))
 
 -- a line that has room, with the panel
-put_panel_line_requires : tie.Need-put_panel_line-written-requires invariant-loop decreases-loop
-put_panel_line_requires c κs =
+pub put_panel_line-written-requires : goal.put_panel_line-written-requires
+put_panel_line-written-requires c =
     let asked = c in
     omega (arith, asked.if-out-written.false, asked.most_line.ensures, most_panel _ c.if-panel.true, most_panel true refl)
 
 -- without it
-put_line_requires : tie.Need-put_line-written-requires invariant-loop decreases-loop
-put_line_requires c κs =
+pub put_line-written-requires : goal.put_line-written-requires
+put_line-written-requires c =
     let asked = c in
     omega (arith, asked.if-out-written.false, asked.most_line.ensures, most_plain _ c.if-panel.false)
 
 -- the event that stands there is answered, the heads that it leaves and the lamp that it reports are stored, and its line is written, with the panel or without
-loop-again : tie.Need-loop-preserved invariant-loop decreases-loop
+pub loop-preserved : goal.loop-preserved
 unfolding together
-loop-again c =
+loop-preserved c =
     let answered = c in
     let named = answered in
     let found = named in
@@ -99,42 +84,19 @@ loop-again c =
           ])),
     )
 
-pub run_piece_spec : {M : Type 1} → statement M
-run_piece_spec =
-    tie.close
-    (tie.spec
-    invariant-loop
-    decreases-loop
-    (λ c κs. search rules)
-    loop-holds
-    (λ c. search runs)
-    (λ c κs. search rules)
-    (λ c κs. search rules)
-    (λ c κs. search rules)
-    (λ c κs. search rules)
-    (λ c. search rules)
-    full
-    (λ c κs. search rules)
-    (λ c. search rules)
-    (λ c κs. search rules)
-    (λ c κs. search rules)
-    (λ c κs. search rules)
-    (λ c. c.loop.invariant.2.text.long)
-    halted
-    (λ c κs. search rules)
-    (λ c. search (rules, place_small _ _ _ c.head_place-place.ensures))
-    (λ c. search (rules, place_small _ _ _ c.head_place-place.ensures))
-    (λ c κs. search rules)
-    (λ c. search (rules, place_small _ _ _ c.head_place-place.ensures))
-    (λ c. search (rules, place_small _ _ _ c.head_place-place.ensures))
-    (λ c κs. search rules)
-    (λ c κs. search rules)
-    put_panel_line_requires
-    put_line_requires
-    (λ c. search rules)
-    (λ c. search rules)
-    loop-again
-    (λ c κs. search rules)
-    (λ c κs. search rules)
-    (λ c. search rules)
-    done)
+-- what is written lies in the buffer
+pub overflow_sub-out : goal.overflow_sub-out
+overflow_sub-out c = search runs
+
+-- the place of the heads is one of the sections'
+pub offset_bounds-axles-place : goal.offset_bounds-axles-place
+offset_bounds-axles-place c = search (rules, place_small _ _ _ c.head_place-place.ensures)
+
+pub bounds-axles-place : goal.bounds-axles-place
+bounds-axles-place c = search (rules, place_small _ _ _ c.head_place-place.ensures)
+
+pub offset_bounds-axles-place-then-kind-ge-AXLES_IN : goal.offset_bounds-axles-place-then-kind-ge-AXLES_IN
+offset_bounds-axles-place-then-kind-ge-AXLES_IN c = search (rules, place_small _ _ _ c.head_place-place.ensures)
+
+pub bounds-axles-place-then-kind-ge-AXLES_IN : goal.bounds-axles-place-then-kind-ge-AXLES_IN
+bounds-axles-place-then-kind-ge-AXLES_IN c = search (rules, place_small _ _ _ c.head_place-place.ensures)
