@@ -5,12 +5,11 @@ use mathlib.Core.Bool.{false}
 use mathlib.Core.List.{List}
 use native.Mathlib.Nat.{mul-le-mul}
 use native.Mathlib.Omega.{arith}
-use borrow.Author.Tests.{ltb-false}
+use borrow.Author.Tests.{le-ltb}
 use lib.Dec.{ltb}
 use lib.Ieee.{Float}
 use Rattle.laws.specs.Tests.{◌or◌}
 use Rattle.laws.proofs.Choice.{if_ne, if_false, if_le, if_gt}
-use Rattle.laws.proofs.Tests.{or_neither}
 use Rattle.block_lengths.specs.declared.LengthsAnswer.{LengthsAnswer}
 use Rattle.block_lengths.specs.Paper.{column_of, row_of, seconds_over, entry, table71, table72}
 use Rattle.block_lengths.specs.Lengths.{interpolated, length_in, refusal, answer}
@@ -24,13 +23,10 @@ small_product rise seconds p q =
     let m : rise * seconds ≤ 65535 * 59 = mul-le-mul r s in
     omega arith
 
--- a headway that is not refused is one from 120 to 600
-module _ (headway : ℕ) (e : ltb headway 120 or ltb 600 headway ≡ false) where
-  pub from_120 : 120 ≤ headway
-  from_120 = ltb-false headway 120 (or_neither (ltb headway 120) (ltb 600 headway) e).0
-
-  pub to_600 : headway ≤ 600
-  to_600 = ltb-false 600 headway (or_neither (ltb headway 120) (ltb 600 headway) e).1
+-- a headway from 120 to 600 is not refused
+pub not_refused : (headway : ℕ) → 120 ≤ headway → headway ≤ 600 → ltb headway 120 or ltb 600 headway ≡ false
+unfolding ◌or◌
+not_refused headway l h = rw (le-ltb headway 120 l, le-ltb 600 headway h)
 
 -- a table that is one that rises, rises
 pub rises_too : (t u : List (List ℕ)) → t ≡ u → Rises u → Rises t

@@ -1,4 +1,5 @@
 pub mod Laws
+pub mod Columns
 pub mod Rounding
 pub mod Fractions
 pub mod Line

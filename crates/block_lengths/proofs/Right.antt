@@ -1,17 +1,17 @@
 -- Every answer for a headway of 120 to 600 and one of the six speeds is right; every other pair is refused.
 use Prim.Native.Nat.{ℕ, ◌+◌, ◌-◌, ◌*◌, ◌^◌, ◌<◌, ◌≤◌}
 use mathlib.Core.Path.{◌≡◌, refl, sym, subst, ap, ◌∙◌}
-use mathlib.Core.Bool.{Bool, true, false}
+use mathlib.Core.Bool.{Bool, true}
 use mathlib.Core.List.{List}
 use mathlib.Core.Logic.{◌⊎◌, inl, inr}
 use native.Mathlib.Nat.{mul-le-mul_right}
 use native.Mathlib.Omega.{arith}
-use borrow.Author.Tests.{eqb-true, eqb-false, eq-eqb, lt-ltb, le-ltb, ne_eqb, ltb-false}
+use borrow.Author.Tests.{eqb-true, eqb-false, eq-eqb, lt-ltb, ne_eqb, ltb-false}
 use lib.Dec.{eqb, ltb, lit≤}
 use lib.ListN.{get_or}
 use lib.Ieee.{Float}
 use Rattle.laws.specs.Choice.{when◌then◌else◌}
-use Rattle.laws.specs.Tests.{◌or◌, all_below, lowest, lowest_from}
+use Rattle.laws.specs.Tests.{all_below, lowest, lowest_from}
 use Rattle.laws.proofs.Choice.{if_true, if_both, chosen, which, holds, fails}
 use Rattle.laws.proofs.Tests.{all_at, or_left, or_right}
 use Rattle.laws.proofs.Searches.{lowest_past}
@@ -21,7 +21,7 @@ use Rattle.block_lengths.specs.Fractions.{within, exactly}
 use Rattle.block_lengths.specs.Millimetres.{nearest_millimetre, millimetres}
 use Rattle.block_lengths.specs.Tables.{Rises}
 use Rattle.block_lengths.specs.Right.{sixtieths, On, OnTheLine, Right}
-use Rattle.block_lengths.proofs.Laws.{row_after, no_lower, no_column, both_lengths}
+use Rattle.block_lengths.proofs.Laws.{not_refused, row_after, no_lower, no_column, both_lengths}
 use Rattle.block_lengths.proofs.Tables.{Short, rises71, rises72, short71, short72}
 use Rattle.block_lengths.proofs.Line.{float_exact, float_on_line, next_to_line}
 use Rattle.block_lengths.proofs.Nearest.{next_millimetre}
@@ -143,11 +143,6 @@ unfolding sixtieths
 own_millimetres t headway column row x p o = p.nearest row 0 o ∙ own_nearest (entry t row column) (entry t (row + 1) column)
 
 -- ---- the answer
-
--- a headway from 120 to 600 is not refused
-not_refused : (headway : ℕ) → 120 ≤ headway → headway ≤ 600 → ltb headway 120 or ltb 600 headway ≡ false
-unfolding ◌or◌
-not_refused headway l h = rw (le-ltb headway 120 l, le-ltb 600 headway h)
 
 -- the column of a speed is the one that has it
 found : ℕ → Bool

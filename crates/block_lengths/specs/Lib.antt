@@ -1,5 +1,6 @@
 pub mod Paper
 pub mod Lengths
+pub mod Told
 pub mod Fractions
 pub mod Millimetres
 pub mod Right

@@ -6,6 +6,7 @@ mod paper;
 
 ghost use Rattle.std.specs.Prelude.{◌≡◌, ◌≤◌, ◌<◌};
 ghost use Rattle.block_lengths.specs.Lengths.{interpolated, length_in, refusal, answer};
+ghost use Rattle.block_lengths.specs.Told.{refusal_number, told};
 ghost use Rattle.block_lengths.specs.Tables.{Rises};
 
 pub use metres::millimetres;
@@ -23,7 +24,7 @@ pub struct BlockLengths {
     pub stopping: f64,
 }
 
-// 0 with the lengths, or the refusal's number with a record of zeros.
+// What a C program is told: 0 with the lengths, or the refusal's number with a record of zeros. A Result has no form in C.
 #[repr(C)]
 #[derive(Clone, Copy)]
 pub struct LengthsAnswer {
@@ -31,11 +32,26 @@ pub struct LengthsAnswer {
     pub lengths: BlockLengths,
 }
 
-// The headway is not one of 120 to 600.
-pub const BAD_HEADWAY: u8 = 28;
+// Why there are no lengths.
+#[derive(Clone, Copy, Debug, PartialEq, Eq)]
+pub enum Refusal {
+    // The headway is not one of 120 to 600.
+    BadHeadway,
+    // The speed is none of the six.
+    BadSpeed,
+}
 
-// The speed is none of the six.
-pub const BAD_SPEED: u8 = 29;
+impl Refusal {
+    // The refusal's number.
+    fn number(self) -> u8
+        ensures { result ≡ refusal_number self }
+    {
+        match self {
+            Refusal::BadHeadway => 28,
+            Refusal::BadSpeed => 29,
+        }
+    }
+}
 
 // So many seconds on from low, of the 60 to high.
 fn interpolate(low: u16, high: u16, seconds: u32) -> f64
@@ -60,7 +76,25 @@ fn length_in(table: [[u16; 6]; 9], headway: u32, column: usize) -> f64
     interpolate(low, table[row + 1][column], seconds)
 }
 
-// A refusal, with the record of zeros.
+// The lengths for a headway and a speed.
+pub fn lengths(headway: u32, speed: u32) -> Result<BlockLengths, Refusal>
+    ensures { told result ≡ answer headway speed }
+{
+    if headway < 120 || 600 < headway {
+        return Err(Refusal::BadHeadway);
+    }
+    let Some(column) = paper::column_of(speed) else {
+        return Err(Refusal::BadSpeed);
+    };
+    Ok(BlockLengths {
+        headway,
+        speed,
+        plain: length_in(paper::table_7_1(), headway, column),
+        stopping: length_in(paper::table_7_2(), headway, column),
+    })
+}
+
+// A refusal for a C program, with a record of zeros.
 fn refused(number: u8) -> LengthsAnswer
     ensures { result ≡ refusal number }
 {
@@ -75,33 +109,12 @@ fn refused(number: u8) -> LengthsAnswer
     }
 }
 
-// The lengths for a headway and a speed.
-pub fn lengths(headway: u32, speed: u32) -> LengthsAnswer
-    ensures { result ≡ answer headway speed }
-{
-    if (headway < 120) | (600 < headway) {
-        return refused(BAD_HEADWAY);
-    }
-    let column = paper::column_of(speed);
-    if 6 <= column {
-        return refused(BAD_SPEED);
-    }
-    let plain = length_in(paper::table_7_1(), headway, column);
-    let stopping = length_in(paper::table_7_2(), headway, column);
-    LengthsAnswer {
-        number: 0,
-        lengths: BlockLengths {
-            headway,
-            speed,
-            plain,
-            stopping,
-        },
-    }
-}
-
-// The same for a C program, which calls it through block_lengths_c.
+// The lengths for a C program, which calls it through block_lengths_c: its record has 0 and the lengths, or the refusal's number.
 pub fn hiruketawha_lengths(headway: u32, speed: u32) -> LengthsAnswer
     ensures { result ≡ answer headway speed }
 {
-    lengths(headway, speed)
+    match lengths(headway, speed) {
+        Ok(lengths) => LengthsAnswer { number: 0, lengths },
+        Err(refusal) => refused(refusal.number()),
+    }
 }

@@ -1,5 +1,6 @@
 // Tables 7.1 and 7.2 as they are used: two misprints are put right, every other number is the paper's.
-ghost use Rattle.std.specs.Prelude.{◌≡◌, eqb, get_or};
+ghost use Rattle.std.specs.Prelude.{◌≡◌, get_or};
+ghost use Rattle.block_lengths.specs.Told.{column_found};
 ghost use Rattle.block_lengths.specs.Paper.{speeds, column_of, table71, table72};
 
 // Table 7.1, a row for each headway of 120, 180, .., 600 s. 3030 is printed as 3930.
@@ -43,29 +44,12 @@ const SPEEDS: [u32; 6] = [70, 90, 100, 130, 160, 200];
 pub fn speed_of(column: usize) -> u32
     ensures { result ≡ get_or speeds column 0 }
 {
-    if column < 6 {
-        return SPEEDS[column];
-    }
-    0
+    if column < 6 { SPEEDS[column] } else { 0 }
 }
 
-// Whether a column has a speed.
-fn has_speed(column: usize, speed: u32) -> bool
-    ensures { result ≡ eqb speed (get_or speeds column 0) }
+// The column of a speed, where one of them has it.
+pub fn column_of(speed: u32) -> Option<usize>
+    ensures { result ≡ column_found (column_of speed) }
 {
-    speed == speed_of(column)
-}
-
-// The column of a speed; 6 where none of them has it.
-pub fn column_of(speed: u32) -> usize
-    ensures { result ≡ column_of speed }
-{
-    let mut i: usize = 0;
-    while i < 6 {
-        if has_speed(i, speed) {
-            return i;
-        }
-        i += 1;
-    }
-    6
+    SPEEDS.iter().position(|own| *own == speed)
 }

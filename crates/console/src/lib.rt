@@ -64,12 +64,12 @@ pub fn print_value<D: Display + Drop>(rt: &HostRuntime, value: D) -> Result<(), 
     or_told(rt, b"standard output", rt.print(value))
 }
 
-// Puts argument `i` at the start of `room` and answers how many bytes it has, where 0 is the program's own name; none where it is missing, or longer than `room`.
-pub fn argument(rt: &HostRuntime, i: usize, room: &mut [u8]) -> Option<usize>
-    ensures { IfSome result (λ n. n ≤ length room.new) }
+// Puts argument `i`, where 0 is the program's own name, at the start of `room` and answers its bytes there; none where it is missing, or longer than `room`.
+pub fn argument<'a>(rt: &HostRuntime, i: usize, room: &'a mut [u8]) -> Option<&'a [u8]>
+    ensures { IfSome result (λ word. length word.now ≤ length room.old) }
 {
     match rt.arg(i, room) {
-        Ok(n) => Some(n),
+        Ok(n) => Some(&room[..n]),
         Err(_) => None,
     }
 }

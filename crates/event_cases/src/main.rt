@@ -5,41 +5,34 @@
 #![tactic(auto)]
 
 use console::Reported;
+use event_file::FileKind;
 use interlocking::State;
 use layout::Layout;
 
-// A sum, as far as a place goes.
-fn sum(a: usize, b: usize) -> usize {
-    if b <= 18446744073709551615 - a {
-        return a + b;
-    }
-    18446744073709551615
+// An entry of the archive: what it is, and its file.
+#[derive(Clone, Copy)]
+struct Entry<'a> {
+    kind: u8,
+    file: &'a [u8],
 }
 
-// The byte at a place, 0 past the end.
-fn byte_at(archive: &[u8], at: usize) -> u8 {
-    if at < archive.len() {
-        return archive[at];
-    }
-    0
+// The first entry of so much of the archive, and what follows it; none where it is not there whole.
+fn next_entry(archive: &[u8]) -> Option<(Entry<'_>, &[u8])> {
+    let (head, rest) = archive.split_at_checked(3)?;
+    let size = usize::from(u16::from_le_bytes([head[1], head[2]]));
+    let (file, rest) = rest.split_at_checked(size)?;
+    Some((
+        Entry {
+            kind: head[0],
+            file,
+        },
+        rest,
+    ))
 }
 
-// The length of two bytes, lowest first.
-fn length_of(low: u8, high: u8) -> usize {
-    low as usize + 256 * high as usize
-}
-
-// The length that stands at a place.
-fn length_at(archive: &[u8], at: usize) -> usize {
-    length_of(byte_at(archive, at), byte_at(archive, sum(at, 1)))
-}
-
-// The first n bytes of a buffer are printed.
+// The first n bytes of a buffer are printed, as far as there are so many.
 fn print_first(rt: &HostRuntime, out: &[u8], n: usize) -> Result<(), Reported> {
-    if n <= out.len() {
-        console::print(rt, &out[0..n])?;
-    }
-    Ok(())
+    console::print(rt, &out[..n.min(out.len())])
 }
 
 // The list of a file, all of whose lines have room in the buffer.
@@ -50,21 +43,16 @@ fn play(rt: &HostRuntime, panel: bool, layout: Layout, file: &[u8]) -> Result<()
     let p = event_file::run_piece(panel, layout, State::cold(), 0, file, 0, true, &mut out);
     print_first(rt, &out, p.written)?;
     if p.stop > 3 {
-        let closed = event_file::events_fault(p.stop as u64, p.at as u64, &mut out);
+        let closed = event_file::fault_line(FileKind::Events, p.stop as u64, p.at as u64, &mut out);
         print_first(rt, &out, closed)?;
     }
     Ok(())
 }
 
-// The place after the entry at a place.
-fn entry_end(archive: &[u8], at: usize) -> usize {
-    sum(sum(at, 3), length_at(archive, sum(at, 1)))
-}
-
 // The line of a layout file that was refused.
 fn refuse(rt: &HostRuntime, number: u8, detail: usize) -> Result<(), Reported> {
     let mut out = [0u8; 4096];
-    let end = event_file::layout_fault(number as u64, detail as u64, &mut out);
+    let end = event_file::fault_line(FileKind::Layout, number as u64, detail as u64, &mut out);
     print_first(rt, &out, end)
 }
 
@@ -82,7 +70,7 @@ fn layout_of(rt: &HostRuntime, file: &[u8]) -> Result<Layout, Reported> {
 // The line of a file of fitted sections that is no numbers.
 fn refuse_fitted(rt: &HostRuntime, number: u8, detail: usize) -> Result<(), Reported> {
     let mut out = [0u8; 4096];
-    let end = event_file::fitted_fault(number as u64, detail as u64, &mut out);
+    let end = event_file::fault_line(FileKind::Fitted, number as u64, detail as u64, &mut out);
     print_first(rt, &out, end)
 }
 
@@ -97,48 +85,21 @@ fn equipped(rt: &HostRuntime, layout: Layout, file: &[u8]) -> Result<Layout, Rep
     }
 }
 
-// The layout after the entry at a place: its own, where it is a layout file, and with its sections, where it is a file of fitted ones.
-fn layout_after(
-    rt: &HostRuntime,
-    before: Layout,
-    archive: &[u8],
-    at: usize,
-) -> Result<Layout, Reported> {
-    let from = sum(at, 3);
-    let to = entry_end(archive, at);
-    if archive.len() < to || to < from {
-        return Ok(before);
-    }
-    if byte_at(archive, at) == 2 {
-        return layout_of(rt, &archive[from..to]);
-    }
-    if byte_at(archive, at) == 3 {
-        return equipped(rt, before, &archive[from..to]);
-    }
-    Ok(before)
-}
-
-// The entry at a place is played, where it is an event file.
-fn play_at(rt: &HostRuntime, layout: Layout, archive: &[u8], at: usize) -> Result<(), Reported> {
-    let from = sum(at, 3);
-    let to = entry_end(archive, at);
-    if byte_at(archive, at) > 1 || archive.len() < to || to < from {
-        return Ok(());
-    }
-    play(rt, byte_at(archive, at) == 1, layout, &archive[from..to])
-}
-
 // All entries; before the first layout file there is no layout.
 fn play_all(rt: &HostRuntime, archive: &[u8]) -> Result<(), Reported> {
     let mut layout = layout::no_layout();
-    let mut at: usize = 0;
-    for _ in 0u32..65536 {
-        if archive.len() <= at {
+    let mut rest = archive;
+    for _ in 0..archive.len() {
+        let Some((entry, next)) = next_entry(rest) else {
             return Ok(());
+        };
+        match entry.kind {
+            2 => layout = layout_of(rt, entry.file)?,
+            3 => layout = equipped(rt, layout, entry.file)?,
+            0 | 1 => play(rt, entry.kind == 1, layout, entry.file)?,
+            _ => {}
         }
-        layout = layout_after(rt, layout, archive, at)?;
-        play_at(rt, layout, archive, at)?;
-        at = entry_end(archive, at);
+        rest = next;
     }
     Ok(())
 }
@@ -146,11 +107,10 @@ fn play_all(rt: &HostRuntime, archive: &[u8]) -> Result<(), Reported> {
 // Every event file of the archive that the first argument names.
 fn play_named(rt: &HostRuntime) -> Result<(), Reported> {
     let mut word = [0u8; 4096];
-    let Some(n) = console::argument(rt, 1, &mut word) else {
+    let Some(path) = console::argument(rt, 1, &mut word) else {
         console::tell(rt, b"usage: event_cases ARCHIVE\n");
         return Ok(());
     };
-    let path = &word[..n];
     let mut archive = console::open(rt, path)?;
     let mut room = [0u8; 65536];
     let size = console::fill(rt, &mut archive, path, &mut room)?;

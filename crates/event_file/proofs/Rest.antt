@@ -55,12 +55,8 @@ module _ (from till : ℕ) (a : List ℕ) where
         let short : i ≤ length a = omega (arith, p.place, ap length all, rest_length) in
         subst (λ xs. Put a 0 xs (length a) b i) all (put_within (length a) short p)
 
-    -- to the last place
-    pub rest_end : till ≤ at → Put a 0 (rest from till a) (length a) b i
-    rest_end h = whole (omega (arith, rest_length))
+    -- to the last place, or to the buffer's end where that comes first
+    pub rest_end : (end : ℕ) → end ≡ min till (length a) → end ≤ at → Put a 0 (rest from till a) (length a) b i
+    rest_end end l h = whole (omega (arith, rest_length))
 
-    -- to the buffer's end, where that comes first
-    pub rest_short : length b ≤ at → Put a 0 (rest from till a) (length a) b i
-    rest_short h = whole (omega (arith, rest_length, p.long))
-
-pub ruleset rests = (rules, rest_start, rest_on, rest_end, rest_short)
+pub ruleset rests = (rules, rest_start, rest_on, rest_end)

@@ -7,7 +7,6 @@ use lib.Dec.{eqb}
 use lib.ListN.{length}
 use Rattle.laws.specs.Tests.{◌and◌}
 use Rattle.laws.proofs.Choice.{if_true, if_false, if_ge}
-use Rattle.track.specs.Objects.{line}
 use Rattle.track.specs.Sizes.{most_blocks}
 use Rattle.layout.specs.declared.Layout.{Layout}
 use Rattle.layout.specs.Layout.{line_in}

@@ -9,9 +9,7 @@ use Rattle.event_file.specs.declared.pieces.Piece.{Piece}
 use Rattle.event_file.proofs.Reading.{next_same}
 use Rattle.event_file.proofs.next_event.Reads as next_event
 use Rattle.event_file.proofs.frame.opening_line.Reads as opening_line
-use Rattle.event_file.proofs.frame.layout_fault.Reads as layout_fault
-use Rattle.event_file.proofs.frame.fitted_fault.Reads as fitted_fault
-use Rattle.event_file.proofs.frame.events_fault.Reads as events_fault
+use Rattle.event_file.proofs.frame.fault_line.Reads as fault_line
 use Rattle.event_file.proofs.pieces.bring_rest.Reads as bring_rest
 use Rattle.event_file.proofs.pieces.run_piece.Reads as run_piece
 
@@ -23,17 +21,9 @@ next_event_determined κs a r q s p o = next_same r q (only p o)
 pub opening_line_determined : DeterminesBytes (λ κs s. s.1.1.0.now) opening_line.Post
 opening_line_determined κs a r q s t p o = (only p.place o.place, only p.buffer o.buffer)
 
--- the line of a layout file's answer
-pub layout_fault_determined : DeterminesBytes (λ κs s. s.1.1.0.now) layout_fault.Post
-layout_fault_determined κs a r q s t p o = (only p.place o.place, only p.buffer o.buffer)
-
--- the line of a fault in a file of fitted sections
-pub fitted_fault_determined : DeterminesBytes (λ κs s. s.1.1.0.now) fitted_fault.Post
-fitted_fault_determined κs a r q s t p o = (only p.place o.place, only p.buffer o.buffer)
-
--- the line of a fault in an event file
-pub events_fault_determined : DeterminesBytes (λ κs s. s.1.1.0.now) events_fault.Post
-events_fault_determined κs a r q s t p o = (only p.place o.place, only p.buffer o.buffer)
+-- the line of a file's fault
+pub fault_line_determined : DeterminesBytes (λ κs s. s.1.1.1.0.now) fault_line.Post
+fault_line_determined κs a r q s t p o = (only p.place o.place, only p.buffer o.buffer)
 
 -- what is left, at the front
 pub bring_rest_determined : DeterminesBytes (λ κs s. s.0.now) bring_rest.Post

@@ -5,3 +5,4 @@ pub mod Events
 pub mod Run
 pub mod Buffer
 pub mod Writes
+pub mod Files

@@ -2,12 +2,24 @@
 ghost use Rattle.std.specs.Prelude.{◌≡◌, true, ◌≤◌, length};
 ghost use Rattle.interlocking.specs.State.{cold};
 ghost use Rattle.event_file.specs.Lines.{shown, line_of, most_line};
-ghost use Rattle.event_file.specs.List.{layout_word, fitted_word, events_word, header, fault_line, most_fault, fault_in, opening_in};
+ghost use Rattle.event_file.specs.List.{header, fault_line, most_fault, fault_in, opening_in};
+ghost use Rattle.event_file.specs.Files.{word_of};
 ghost use Rattle.numerals.specs.Writes.{Put};
 
 use crate::{lines, pieces};
 use interlocking::State;
 use layout::Layout;
+
+// The files that the program reads, each with a word that begins the line of its fault.
+#[derive(Clone, Copy, Debug, PartialEq, Eq)]
+pub enum FileKind {
+    // A layout file.
+    Layout,
+    // A file of fitted sections (request L1).
+    Fitted,
+    // An event file.
+    Events,
+}
 
 // The header.
 fn put_header(out: &mut [u8]) -> usize
@@ -36,9 +48,10 @@ pub fn opening_line(panel: bool, layout: Layout, out: &mut [u8]) -> usize
         return 0;
     }
     if panel {
-        return put_cold(layout, out);
+        put_cold(layout, out)
+    } else {
+        put_header(out)
     }
-    put_header(out)
 }
 
 // A word of seven bytes with an answer and its detail.
@@ -52,32 +65,16 @@ fn put_fault(word: &[u8], number: u64, detail: u64, out: &mut [u8]) -> usize
     end + 1
 }
 
-// The line of a layout file's answer, where the buffer has room for it.
-pub fn layout_fault(number: u64, detail: u64, out: &mut [u8]) -> usize
-    ensures { Put out.old 0 (fault_in (length out.old) layout_word number detail) most_fault out.new result }
+// The line of a file's fault, where the buffer has room for it.
+pub fn fault_line(kind: FileKind, number: u64, detail: u64, out: &mut [u8]) -> usize
+    ensures { Put out.old 0 (fault_in (length out.old) (word_of kind) number detail) most_fault out.new result }
 {
     if out.len() < 49 {
         return 0;
     }
-    put_fault(b"layout ", number, detail, out)
-}
-
-// The line of a fault in a file of fitted sections (request L1), where the buffer has room for it.
-pub fn fitted_fault(number: u64, place: u64, out: &mut [u8]) -> usize
-    ensures { Put out.old 0 (fault_in (length out.old) fitted_word number place) most_fault out.new result }
-{
-    if out.len() < 49 {
-        return 0;
+    match kind {
+        FileKind::Layout => put_fault(b"layout ", number, detail, out),
+        FileKind::Fitted => put_fault(b"fitted ", number, detail, out),
+        FileKind::Events => put_fault(b"events ", number, detail, out),
     }
-    put_fault(b"fitted ", number, place, out)
-}
-
-// The line of a fault in an event file, where the buffer has room for it.
-pub fn events_fault(number: u64, place: u64, out: &mut [u8]) -> usize
-    ensures { Put out.old 0 (fault_in (length out.old) events_word number place) most_fault out.new result }
-{
-    if out.len() < 49 {
-        return 0;
-    }
-    put_fault(b"events ", number, place, out)
 }

@@ -9,7 +9,7 @@ ghost use Rattle.std.specs.Prelude.{◌≡◌};
 ghost use Rattle.numbers.specs.Given.{given};
 ghost use Rattle.event_file.specs.Read.{Small, with_second, with_first, with_kind, event_at, next_told};
 
-pub use frame::{events_fault, fitted_fault, layout_fault, opening_line};
+pub use frame::{FileKind, fault_line, opening_line};
 use numbers::{Fault, Given};
 pub use pieces::{Piece, bring_rest, run_piece};
 

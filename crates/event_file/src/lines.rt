@@ -51,12 +51,9 @@ fn put_bytes(bytes: &[u8], n: usize, out: &mut [u8], at: usize) -> usize
     requires { (n ≤ length bytes.now) × (at + 4 * n ≤ length out.old) }
     ensures { Put out.old at (spaced n bytes.now) (4 * n) out.new result }
 {
-    let mut i: usize = 0;
     let mut next = at;
-    while i < n {
-        let byte = bytes[i];
-        next = put_spaced(byte, out, next);
-        i += 1;
+    for i in 0..n {
+        next = put_spaced(bytes[i], out, next);
     }
     next
 }

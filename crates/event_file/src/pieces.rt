@@ -27,34 +27,22 @@ pub struct Piece {
 fn next_count(n: u64) -> u64
     ensures { result ≡ next_count n }
 {
-    if n < 18446744073709551615 {
-        return n + 1;
-    }
-    n
+    n.saturating_add(1)
 }
 
 // The most bytes of a line.
 pub fn most_line(panel: bool) -> usize
     ensures { result ≡ most_line panel }
 {
-    if panel {
-        return 2113;
-    }
-    63
+    if panel { 2113 } else { 63 }
 }
 
 // The same run with another end.
+#[tactic(auto, unfolding(crate::specs::Run::halted))]
 fn halt(p: Piece, at: usize, stop: u8) -> Piece
     ensures { result ≡ halted p at stop }
 {
-    let state = p.state;
-    Piece {
-        state,
-        count: p.count,
-        at,
-        written: p.written,
-        stop,
-    }
+    Piece { at, stop, ..p }
 }
 
 // The same run, ended by what stands at the next place, where that is no event.
@@ -62,31 +50,16 @@ fn halt_by(p: Piece, next: Next, last: bool) -> Piece
     ensures { result ≡ halted_by last p next }
 {
     match next {
-        Next::Taken {
-            kind: _,
-            first: _,
-            second: _,
-            next: _,
-        } => p,
-        Next::Bad { number, at } => {
-            if last {
-                return halt(p, at, number);
-            }
-            if number == 21 {
-                return halt(p, p.at, 2);
-            }
-            halt(p, at, number)
-        }
-        Next::Nothing => {
-            if last {
-                return halt(p, p.at, 3);
-            }
-            halt(p, p.at, 2)
-        }
+        Next::Taken { .. } => p,
+        Next::Bad { number, .. } if number == 21 && !last => halt(p, p.at, 2),
+        Next::Bad { number, at } => halt(p, at, number),
+        Next::Nothing if last => halt(p, p.at, 3),
+        Next::Nothing => halt(p, p.at, 2),
     }
 }
 
 // A run that did not stop.
+#[tactic(auto, unfolding(crate::specs::Run::so_far))]
 fn so_far(state: State, count: u64, at: usize, written: usize) -> Piece
     ensures { result ≡ so_far state count at written }
 {
@@ -160,15 +133,10 @@ pub fn run_piece(
 pub fn bring_rest(buf: &mut [u8], from: usize, till: usize) -> usize
     ensures { Put buf.old 0 (rest from till buf.old) (length buf.old) buf.new result }
 {
-    let mut n: usize = 0;
-    let mut at = from;
-    while at < till {
-        if buf.len() <= at {
-            return n;
-        }
+    let mut n = 0;
+    for at in from..till.min(buf.len()) {
         buf[n] = buf[at];
         n += 1;
-        at += 1;
     }
     n
 }

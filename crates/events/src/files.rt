@@ -2,6 +2,13 @@
 use console::Reported;
 use std::fs::File;
 
+// An open file with its name, by which standard error tells of it.
+#[derive(Drop)]
+pub struct Source<'a> {
+    pub path: &'a [u8],
+    file: File,
+}
+
 // What a buffer holds after a read: how many bytes, and whether the file has ended.
 #[derive(Clone, Copy)]
 pub struct Held {
@@ -9,58 +16,30 @@ pub struct Held {
     pub last: bool,
 }
 
-// A sum, as far as a place goes.
-pub fn sum(a: usize, b: usize) -> usize {
-    if b <= 18446744073709551615 - a {
-        return a + b;
+impl<'a> Source<'a> {
+    // A file is opened.
+    pub fn open(rt: &HostRuntime, path: &'a [u8]) -> Result<Source<'a>, Reported> {
+        let file = console::open(rt, path)?;
+        Ok(Source { path, file })
     }
-    18446744073709551615
-}
 
-// One read behind the first n bytes of the buffer. A read that fails is said on standard error; one that gives nothing is the file's end.
-pub fn read_on(
-    rt: &HostRuntime,
-    file: &mut File,
-    path: &[u8],
-    buf: &mut [u8],
-    n: usize,
-) -> Result<Held, Reported> {
-    let end = buf.len();
-    if end < n {
-        return Ok(Held {
-            have: n,
-            last: true,
-        });
+    // One read behind the first n bytes of the buffer. A read that fails is said on standard error; one that gives nothing is the file's end.
+    pub fn read_on(
+        &mut self,
+        rt: &HostRuntime,
+        buf: &mut [u8],
+        n: usize,
+    ) -> Result<Held, Reported> {
+        let kept = n.min(buf.len());
+        let more = console::read(rt, &mut self.file, self.path, &mut buf[kept..])?;
+        Ok(Held {
+            have: kept.saturating_add(more),
+            last: more == 0,
+        })
     }
-    let more = console::read(rt, file, path, &mut buf[n..end])?;
-    Ok(Held {
-        have: sum(n, more),
-        last: more == 0,
-    })
-}
 
-// Reads until the buffer is full or the file ends. Each turn but the last brings a byte or more, so there are turns enough.
-pub fn read_all(
-    rt: &HostRuntime,
-    file: &mut File,
-    path: &[u8],
-    buf: &mut [u8],
-) -> Result<Held, Reported> {
-    let mut held = Held {
-        have: 0,
-        last: false,
-    };
-    for _ in 0u32..65537 {
-        if held.last {
-            return Ok(held);
-        }
-        held = read_on(rt, file, path, buf, held.have)?;
+    // Reads until the buffer is full or the file ends; how many bytes there are.
+    pub fn fill(&mut self, rt: &HostRuntime, buf: &mut [u8]) -> Result<usize, Reported> {
+        console::fill(rt, &mut self.file, self.path, buf)
     }
-    Ok(held)
-}
-
-// A file is opened, and read until the buffer is full or the file ends.
-pub fn read_file(rt: &HostRuntime, path: &[u8], buf: &mut [u8]) -> Result<Held, Reported> {
-    let mut file = console::open(rt, path)?;
-    read_all(rt, &mut file, path, buf)
 }

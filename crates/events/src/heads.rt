@@ -1,79 +1,43 @@
 // The file of fitted sections (request L1): its numbers are told one after another, a piece of the file at a time.
-use crate::files;
+use crate::files::Source;
 use console::Reported;
 use fitted::{End, Told};
-use std::fs::File;
 
-// How far the file was read: what was told until then, how many bytes in the buffer are left to read, the place in the file of the first of them, and
-// why it ended. 2 it did not; 3 the file's end; 21, 22 a fault, at that place; 0 the buffer is too short for what it is to hold.
+// Where a file is broken: the fault's number, 21 or 22, and its place.
 #[derive(Clone, Copy)]
-pub struct Reading {
-    pub told: Told,
-    pub left: usize,
-    pub at: usize,
-    pub stop: u8,
+pub struct Broken {
+    pub number: u8,
+    pub place: usize,
 }
 
-// Where the buffer is too short, what was told of the file is not used.
-fn unread(told: Told) -> Reading {
-    Reading {
-        told,
-        left: 0,
-        at: 0,
-        stop: 0,
-    }
-}
-
-// The file is read on behind what is left in the buffer, its numbers are told, and what is left then is brought to the front.
-fn tell_on(
-    rt: &HostRuntime,
-    file: &mut File,
-    path: &[u8],
-    sections: u8,
-    r: Reading,
-    buf: &mut [u8],
-) -> Result<Reading, Reported> {
-    let before = r.told;
-    let held = files::read_on(rt, file, path, buf, r.left)?;
-    let have = held.have;
-    if buf.len() < have {
-        return Ok(unread(before));
-    }
-    let p = fitted::tell_piece(sections, before, &buf[0..have], 0, held.last);
-    let (stop, place) = match p.end {
-        End::Later { at } => (2, at),
-        End::AtEnd { at } => (3, at),
-        End::Bad { fault } => (fault.number(), fault.detail()),
-    };
-    let left = event_file::bring_rest(buf, place, have);
-    let told = p.told;
-    Ok(Reading {
-        told,
-        left,
-        at: files::sum(r.at, place),
-        stop,
-    })
-}
-
-// All numbers of the file. As for the events, the turns are counted up to a number that no file uses up.
+// All numbers of the file, or where it is broken. A loop that is proved has to end, so this one counts its turns up to a number that no file uses up.
 pub fn tell_all(
     rt: &HostRuntime,
-    file: &mut File,
-    path: &[u8],
+    source: &mut Source,
     sections: u8,
     buf: &mut [u8],
-) -> Result<Reading, Reported> {
-    let mut r = Reading {
-        told: fitted::none_told(),
-        left: 0,
-        at: 0,
-        stop: 2,
-    };
+) -> Result<Result<Told, Broken>, Reported> {
+    let mut told = fitted::none_told();
+    let mut left = 0;
+    let mut before: usize = 0;
     for _ in 0..u64::MAX {
-        if r.stop != 2 {
-            return Ok(r);
+        let held = source.read_on(rt, buf, left)?;
+        let have = held.have.min(buf.len());
+        let p = fitted::tell_piece(sections, told, &buf[..have], 0, held.last);
+        told = p.told;
+        match p.end {
+            End::Later { at } => {
+                left = event_file::bring_rest(buf, at, have);
+                before = before.saturating_add(at);
+            }
+            End::AtEnd { at: _ } => return Ok(Ok(told)),
+            End::Bad { fault } => {
+                return Ok(Err(Broken {
+                    number: fault.number(),
+                    place: before.saturating_add(fault.detail()),
+                }));
+            }
         }
-        r = tell_on(rt, file, path, sections, r, buf)?;
     }
-    Ok(r)
+    Ok(Ok(told))
 }

@@ -9,11 +9,20 @@
 mod files;
 mod heads;
 mod listing;
-mod words;
 
 use console::Reported;
-use layout::Layout;
-use std::fs::File;
+use event_file::FileKind;
+use files::{Held, Source};
+use listing::Listing;
+
+// What the arguments ask for: the events of a file on the layout of another, with the panels or without, and the file of fitted sections, if one is named.
+#[derive(Clone, Copy)]
+struct Request<'l, 'e, 'f> {
+    layout: &'l [u8],
+    events: &'e [u8],
+    panel: bool,
+    fitted: Option<&'f [u8]>,
+}
 
 // Says on standard error what is wrong with a file.
 fn tell(rt: &HostRuntime, path: &[u8], what: &[u8]) {
@@ -21,13 +30,9 @@ fn tell(rt: &HostRuntime, path: &[u8], what: &[u8]) {
     console::tell(rt, what);
 }
 
-// Writes the first n bytes, or says on standard error why it cannot; whether there are so many.
-fn written(rt: &HostRuntime, out: &[u8], n: usize) -> Result<bool, Reported> {
-    if out.len() < n {
-        return Ok(false);
-    }
-    console::print(rt, &out[0..n])?;
-    Ok(true)
+// Writes the first n bytes, as far as there are so many.
+fn print_first(rt: &HostRuntime, out: &[u8], n: usize) -> Result<(), Reported> {
+    console::print(rt, &out[..n.min(out.len())])
 }
 
 // Prints what loading answers.
@@ -38,8 +43,9 @@ fn print_loaded(
     detail: usize,
     out: &mut [u8],
 ) -> Result<(), Reported> {
-    let end = event_file::layout_fault(number as u64, detail as u64, out);
-    if written(rt, out, end)? & (number != 0) {
+    let end = event_file::fault_line(FileKind::Layout, number as u64, detail as u64, out);
+    print_first(rt, out, end)?;
+    if number != 0 {
         tell(rt, path, b": the layout is refused\n");
     }
     Ok(())
@@ -49,141 +55,81 @@ fn print_loaded(
 fn print_fault(
     rt: &HostRuntime,
     path: &[u8],
-    number: u8,
-    place: usize,
+    broken: heads::Broken,
     out: &mut [u8],
 ) -> Result<(), Reported> {
-    let end = event_file::fitted_fault(number as u64, place as u64, out);
-    if written(rt, out, end)? {
-        tell(rt, path, b": the file of fitted sections ends in a fault\n");
-    }
+    let end = event_file::fault_line(
+        FileKind::Fitted,
+        broken.number as u64,
+        broken.place as u64,
+        out,
+    );
+    print_first(rt, out, end)?;
+    tell(rt, path, b": the file of fitted sections ends in a fault\n");
     Ok(())
 }
 
 // The open event file, of which the first bytes were read, is run on a layout.
 fn list(
     rt: &HostRuntime,
-    layout: Layout,
-    events: &mut File,
-    path: &[u8],
-    panel: bool,
-    held: files::Held,
+    events: &mut Source,
+    listing: Listing,
+    held: Held,
     buf: &mut [u8],
     out: &mut [u8],
 ) -> Result<(), Reported> {
-    let end = event_file::opening_line(panel, layout, out);
-    if written(rt, out, end)? {
-        listing::walk_all(rt, events, path, panel, layout, held, buf, out)?;
-    }
-    Ok(())
+    let end = event_file::opening_line(listing.panel, listing.layout, out);
+    print_first(rt, out, end)?;
+    listing::walk_all(rt, events, listing, held, buf, out)
 }
 
-// The layout file is loaded, equipped with the sections of the open file of fitted sections, if there is one, and the events are run on it.
+// The layout file is loaded, equipped with the sections of the file of fitted sections, if there is one, and the events are run on it.
 fn run(
     rt: &HostRuntime,
+    request: Request,
     file: &[u8],
-    layout_path: &[u8],
-    heads: Option<&mut File>,
-    heads_path: &[u8],
-    events: &mut File,
-    path: &[u8],
-    panel: bool,
-    held: files::Held,
+    events: &mut Source,
+    held: Held,
     buf: &mut [u8],
 ) -> Result<(), Reported> {
+    let mut heads = match request.fitted {
+        Some(path) => Some(Source::open(rt, path)?),
+        None => None,
+    };
     let mut out = [0u8; 65536];
     let layout = match layout::load(file) {
         Ok(layout) => layout,
         Err(fault) => {
-            return print_loaded(rt, layout_path, fault.number(), fault.detail(), &mut out);
+            return print_loaded(rt, request.layout, fault.number(), fault.detail(), &mut out);
         }
     };
-    let Some(heads) = heads else {
-        return list(rt, layout, events, path, panel, held, buf, &mut out);
+    let mut listing = Listing {
+        layout,
+        panel: request.panel,
     };
-    let r = heads::tell_all(rt, heads, heads_path, layout.sections, &mut out)?;
-    if r.stop == 3 {
-        let told = r.told;
-        let layout = fitted::equip(layout, told);
-        return list(rt, layout, events, path, panel, held, buf, &mut out);
+    if let Some(source) = &mut heads {
+        match heads::tell_all(rt, source, layout.sections, &mut out)? {
+            Ok(told) => listing.layout = fitted::equip(layout, told),
+            Err(broken) => return print_fault(rt, source.path, broken, &mut out),
+        }
     }
-    if r.stop > 3 {
-        return print_fault(rt, heads_path, r.stop, r.at, &mut out);
-    }
-    Ok(())
+    list(rt, events, listing, held, buf, &mut out)
 }
 
-// The file of fitted sections is opened, where one is named.
-fn with_heads(
+// The layout file is read. Its first 65,536 bytes answer for a longer one.
+fn read_layout<'a>(
     rt: &HostRuntime,
-    file: &[u8],
-    layout_path: &[u8],
-    fits: bool,
-    heads_path: &[u8],
-    events: &mut File,
     path: &[u8],
-    panel: bool,
-    held: files::Held,
-    buf: &mut [u8],
-) -> Result<(), Reported> {
-    if !fits {
-        return run(
-            rt,
-            file,
-            layout_path,
-            None,
-            heads_path,
-            events,
-            path,
-            panel,
-            held,
-            buf,
-        );
-    }
-    let mut heads = console::open(rt, heads_path)?;
-    run(
-        rt,
-        file,
-        layout_path,
-        Some(&mut heads),
-        heads_path,
-        events,
-        path,
-        panel,
-        held,
-        buf,
-    )
-}
-
-// The event file is opened, and its first bytes are read before anything is printed.
-fn with_events(
-    rt: &HostRuntime,
-    file: &[u8],
-    layout_path: &[u8],
-    path: &[u8],
-    panel: bool,
-    fits: bool,
-    heads_path: &[u8],
-) -> Result<(), Reported> {
-    let mut events = console::open(rt, path)?;
-    let mut buf = [0u8; 65536];
-    let held = files::read_on(rt, &mut events, path, &mut buf, 0)?;
-    with_heads(
-        rt,
-        file,
-        layout_path,
-        fits,
-        heads_path,
-        &mut events,
-        path,
-        panel,
-        held,
-        &mut buf,
-    )
+    room: &'a mut [u8],
+) -> Result<&'a [u8], Reported> {
+    let n = Source::open(rt, path)?.fill(rt, room)?;
+    Ok(&room[..n.min(room.len())])
 }
 
 // The layout is only loaded, and its answer printed.
-fn load_alone(rt: &HostRuntime, file: &[u8], path: &[u8]) -> Result<(), Reported> {
+fn load_alone(rt: &HostRuntime, path: &[u8]) -> Result<(), Reported> {
+    let mut room = [0u8; 65536];
+    let file = read_layout(rt, path, &mut room)?;
     let mut out = [0u8; 4096];
     match layout::load(file) {
         Ok(_) => print_loaded(rt, path, 0, 0, &mut out),
@@ -191,80 +137,63 @@ fn load_alone(rt: &HostRuntime, file: &[u8], path: &[u8]) -> Result<(), Reported
     }
 }
 
-// The layout file is read, and loaded alone or with an event file that is run on it. Its first 65,536 bytes answer for a longer one.
-fn with_layout(
-    rt: &HostRuntime,
-    path: &[u8],
-    alone: bool,
-    events: &[u8],
-    panel: bool,
-    fits: bool,
-    heads_path: &[u8],
-) -> Result<(), Reported> {
+// The layout file is read, and the event file opened, of which the first bytes are read before anything is printed.
+fn answer(rt: &HostRuntime, request: Request) -> Result<(), Reported> {
     let mut room = [0u8; 65536];
-    let held = files::read_file(rt, path, &mut room)?;
-    let n = held.have;
-    if room.len() < n {
-        return Ok(());
-    }
-    if alone {
-        return load_alone(rt, &room[0..n], path);
-    }
-    with_events(rt, &room[0..n], path, events, panel, fits, heads_path)
+    let file = read_layout(rt, request.layout, &mut room)?;
+    let mut events = Source::open(rt, request.events)?;
+    let mut buf = [0u8; 65536];
+    let held = events.read_on(rt, &mut buf, 0)?;
+    run(rt, request, file, &mut events, held, &mut buf)
 }
 
 // How the program is called.
-fn usage(rt: &HostRuntime) {
+fn usage(rt: &HostRuntime) -> Result<(), Reported> {
     console::tell(rt, b"usage: events LAYOUT [EVENTS [panel] [fitted FILE]]\n");
-}
-
-// The word `fitted` and its file, where the arguments go on after the event file and the word `panel`.
-fn with_words(
-    rt: &HostRuntime,
-    layout: &[u8],
-    events: &[u8],
-    panel: bool,
-    next: usize,
-) -> Result<(), Reported> {
-    if console::argument_count(rt) == next {
-        return with_layout(rt, layout, false, events, panel, false, b"");
-    }
-    let mut file = [0u8; 4096];
-    let Some(f) = console::argument(rt, files::sum(next, 1), &mut file) else {
-        usage(rt);
-        return Ok(());
-    };
-    if words::fitted_at(rt, next) & (console::argument_count(rt) == files::sum(next, 2)) {
-        return with_layout(rt, layout, false, events, panel, true, &file[..f]);
-    }
-    usage(rt);
     Ok(())
 }
 
-// The event file and the word `panel`, by the arguments after the layout.
-fn with_arguments(rt: &HostRuntime, layout: &[u8]) -> Result<(), Reported> {
+// Whether an argument is a word.
+fn argument_is(rt: &HostRuntime, i: usize, word: &[u8]) -> bool {
+    let mut room = [0u8; 4096];
+    console::argument(rt, i, &mut room) == Some(word)
+}
+
+// The event file, the word `panel`, and the word `fitted` with its file, by the arguments after the layout.
+fn with_events(rt: &HostRuntime, layout: &[u8]) -> Result<(), Reported> {
     let mut events = [0u8; 4096];
-    let Some(e) = console::argument(rt, 2, &mut events) else {
-        usage(rt);
-        return Ok(());
+    let mut fitted = [0u8; 4096];
+    let Some(events) = console::argument(rt, 2, &mut events) else {
+        return usage(rt);
     };
-    if words::panel_at(rt, 3) {
-        return with_words(rt, layout, &events[..e], true, 4);
+    let panel = argument_is(rt, 3, b"panel");
+    let next = if panel { 4 } else { 3 };
+    let request = Request {
+        layout,
+        events,
+        panel,
+        fitted: None,
+    };
+    if console::argument_count(rt) == next {
+        return answer(rt, request);
     }
-    with_words(rt, layout, &events[..e], false, 3)
+    if let Some(file) = console::argument(rt, next + 1, &mut fitted) {
+        if argument_is(rt, next, b"fitted") && console::argument_count(rt) == next + 2 {
+            let fitted = Some(file);
+            return answer(rt, Request { fitted, ..request });
+        }
+    }
+    usage(rt)
 }
 
 // The layout, and whether there is more than it.
 fn start(rt: &HostRuntime) -> Result<(), Reported> {
     let mut layout = [0u8; 4096];
-    let Some(l) = console::argument(rt, 1, &mut layout) else {
-        usage(rt);
-        return Ok(());
-    };
-    if console::argument_count(rt) == 2 {
-        return with_layout(rt, &layout[..l], true, b"", false, false, b"");
+    match console::argument(rt, 1, &mut layout) {
+        Some(layout) if console::argument_count(rt) == 2 => load_alone(rt, layout),
+        Some(layout) => with_events(rt, layout),
+        None => usage(rt),
     }
-    with_arguments(rt, &layout[..l])
 }
 
 // The exit status tells nothing: where something failed, standard error has said so.

@@ -1,8 +1,6 @@
 // Loads each file of the archive `layouts`, where two bytes, lowest first, say how long the next file is, and writes answer and detail.
 #![tactic(auto)]
 
-ghost use Rattle.std.specs.Prelude.{◌≤◌};
-
 use console::Reported;
 use std::fs::File;
 
@@ -18,39 +16,19 @@ fn show(rt: &HostRuntime, file: &[u8]) -> Result<(), Reported> {
     console::print_value(rt, format_args!("{number} {detail}\n"))
 }
 
-// Reads a file of n bytes into the room lent and shows it, and answers whether it was there whole.
-fn show_file(
-    rt: &HostRuntime,
-    archive: &mut File,
-    n: usize,
-    room: &mut [u8],
-) -> Result<bool, Reported> {
-    if room.len() < n {
-        return Ok(false);
-    }
-    if console::fill(rt, archive, ARCHIVE, &mut room[..n])? < n {
-        return Ok(false);
-    }
-    show(rt, &room[..n])?;
-    Ok(true)
-}
-
-// A byte, as a number to count with.
-fn wide(x: u8) -> usize
-    ensures { result ≤ 255 }
-{
-    usize::from(x)
-}
-
-// Shows the next file of the archive, and answers whether there was one.
+// Shows the next file of the archive, and answers whether there was one that is whole.
 fn show_next(rt: &HostRuntime, archive: &mut File) -> Result<bool, Reported> {
     let mut head = [0u8; 2];
     if console::fill(rt, archive, ARCHIVE, &mut head)? < 2 {
         return Ok(false);
     }
-    let n = wide(head[0]) + 256 * wide(head[1]);
+    let n = u16::from_le_bytes(head) as usize;
     let mut room = [0u8; 65536];
-    show_file(rt, archive, n, &mut room)
+    if console::fill(rt, archive, ARCHIVE, &mut room[..n])? < n {
+        return Ok(false);
+    }
+    show(rt, &room[..n])?;
+    Ok(true)
 }
 
 // A loop that is proved has to end, so this one has more turns than any archive uses up.

@@ -25,17 +25,14 @@ fn usage(rt: &HostRuntime) {
 
 // A number that is read; one above 65,535 is neither a headway nor a speed, and stays so.
 fn small(n: u64) -> u32 {
-    if n <= 65535 {
-        return n as u32;
-    }
-    65536
+    n.min(65536) as u32
 }
 
 // Both lengths, or the refusal.
 fn answer(rt: &HostRuntime, headway: u32, speed: u32) -> Result<(), Reported> {
     let mut out = [0u8; 4096];
     let n = lengths_text::put_answer(headway, speed, &mut out);
-    if block_lengths::lengths(headway, speed).number == 0 {
+    if block_lengths::lengths(headway, speed).is_ok() {
         return print(rt, &out, n);
     }
     tell(rt, &out, n);
@@ -51,10 +48,11 @@ fn sheet(rt: &HostRuntime) -> Result<(), Reported> {
 
 // The headway and the speed, by the two arguments.
 fn with_arguments(rt: &HostRuntime, first: &[u8], second: &[u8]) -> Result<(), Reported> {
-    let headway = number_text::read_word(first);
-    let speed = number_text::read_word(second);
-    if headway.good && speed.good {
-        return answer(rt, small(headway.value), small(speed.value));
+    if let (Some(headway), Some(speed)) = (
+        number_text::read_word(first),
+        number_text::read_word(second),
+    ) {
+        return answer(rt, small(headway), small(speed));
     }
     usage(rt);
     Ok(())
@@ -65,13 +63,13 @@ fn run(rt: &HostRuntime) -> Result<(), Reported> {
     match console::argument_count(rt) {
         1 => return sheet(rt),
         3 => {
-            let mut first = [0u8; 4096];
-            let mut second = [0u8; 4096];
-            if let (Some(f), Some(s)) = (
-                console::argument(rt, 1, &mut first),
-                console::argument(rt, 2, &mut second),
+            let mut headway = [0u8; 4096];
+            let mut speed = [0u8; 4096];
+            if let (Some(headway), Some(speed)) = (
+                console::argument(rt, 1, &mut headway),
+                console::argument(rt, 2, &mut speed),
             ) {
-                return with_arguments(rt, &first[..f], &second[..s]);
+                return with_arguments(rt, headway, speed);
             }
         }
         _ => {}

@@ -28,7 +28,7 @@ fn put_length(rt: &HostRuntime, x: f64) -> Result<(), Reported> {
 
 // A line.
 fn line(rt: &HostRuntime, headway: u32, speed: u32) -> Result<(), Reported> {
-    let a = block_lengths::lengths(headway, speed);
+    let a = block_lengths::hiruketawha_lengths(headway, speed);
     console::print_value(rt, headway)?;
     put(rt, speed)?;
     put(rt, u32::from(a.number))?;

@@ -1,6 +1,6 @@
 -- Pieces of text, one behind the other, are the text.
 use Prim.Native.Nat.{ℕ, ◌+◌, ◌*◌, ◌/◌, ◌%◌, ◌<◌, ◌≤◌}
-use mathlib.Core.Path.{◌≡◌, refl, ap, subst, ◌∙◌}
+use mathlib.Core.Path.{◌≡◌, refl, sym, ap, subst, ◌∙◌}
 use mathlib.Core.Bool.{Bool}
 use mathlib.Core.List.{List, [], ◌∷◌, ◌++◌}
 use native.Mathlib.Omega.{arith}
@@ -15,13 +15,18 @@ use Rattle.numerals.specs.Digits.{decimal_digits, fitting}
 use Rattle.numerals.specs.Writes.{Put}
 use Rattle.numerals.proofs.Writes.{put_then, put_within}
 use Rattle.numerals.proofs.Numerals.{put_fitting, put_no_room, put_room}
+use Rattle.std.specs.Prelude.{Result, Ok, Err}
+use Rattle.block_lengths.specs.declared.BlockLengths.{BlockLengths}
 use Rattle.block_lengths.specs.declared.LengthsAnswer.{LengthsAnswer}
+use Rattle.block_lengths.specs.declared.Refusal.{Refusal}
+use Rattle.block_lengths.specs.Told.{refusal_number, told}
 use Rattle.block_lengths.specs.Paper.{speeds, entry}
-use Rattle.block_lengths.specs.Lengths.{answer}
+use Rattle.block_lengths.specs.Lengths.{refusal, answer}
 use Rattle.block_lengths.specs.Millimetres.{millimetres}
 use Rattle.lengths_text.specs.Places.{filled, metres_text}
 use Rattle.lengths_text.specs.Answer.{named, measured, lengths_text, refusal_text, answer_text, most_answer, answer_in}
 use Rattle.lengths_text.specs.Sheet.{table_of, side_by_side, row_text, table_text, sheet, most_sheet, sheet_in}
+use Rattle.lengths_text.proofs.Metres.{some_number}
 use Rattle.lengths_text.proofs.Writing.{join_start, join_next, join_end}
 
 module _ (a b : List ℕ) (at i : ℕ) where
@@ -46,16 +51,16 @@ module _ (a b : List ℕ) (at i : ℕ) where
 
 -- ---- the answer
 
-module _ (a b : List ℕ) (i number : ℕ) where
+module _ (a b : List ℕ) (i : ℕ) where
   -- 28
-  pub headway_told : number ≡ 28 → Put a 0 (ascii "28: the headway is not one of 120 to 600 seconds\n") 49 b i → Put a 0 (refusal_text number) most_answer b i
+  pub headway_told : Put a 0 (ascii "28: the headway is not one of 120 to 600 seconds\n") 49 b i → Put a 0 (refusal_text 28) most_answer b i
   unfolding refusal_text
-  headway_told e p = subst (λ xs. Put a 0 xs most_answer b i) (if_eq number 28 _ _ _ e refl) (put_within most_answer (lit≤ tt) p)
+  headway_told p = subst (λ xs. Put a 0 xs most_answer b i) (if_eq 28 28 _ _ _ refl refl) (put_within most_answer (lit≤ tt) p)
 
   -- 29
-  pub speed_told : (number ≡ 28 → ⊥) → Put a 0 (ascii "29: the speed is none of 70, 90, 100, 130, 160 and 200 km/h\n") 60 b i → Put a 0 (refusal_text number) most_answer b i
+  pub speed_told : Put a 0 (ascii "29: the speed is none of 70, 90, 100, 130, 160 and 200 km/h\n") 60 b i → Put a 0 (refusal_text 29) most_answer b i
   unfolding refusal_text
-  speed_told e p = subst (λ xs. Put a 0 xs most_answer b i) (if_ne number 28 _ _ _ e refl) (put_within most_answer (lit≤ tt) p)
+  speed_told p = subst (λ xs. Put a 0 xs most_answer b i) (if_ne 29 28 _ _ _ (λ e. omega (arith, e)) refl) (put_within most_answer (lit≤ tt) p)
 
 -- no room for an answer
 pub answer_none : (a : List ℕ) (headway speed : ℕ) → length a < 256 → Put a 0 (answer_in (length a) headway speed) most_answer a 0
@@ -67,15 +72,17 @@ module _ (a b : List ℕ) (i headway speed : ℕ) (r : LengthsAnswer) (e : r ≡
   answer_told h xs t p =
       put_room a 0 most_answer (answer_text (answer headway speed)) b i (omega arith) (subst (λ zs. Put a 0 zs most_answer b i) (t ∙ ap answer_text e) p)
 
+module _ (a b : List ℕ) (i headway speed : ℕ) (r : Result BlockLengths Refusal) (e : told r ≡ answer headway speed) (h : 256 ≤ length a) where
   -- the lengths
-  pub answer_granted : 256 ≤ length a → r.number ≡ 0 → Put a 0 (lengths_text r.lengths) most_answer b i → Put a 0 (answer_in (length a) headway speed) most_answer b i
+  pub answer_granted : (v : BlockLengths) → r ≡ Ok v → Put a 0 (lengths_text v) most_answer b i → Put a 0 (answer_in (length a) headway speed) most_answer b i
   unfolding answer_text
-  answer_granted h z p = answer_told h (lengths_text r.lengths) (if_eq r.number 0 _ _ _ z refl) p
+  answer_granted v f p = answer_told a b i headway speed (told (Ok v)) (ap told (sym f) ∙ e) h (lengths_text v) (if_eq 0 0 _ _ _ refl refl) p
 
   -- the refusal
-  pub answer_refused : 256 ≤ length a → (r.number ≡ 0 → ⊥) → Put a 0 (refusal_text r.number) most_answer b i → Put a 0 (answer_in (length a) headway speed) most_answer b i
-  unfolding answer_text
-  answer_refused h z p = answer_told h (refusal_text r.number) (if_ne r.number 0 _ _ _ z refl) p
+  pub answer_refused : (v : Refusal) → r ≡ Err v → Put a 0 (refusal_text (refusal_number v)) most_answer b i → Put a 0 (answer_in (length a) headway speed) most_answer b i
+  unfolding answer_text refusal
+  answer_refused v f p =
+      answer_told a b i headway speed (told (Err v)) (ap told (sym f) ∙ e) h (refusal_text (refusal_number v)) (if_ne (refusal_number v) 0 _ _ _ (some_number v) refl) p
 
 -- ---- the sheet
 

@@ -1,10 +1,11 @@
 // What is printed for a headway and a speed.
 ghost use Rattle.std.specs.Prelude.{◌+◌, ◌≤◌, length};
 ghost use Rattle.numerals.specs.Writes.{Put};
+ghost use Rattle.block_lengths.specs.Told.{refusal_number};
 ghost use Rattle.lengths_text.specs.Answer.{named, measured, lengths_text, refusal_text, most_answer, answer_in};
 
 use crate::places;
-use block_lengths::BlockLengths;
+use block_lengths::{BlockLengths, Refusal};
 
 // A word, and a number behind it.
 fn put_named(word: &[u8], n: u32, out: &mut [u8], at: usize) -> usize
@@ -54,22 +55,22 @@ fn put_lengths(b: BlockLengths, out: &mut [u8]) -> usize
 }
 
 // A refusal in words, with its number.
-fn put_refusal(number: u8, out: &mut [u8]) -> usize
+fn put_refusal(refusal: Refusal, out: &mut [u8]) -> usize
     requires { most_answer ≤ length out.old }
-    ensures { Put out.old 0 (refusal_text number) most_answer out.new result }
+    ensures { Put out.old 0 (refusal_text (refusal_number refusal)) most_answer out.new result }
 {
-    if number == block_lengths::BAD_HEADWAY {
-        return places::write_word(
+    match refusal {
+        Refusal::BadHeadway => places::write_word(
             b"28: the headway is not one of 120 to 600 seconds\n",
             out,
             0,
-        );
+        ),
+        Refusal::BadSpeed => places::write_word(
+            b"29: the speed is none of 70, 90, 100, 130, 160 and 200 km/h\n",
+            out,
+            0,
+        ),
     }
-    places::write_word(
-        b"29: the speed is none of 70, 90, 100, 130, 160 and 200 km/h\n",
-        out,
-        0,
-    )
 }
 
 // Both lengths, or the refusal, where the buffer has room for them.
@@ -79,9 +80,8 @@ pub fn put_answer(headway: u32, speed: u32, out: &mut [u8]) -> usize
     if out.len() < 256 {
         return 0;
     }
-    let a = block_lengths::lengths(headway, speed);
-    if a.number == 0 {
-        return put_lengths(a.lengths, out);
+    match block_lengths::lengths(headway, speed) {
+        Ok(lengths) => put_lengths(lengths, out),
+        Err(refusal) => put_refusal(refusal, out),
     }
-    put_refusal(a.number, out)
 }

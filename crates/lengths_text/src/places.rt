@@ -15,10 +15,7 @@ pub fn write_word(word: &[u8], out: &mut [u8], at: usize) -> usize
 fn place_of(fill: u8, n: u64) -> u8
     ensures { result ≡ place fill n }
 {
-    if n == 0 {
-        return fill;
-    }
-    48 + (n % 10) as u8
+    if n == 0 { fill } else { 48 + (n % 10) as u8 }
 }
 
 // So many places before the last.

@@ -12,11 +12,12 @@ fn whole_metres(stopping: bool, row: u32, column: usize) -> u64
     requires { (row < 9) × (column < 6) }
     ensures { result ≡ entry (table_of stopping) row column }
 {
-    let a = block_lengths::lengths(60 * (row + 2), block_lengths::speed_of(column));
-    if stopping {
-        return block_lengths::millimetres(a.lengths.stopping) / 1000;
+    match block_lengths::lengths(60 * (row + 2), block_lengths::speed_of(column)) {
+        Ok(lengths) if stopping => block_lengths::millimetres(lengths.stopping) / 1000,
+        Ok(lengths) => block_lengths::millimetres(lengths.plain) / 1000,
+        // No row and no column of the tables is refused.
+        Err(_) => 0,
     }
-    block_lengths::millimetres(a.lengths.plain) / 1000
 }
 
 // The lengths of a row.
@@ -25,11 +26,9 @@ fn put_entries(stopping: bool, row: u32, out: &mut [u8], at: usize) -> usize
     ensures { Put out.old at (side_by_side 6 (entry (table_of stopping) row)) 48 out.new result }
 {
     let mut next = at;
-    let mut i: usize = 0;
-    while i < 6 {
-        let metres = whole_metres(stopping, row, i);
+    for column in 0..6 {
+        let metres = whole_metres(stopping, row, column);
         next = places::put_filled(32, 7, metres, out, next);
-        i += 1;
     }
     next
 }
@@ -40,11 +39,9 @@ fn put_speeds(out: &mut [u8], at: usize) -> usize
     ensures { Put out.old at (side_by_side 6 (λ column. get_or speeds column 0)) 48 out.new result }
 {
     let mut next = at;
-    let mut i: usize = 0;
-    while i < 6 {
-        let speed = block_lengths::speed_of(i);
+    for column in 0..6 {
+        let speed = block_lengths::speed_of(column);
         next = places::put_filled(32, 7, speed as u64, out, next);
-        i += 1;
     }
     next
 }
@@ -67,10 +64,8 @@ fn put_rows(stopping: bool, out: &mut [u8], at: usize) -> usize
     ensures { Put out.old at (join 9 (row_text stopping)) 540 out.new result }
 {
     let mut next = at;
-    let mut row: u32 = 0;
-    while row < 9 {
+    for row in 0..9 {
         next = put_row(stopping, row, out, next);
-        row += 1;
     }
     next
 }

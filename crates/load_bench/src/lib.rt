@@ -9,13 +9,10 @@ ghost use Rattle.load_bench.specs.Packed.{packed};
 use layout::Layout;
 
 // The overlap section at a place of a route.
-fn look(l: Layout, r: u8, place: u8) -> u8
-    ensures { result ≡ get_or (route l.route r).overlap place 0 }
+fn look(l: &Layout, r: u8, place: u8) -> u8
+    ensures { result ≡ get_or (route l.now.route r).overlap place 0 }
 {
-    let rs = l.route;
-    let x = track::route_at(&rs, r);
-    let overlap = x.overlap;
-    laws::at8(&overlap, place)
+    laws::at8(&track::route_at(&l.route, r).overlap, place)
 }
 
 // The answer in the lowest byte, then 16 bits of the detail, then a section.
@@ -31,9 +28,9 @@ pub extern "C" fn load_bench_answer(bytes: &[u8], r: u8, place: u8) -> u64
     ensures { result ≡ packed (load bytes.now) r place }
 {
     match layout::load(bytes) {
-        Ok(l) => pack(0, 0, look(l, r, place)),
+        Ok(l) => pack(0, 0, look(&l, r, place)),
         Err(fault) => {
-            let section = look(layout::no_layout(), r, place);
+            let section = look(&layout::no_layout(), r, place);
             pack(fault.number(), fault.detail(), section)
         }
     }

@@ -1,3 +1,4 @@
+pub mod Decided
 pub mod Cases
 pub mod Writes
 pub mod Packing

@@ -1,9 +1,11 @@
 -- A text read byte by byte: the loop, and what is read of one text after another.
-use Prim.Native.Nat.{ℕ, ◌+◌, ◌*◌, ◌/◌, ◌<◌, ◌≤◌}
+use Prim.Native.Nat.{ℕ, min, ◌+◌, ◌*◌, ◌/◌, ◌<◌, ◌≤◌}
 use mathlib.Core.Path.{◌≡◌, refl, sym, ap, subst, ◌∙◌}
 use mathlib.Core.List.{List, [], ◌∷◌, ◌++◌, append-nil, append_assoc}
 use native.Mathlib.Numerals.{add-one}
 use native.Mathlib.Omega.{arith}
+use Rattle.std.proofs.Math.Nat.{min-le_left, min-le_right}
+use Rattle.std.proofs.lemmas.List.{length-take-le, take_all}
 use borrow.Author.Tests.{ltb-true, ltb-false}
 use lib.Dec.{ltb}
 use lib.ListN.{length, get_or, take}
@@ -41,15 +43,10 @@ packed_one s byte = append-nil (given s byte)
 
 -- ---- the loop
 
--- the smaller of two is at most the first, whichever it is
-pub fewer_left : (a b : ℕ) → fewer a b ≤ a
+-- the smaller of two sizes is the lesser
+pub fewer_min : (a b : ℕ) → min a b ≡ fewer a b
 unfolding fewer
-fewer_left a b = if_both (λ n. n ≤ a) (ltb a b) (λ e. omega arith) (λ e. ltb-false a b e)
-
--- and at most the second
-pub fewer_right : (a b : ℕ) → fewer a b ≤ b
-unfolding fewer
-fewer_right a b = if_both (λ n. n ≤ b) (ltb a b) (λ e. omega (arith, ltb-true a b e)) (λ e. omega arith)
+fewer_min a b = sym (if_both (λ n. n ≡ min a b) (ltb a b) (λ e. omega (arith, ltb-true a b e)) (λ e. omega (arith, ltb-false a b e)))
 
 module _ (s : Reader) (bytes a : List ℕ) where
   -- one byte more
@@ -81,13 +78,22 @@ module _ (s : Reader) (bytes a : List ℕ) where
       ∙ sym (packed_append s (take i bytes) _) ∙ ap (packed s) (sym (more i h)) in
       subst (λ xs. Put a 0 xs (3 * (i + 1)) c k) text (put_within (3 * (i + 1)) (omega arith) (put_then p q))
 
-  -- after n bytes as much of the piece is read as the buffer surely has room for
-  pub pack_done : (b : List ℕ) (i n m : ℕ) (r : Reader) → n ≡ fewer (length bytes) (length a / 3) → i ≤ n → n ≤ i → r ≡ reader_after s (take i bytes)
-      → Put a 0 (packed s (take i bytes)) (3 * i) b m → PackedPiece a s bytes b (record { reader = r; read = n; written = m })
-  pack_done b i n m r e l g f p =
-      let here : i ≡ n = omega arith in
-      let room : 3 * i ≤ length a = omega (arith, fewer_right (length bytes) (length a / 3)) in record {
-        read = e;
-        reader = f ∙ ap (λ k. reader_after s (take k bytes)) here;
-        text = subst (λ k. Put a 0 (packed s (take k bytes)) (length a) b m) here (put_within (length a) room p);
-      }
+-- for those that are read there is room
+pub few_items : (bytes a : List ℕ) (n : ℕ) → n ≡ min (length bytes) (length a / 3) → 3 * length (take n bytes) ≤ length a
+few_items bytes a n e =
+    let size : length (take n bytes) ≡ n = length-take-le n bytes (omega (arith, e, min-le_left (length bytes) (length a / 3))) in
+    omega (arith, e, min-le_right (length bytes) (length a / 3))
+
+-- after the last of those bytes as much of the piece is read as the buffer surely has room for
+pub pack_done : (s : Reader) (bytes a b : List ℕ) (i n m : ℕ) (r : Reader) → n ≡ min (length bytes) (length a / 3) → i ≤ length (take n bytes)
+    → length (take n bytes) ≤ i → r ≡ reader_after s (take i (take n bytes)) → Put a 0 (packed s (take i (take n bytes))) (3 * i) b m
+    → PackedPiece a s bytes b (record { reader = r; read = n; written = m })
+pack_done s bytes a b i n m r e l g f p =
+    let most : n ≤ length bytes = omega (arith, e, min-le_left (length bytes) (length a / 3)) in
+    let room : 3 * n ≤ length a = omega (arith, e, min-le_right (length bytes) (length a / 3)) in
+    let size : length (take n bytes) ≡ n = length-take-le n bytes most in
+    let all : take i (take n bytes) ≡ take n bytes = take_all i (take n bytes) g in record {
+      read = e ∙ fewer_min (length bytes) (length a / 3);
+      reader = f ∙ ap (reader_after s) all;
+      text = subst (λ xs. Put a 0 (packed s xs) (length a) b m) all (put_within (length a) (omega arith) p);
+    }

@@ -1,21 +1,15 @@
 -- A word that is a number has digits only.
 use Prim.Native.Nat.{ℕ, ◌<◌, ◌≤◌}
-use mathlib.Core.Path.{◌≡◌, sym, subst, ◌∙◌}
+use mathlib.Core.Path.{◌≡◌, sym, subst}
 use mathlib.Core.Bool.{Bool, true, false, true≢false}
 use mathlib.Core.List.{List}
 use borrow.Author.Tests.{leb-true}
 use lib.Dec.{leb, eqb}
 use lib.ListN.{length, get_or}
 use Rattle.laws.specs.Choice.{when◌then◌else◌}
-use Rattle.laws.proofs.Choice.{if_yes}
 use Rattle.laws.proofs.Tests.{all_at, and_left}
 use Rattle.number_text.specs.Text.{is_digit}
-use Rattle.number_text.specs.declared.word.Word.{Word}
-use Rattle.number_text.specs.Word.{is_number, number_of, word_of}
-
--- what is told to hold holds
-pub told : (v t : Bool) → v ≡ t → v ≡ true → t ≡ true
-told v t e p = sym e ∙ p
+use Rattle.number_text.specs.Word.{is_number}
 
 -- a choice that holds, of which the first half is false, is the second
 second : (t b : Bool) → (when t then false else b) ≡ true → b ≡ true
@@ -29,8 +23,3 @@ unfolding is_number is_digit
 digit_least word n i t e l =
     leb-true 48 (get_or word i 0)
     (and_left (leb 48 (get_or word i 0)) (leb (get_or word i 0) 57) (all_at (length word) (λ k. is_digit (get_or word k 0)) (second (eqb (length word) 0) _ t) i (subst (λ k. i < k) e l)))
-
--- a word that is told to be a number is read as that
-pub number_read : (word : List ℕ) (v : Bool) (n : ℕ) → v ≡ is_number word → v ≡ true → n ≡ number_of word → ◌≡◌ {A = Word} (record { good = true; value = n }) (word_of word)
-unfolding word_of
-number_read word v n e p q = if_yes v (is_number word) _ _ _ e p (rw q)

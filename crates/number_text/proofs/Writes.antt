@@ -1,12 +1,11 @@
 -- What is written of a number, each case from the facts that choose it.
 use Prim.Native.Nat.{ℕ, zero, suc, ◌+◌, ◌-◌, ◌/◌, ◌%◌, ◌<◌, ◌≤◌}
 use mathlib.Core.Path.{◌≡◌, refl, sym, subst, ◌∙◌}
-use mathlib.Core.Bool.{Bool, true, false, not}
+use mathlib.Core.Bool.{Bool, true, false}
 use mathlib.Core.List.{List, [], ◌∷◌}
 use native.Mathlib.Numerals.{sub-one}
 use native.Mathlib.Omega.{arith}
 use borrow.Author.Rules.{rules}
-use borrow.Author.Tests.{not-true, not-false}
 use lib.ListN.{length, set, length-set}
 use Rattle.laws.proofs.Choice.{if_true, if_false, if_eq, if_ne, if_lt, if_ge}
 use Rattle.numbers.specs.Number.{largest}
@@ -71,33 +70,22 @@ module _ (a : List ℕ) (at byte : ℕ) (s : Reader) where
   given_over e h = subst (λ xs. Put a at xs 3 a at) (if_eq _ _ _ _ _ e (if_lt _ _ _ _ _ h refl)) (put_none 3)
 
   -- the word goes on
-  pub given_not_yet : (r : Bool) → s.doing ≡ 1 → s.value ≤ largest → r ≡ ends_word byte → not r ≡ true → Put a at (given s byte) 3 a at
+  pub given_not_yet : (r : Bool) → s.doing ≡ 1 → s.value ≤ largest → r ≡ ends_word byte → r ≡ false → Put a at (given s byte) 3 a at
   unfolding given
   given_not_yet r e h d q =
-      subst (λ xs. Put a at xs 3 a at) (if_eq _ _ _ _ _ e (if_ge _ _ _ _ _ h (if_false _ _ _ _ (sym d ∙ not-true r q) refl))) (put_none 3)
+      subst (λ xs. Put a at xs 3 a at) (if_eq _ _ _ _ _ e (if_ge _ _ _ _ _ h (if_false _ _ _ _ (sym d ∙ q) refl))) (put_none 3)
 
   -- the word ends, and its number is written
-  pub given_number : (r : Bool) (b : List ℕ) (m : ℕ) → s.doing ≡ 1 → s.value ≤ largest → r ≡ ends_word byte → not r ≡ false
+  pub given_number : (r : Bool) (b : List ℕ) (m : ℕ) → s.doing ≡ 1 → s.value ≤ largest → r ≡ ends_word byte → r ≡ true
       → Put a at (encode_in 3 s.value) 3 b m → Put a at (given s byte) 3 b m
   unfolding given encode
   given_number r b m e h d q p =
-      subst (λ xs. Put a at xs 3 b m) (if_eq _ _ _ _ _ e (if_ge _ _ _ _ _ h (if_true _ _ _ _ (sym d ∙ not-false r q) refl))) p
+      subst (λ xs. Put a at xs 3 b m) (if_eq _ _ _ _ _ e (if_ge _ _ _ _ _ h (if_true _ _ _ _ (sym d ∙ q) refl))) p
 
 -- for the number that a byte ends
 pub ruleset gifts = (rules, given_none, given_over, given_not_yet, given_number)
 
 -- ---- a number in a line
-
-module _ (per column : ℕ) where
-  -- the line is full
-  pub column_full : per ≤ column + 1 → 0 ≡ next_column per column
-  unfolding next_column
-  column_full h = if_ge _ _ _ _ _ h refl
-
-  -- it has room for another number
-  pub column_more : column + 1 < per → column + 1 ≡ next_column per column
-  unfolding next_column
-  column_more h = if_lt _ _ _ _ _ h refl
 
 module _ (a : List ℕ) (at column : ℕ) where
   -- the first number of a line has nothing before it

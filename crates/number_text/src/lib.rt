@@ -7,4 +7,4 @@ mod word;
 
 pub use pack::{Packed, Reader, pack_piece, start};
 pub use unpack::{Unpacked, unpack_piece};
-pub use word::{Word, read_word};
+pub use word::read_word;

@@ -3,14 +3,14 @@ ghost use Rattle.std.specs.Prelude.{◌≡◌, ◌+◌, ◌≤◌, length, set};
 ghost use Rattle.numbers.specs.Form.{encode_in};
 ghost use Rattle.numerals.specs.Writes.{Put};
 ghost use Rattle.number_text.specs.Text.{next_line, ends_word, is_digit, standing, first, next_value, next_size, in_word, refused, after_end, after_word, next, given};
-ghost use Rattle.number_text.specs.Pieces.{fewer, PackedPiece};
+ghost use Rattle.number_text.specs.Pieces.{PackedPiece};
 
 // The largest number of the form.
 const LARGEST: u64 = 65535;
 
 // Where the reading of a text stands: the line, from 1 on; what is being read; the number so far; and the word so far, its first 32 bytes.
 // 0 between words; 1 in a number; 2 in a word that is no number; 3 in a comment; and it stopped at 4 a word that is no number, 5 a number
-// above the largest.
+// above the largest. `doing` stays a number: pack_piece answers for every Reader, also one of a greater number, and an enum would refuse it.
 #[derive(Clone, Copy)]
 pub struct Reader {
     pub line: u64,
@@ -29,30 +29,31 @@ pub struct Packed {
 }
 
 // The line after a line.
+#[tactic(auto, using(crate::proofs::Decided::decided), unfolding(crate::specs::Text::next_line))]
 fn next_line(line: u64) -> u64
     ensures { result ≡ next_line line }
 {
-    if line < 18446744073709551615 {
-        return line + 1;
-    }
-    line
+    line.saturating_add(1)
 }
 
 // A byte that no word holds: space, tab, carriage return, line end, comma, and `#`, which starts a comment.
+#[tactic(auto, using(crate::proofs::Decided::decided), unfolding(crate::specs::Text::ends_word))]
 fn is_end(byte: u8) -> bool
     ensures { result ≡ ends_word byte }
 {
-    (byte == 32) | (byte == 9) | (byte == 13) | (byte == 10) | (byte == 44) | (byte == 35)
+    matches!(byte, b' ' | b'\t' | b'\r' | b'\n' | b',' | b'#')
 }
 
 // A decimal digit.
+#[tactic(auto, using(crate::proofs::Decided::decided), unfolding(crate::specs::Text::is_digit))]
 pub fn is_digit(byte: u8) -> bool
     ensures { result ≡ is_digit byte }
 {
-    (48 <= byte) & (byte <= 57)
+    byte.is_ascii_digit()
 }
 
 // Nothing of a word is read.
+#[tactic(auto, unfolding(crate::specs::Text::standing))]
 fn stand(line: u64, doing: u8) -> Reader
     ensures { result ≡ standing line doing }
 {
@@ -66,6 +67,7 @@ fn stand(line: u64, doing: u8) -> Reader
 }
 
 // Before the first byte of a text.
+#[tactic(auto, unfolding(crate::specs::Text::first))]
 pub fn start() -> Reader
     ensures { result ≡ first }
 {
@@ -80,6 +82,7 @@ fn start_line(line: u64) -> Reader
 }
 
 // The number with one more digit, as far as it is not too large already.
+#[tactic(auto, using(crate::proofs::Decided::decided), unfolding(crate::specs::Text::next_value))]
 pub fn next_value(value: u64, byte: u8) -> u64
     requires { 48 ≤ byte }
     ensures { result ≡ next_value value byte }
@@ -91,6 +94,7 @@ pub fn next_value(value: u64, byte: u8) -> u64
 }
 
 // How many bytes of the word are kept.
+#[tactic(auto, using(crate::proofs::Decided::decided), unfolding(crate::specs::Text::next_size))]
 fn next_size(size: u8) -> u8
     ensures { result ≡ next_size size }
 {
@@ -101,71 +105,61 @@ fn next_size(size: u8) -> u8
 }
 
 // The word with one more byte, where there is room for it.
-fn keep(word: [u8; 32], size: u8, byte: u8) -> [u8; 32]
+fn keep(mut word: [u8; 32], size: u8, byte: u8) -> [u8; 32]
     ensures { result ≡ set word size byte }
 {
-    let mut longer = word;
     if size < 32 {
-        longer[size as usize] = byte;
+        word[size as usize] = byte;
     }
-    longer
+    word
 }
 
 // A byte of a word.
+#[tactic(auto, using(crate::proofs::Cases::words), unfolding(crate::specs::Text::in_word))]
 fn take_in(s: Reader, byte: u8) -> Reader
     ensures { result ≡ in_word s byte }
 {
-    let word = s.word;
-    let longer = keep(word, s.size, byte);
     let size = next_size(s.size);
-    if s.doing < 2 {
-        if is_digit(byte) {
-            return Reader {
-                line: s.line,
-                doing: 1,
-                value: next_value(s.value, byte),
-                size,
-                word: longer,
-            };
-        }
+    let word = keep(s.word, s.size, byte);
+    if s.doing < 2 && is_digit(byte) {
+        return Reader {
+            doing: 1,
+            value: next_value(s.value, byte),
+            size,
+            word,
+            ..s
+        };
     }
     Reader {
-        line: s.line,
         doing: 2,
-        value: s.value,
         size,
-        word: longer,
+        word,
+        ..s
     }
 }
 
 // The reading stops at the word that it read.
+#[tactic(auto, unfolding(crate::specs::Text::refused))]
 fn refuse(s: Reader, why: u8) -> Reader
     ensures { result ≡ refused s why }
 {
-    let word = s.word;
-    Reader {
-        line: s.line,
-        doing: why,
-        value: s.value,
-        size: s.size,
-        word,
-    }
+    Reader { doing: why, ..s }
 }
 
 // After a byte that no word holds.
+#[tactic(auto, using(crate::proofs::Decided::decided), unfolding(crate::specs::Text::after_end))]
 fn after_end(line: u64, byte: u8) -> Reader
     ensures { result ≡ after_end line byte }
 {
-    if byte == 10 {
-        return start_line(line);
+    match byte {
+        b'\n' => start_line(line),
+        b'#' => stand(line, 3),
+        _ => stand(line, 0),
     }
-    if byte == 35 {
-        return stand(line, 3);
-    }
-    stand(line, 0)
 }
 
 // A byte that ends the word, if there is one.
+#[tactic(auto, using(crate::proofs::Decided::decided), unfolding(crate::specs::Text::after_word))]
 fn end_word(s: Reader, byte: u8) -> Reader
     ensures { result ≡ after_word s byte }
 {
@@ -179,6 +173,7 @@ fn end_word(s: Reader, byte: u8) -> Reader
 }
 
 // One more byte.
+#[tactic(auto, using(crate::proofs::Decided::decided), unfolding(crate::specs::Text::next))]
 fn take(s: Reader, byte: u8) -> Reader
     ensures { result ≡ next s byte }
 {
@@ -186,10 +181,7 @@ fn take(s: Reader, byte: u8) -> Reader
         return s;
     }
     if s.doing == 3 {
-        if byte == 10 {
-            return start_line(s.line);
-        }
-        return s;
+        return if byte == b'\n' { start_line(s.line) } else { s };
     }
     if is_end(byte) {
         return end_word(s, byte);
@@ -218,45 +210,26 @@ fn put_given(s: Reader, byte: u8, out: &mut [u8], at: usize) -> usize
     requires { at + 3 ≤ length out.old }
     ensures { Put out.old at (given s byte) 3 out.new result }
 {
-    if s.doing != 1 {
-        return at;
+    if s.doing == 1 && s.value <= LARGEST && is_end(byte) {
+        return put_groups(3, s.value, out, at);
     }
-    if LARGEST < s.value {
-        return at;
-    }
-    if !is_end(byte) {
-        return at;
-    }
-    put_groups(3, s.value, out, at)
-}
-
-// The smaller of two sizes.
-fn smaller(a: usize, b: usize) -> usize
-    ensures { result ≡ fewer a b }
-{
-    if a < b {
-        return a;
-    }
-    b
+    at
 }
 
 // As many bytes of a text as there is room for the numbers of, three bytes for each.
 pub fn pack_piece(s: Reader, bytes: &[u8], out: &mut [u8]) -> Packed
     ensures { PackedPiece out.old s bytes.now out.new result }
 {
-    let n = smaller(bytes.len(), out.len() / 3);
+    let read = bytes.len().min(out.len() / 3);
     let mut reader = s;
-    let mut written: usize = 0;
-    let mut i: usize = 0;
-    while i < n {
-        let byte = bytes[i];
-        written = put_given(reader, byte, out, written);
-        reader = take(reader, byte);
-        i += 1;
+    let mut written = 0;
+    for byte in &bytes[..read] {
+        written = put_given(reader, *byte, out, written);
+        reader = take(reader, *byte);
     }
     Packed {
         reader,
-        read: n,
+        read,
         written,
     }
 }

@@ -18,16 +18,12 @@ pub struct Unpacked {
 }
 
 // How many numbers stand in the line after one more.
+#[tactic(auto, using(crate::proofs::Decided::decided), unfolding(crate::specs::Lines::next_column))]
 fn next_column(per: u64, column: u64) -> u64
     ensures { result ≡ next_column per column }
 {
-    if per <= column {
-        return 0;
-    }
-    if per - column < 2 {
-        return 0;
-    }
-    column + 1
+    let next = column.saturating_add(1);
+    if next < per { next } else { 0 }
 }
 
 // The space before a number.
@@ -80,10 +76,9 @@ fn go_on(per: u64, p: Unpacked, n: Result<Given, Fault>, out: &mut [u8]) -> Unpa
             }
         }
         Err(fault) => Unpacked {
-            column: p.column,
             at: fault.detail(),
-            written: p.written,
             stop: fault.number(),
+            ..p
         },
     }
 }
@@ -104,17 +99,14 @@ fn turn(per: u64, p: Unpacked, bytes: &[u8], out: &mut [u8]) -> Unpacked
 pub fn unpack_piece(per: u64, column: u64, bytes: &[u8], at: usize, out: &mut [u8]) -> Unpacked
     ensures { Went out.old 0 (length out.old) out.new result (unpacked (length out.old / 7) per bytes.now column at) }
 {
-    let n = out.len() / 7;
     let mut p = Unpacked {
         column,
         at,
         written: 0,
         stop: 0,
     };
-    let mut i: usize = 0;
-    while i < n {
+    for _ in 0..out.len() / 7 {
         p = turn(per, p, bytes, out);
-        i += 1;
     }
     p
 }

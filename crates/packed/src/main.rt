@@ -37,31 +37,29 @@ fn unpack(rt: &HostRuntime, path: &[u8], per: u64) -> Result<(), Reported> {
     unpacking::unpack_file(rt, path, per, true)
 }
 
-// How many numbers a line has: one where no word says it, 0 where the word is no number.
-fn per_line(word: &[u8]) -> u64 {
+// How many numbers a line has: one where no word says it, and none told where the word is no number from 1 on.
+fn per_line(word: &[u8]) -> Option<u64> {
     if word.is_empty() {
-        return 1;
+        return Some(1);
     }
     let mut out = [0u8; 4096];
-    let p = number_text::pack_piece(number_text::start(), word, &mut out);
-    let reader = p.reader;
-    if reader.doing == 1 && reader.value <= 65535 {
-        return reader.value;
+    let reader = number_text::pack_piece(number_text::start(), word, &mut out).reader;
+    if reader.doing == 1 && (1..=65535).contains(&reader.value) {
+        return Some(reader.value);
     }
-    0
+    None
 }
 
 // The command with its file.
 fn run(rt: &HostRuntime, command: &[u8], path: &[u8], count: &[u8]) -> Result<(), Reported> {
-    let per = per_line(count);
-    if command == b"unpack".as_slice() && per > 0 {
-        return unpack(rt, path, per);
+    match (command, per_line(count)) {
+        (b"unpack", Some(per)) => unpack(rt, path, per),
+        (b"pack", _) if count.is_empty() => pack(rt, path),
+        _ => {
+            usage(rt);
+            Ok(())
+        }
     }
-    if command == b"pack".as_slice() && count.is_empty() {
-        return pack(rt, path);
-    }
-    usage(rt);
-    Ok(())
 }
 
 // The command, the file and the count, by the arguments.
@@ -69,18 +67,15 @@ fn with_arguments(rt: &HostRuntime) -> Result<(), Reported> {
     let mut command = [0u8; 4096];
     let mut path = [0u8; 4096];
     let mut count = [0u8; 4096];
-    let Some(c) = console::argument(rt, 1, &mut command) else {
-        usage(rt);
-        return Ok(());
-    };
-    let Some(p) = console::argument(rt, 2, &mut path) else {
-        usage(rt);
-        return Ok(());
-    };
-    match console::argument(rt, 3, &mut count) {
-        Some(n) => run(rt, &command[..c], &path[..p], &count[..n]),
-        None => run(rt, &command[..c], &path[..p], b""),
+    if let (Some(command), Some(path)) = (
+        console::argument(rt, 1, &mut command),
+        console::argument(rt, 2, &mut path),
+    ) {
+        let count = console::argument(rt, 3, &mut count).unwrap_or(b"");
+        return run(rt, command, path, count);
     }
+    usage(rt);
+    Ok(())
 }
 
 // What failed was said on standard error, by which `./packed` goes: the exit status stays 0.

@@ -8,27 +8,27 @@ use std::io::ErrorKind;
 
 // Says so many bytes of a word on standard error; a word that has no more room may go on.
 fn show(rt: &HostRuntime, word: &[u8], size: usize) {
-    if size < word.len() {
-        console::tell(rt, &word[..size]);
-        return;
+    console::tell(rt, &word[..size.min(word.len())]);
+    if word.len() <= size {
+        console::tell(rt, b"..");
     }
-    console::tell(rt, word);
-    console::tell(rt, b"..");
 }
 
 // Says which word of the file is no number.
 fn tell(rt: &HostRuntime, path: &[u8], reader: Reader) -> Reported {
-    let word = reader.word;
     console::tell(rt, path);
     console::tell(rt, b": line ");
     console::tell_value(rt, reader.line);
     console::tell(rt, b": ");
-    show(rt, &word, reader.size as usize);
-    if reader.doing == 5 {
-        console::tell(rt, b" is above 65535\n");
-    } else {
-        console::tell(rt, b" is no number\n");
-    }
+    show(rt, &reader.word, reader.size as usize);
+    console::tell(
+        rt,
+        if reader.doing == 5 {
+            b" is above 65535\n"
+        } else {
+            b" is no number\n"
+        },
+    );
     Reported
 }
 
@@ -42,12 +42,11 @@ fn walk_piece(
 ) -> Result<Reader, Reported> {
     let mut out = [0u8; 65536];
     let p = number_text::pack_piece(before, bytes, &mut out);
-    let reader = p.reader;
-    if reader.doing > 3 {
-        return Err(tell(rt, path, reader));
+    if p.reader.doing > 3 {
+        return Err(tell(rt, path, p.reader));
     }
     written(rt, &out, p.written, writes)?;
-    Ok(reader)
+    Ok(p.reader)
 }
 
 // The next piece of the file, with how the reading stands after it; or its end, which ends a word as a line's end does.

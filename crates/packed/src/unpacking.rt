@@ -28,17 +28,11 @@ fn tell(rt: &HostRuntime, path: &[u8], number: u8, place: usize) -> Reported {
     Reported
 }
 
-// A byte is copied to an earlier place, where there are both.
-fn bring(buf: &mut [u8], to: usize, from: usize) {
-    if from < buf.len() && to < buf.len() {
-        buf[to] = buf[from];
+// The bytes from a place to another are brought to the front, as far as there are so many.
+fn bring_rest(buf: &mut [u8], at: usize, end: usize) {
+    for from in at..end.min(buf.len()) {
+        buf[from - at] = buf[from];
     }
-}
-
-// The bytes from a place on are brought to the front. What is left of a piece is less than one number, two bytes at most.
-fn bring_rest(buf: &mut [u8], at: usize) {
-    bring(buf, 0, at);
-    bring(buf, 1, at.saturating_add(1));
 }
 
 // The file ended: the last line is ended, or a number was cut.
@@ -62,7 +56,7 @@ fn read_on(
     writes: bool,
 ) -> Result<Option<Walk>, Reported> {
     let rest = w.have.saturating_sub(w.at).min(buf.len());
-    bring_rest(buf, w.at);
+    bring_rest(buf, w.at, w.have);
     let more = console::read(rt, file, path, &mut buf[rest..])?;
     if more == 0 {
         last_line(rt, path, w, writes)?;

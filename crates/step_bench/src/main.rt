@@ -7,8 +7,6 @@
 // Of a file the first 65,536 bytes are read.
 #![tactic(auto)]
 
-ghost use Rattle.std.specs.Prelude.{◌≤◌};
-
 use axles::Axles;
 use console::Reported;
 use interlocking::parts::{core_of, head_place, lamps_then, whole};
@@ -31,18 +29,6 @@ struct Event {
     second: u32,
 }
 
-// A byte, as a number to count with.
-fn wide(x: u8) -> u32
-    ensures { result ≤ 255 }
-{
-    x as u32
-}
-
-// The number of four bytes.
-fn word(a: u8, b: u8, c: u8, d: u8) -> u32 {
-    wide(a) + 256 * wide(b) + 65536 * wide(c) + 16777216 * wide(d)
-}
-
 // The sum with one more number.
 fn mixed(sum: u64, x: u32) -> u64 {
     31 * (sum % 1000000007) + x as u64
@@ -57,13 +43,10 @@ fn event_of(e: &[u8]) -> Event {
             second: 0,
         };
     }
-    let kind = word(e[0], e[1], e[2], e[3]);
-    let first = word(e[4], e[5], e[6], e[7]);
-    let second = word(e[8], e[9], e[10], e[11]);
     Event {
-        kind,
-        first,
-        second,
+        kind: u32::from_le_bytes([e[0], e[1], e[2], e[3]]),
+        first: u32::from_le_bytes([e[4], e[5], e[6], e[7]]),
+        second: u32::from_le_bytes([e[8], e[9], e[10], e[11]]),
     }
 }
 
@@ -112,35 +95,22 @@ fn play(plan: Layout, asking: bool, events: &[u8], turns: u64, given: Played) ->
     Played { state, sum }
 }
 
-// Plays the whole events in the first n bytes of a file so many times.
-fn play_file(
-    plan: Layout,
-    asking: bool,
-    file: &[u8],
-    n: usize,
-    turns: u64,
-    given: Played,
-) -> Played {
-    if file.len() < n {
-        return given;
-    }
-    play(plan, asking, &file[0..n - n % 12], turns, given)
-}
-
-// Reads the file that an argument names into the room lent, and answers how many bytes there are: none, where it cannot be opened.
-fn read_named(rt: &HostRuntime, argument: usize, room: &mut [u8]) -> Result<usize, Reported> {
+// Reads the file that an argument names into the room lent, and answers what it has of it: nothing, where it cannot be opened.
+fn read_named<'a>(
+    rt: &HostRuntime,
+    argument: usize,
+    room: &'a mut [u8],
+) -> Result<&'a [u8], Reported> {
     let mut word = [0u8; 4096];
-    let path = match console::argument(rt, argument, &mut word) {
-        Some(n) => &word[..n],
-        None => &word[..0],
+    let path = console::argument(rt, argument, &mut word).unwrap_or(b"");
+    let n = match console::open(rt, path) {
+        Ok(mut file) => console::fill(rt, &mut file, path, room)?,
+        Err(_) => 0,
     };
-    let Ok(mut file) = console::open(rt, path) else {
-        return Ok(0);
-    };
-    console::fill(rt, &mut file, path, room)
+    Ok(&room[..n.min(room.len())])
 }
 
-// Plays the file that an argument names so many times.
+// Plays the whole events of the file that an argument names so many times.
 fn play_named(
     rt: &HostRuntime,
     plan: Layout,
@@ -150,61 +120,41 @@ fn play_named(
     given: Played,
 ) -> Result<Played, Reported> {
     let mut room = [0u8; 65536];
-    let n = read_named(rt, argument, &mut room)?;
-    Ok(play_file(plan, asking, &room, n, turns, given))
-}
-
-// The layout in the first n bytes of a file.
-fn layout_of(file: &[u8], n: usize) -> Layout {
-    let loaded = if file.len() < n {
-        layout::load(file)
-    } else {
-        layout::load(&file[0..n])
-    };
-    match loaded {
-        Ok(layout) => layout,
-        Err(_) => layout::no_layout(),
-    }
-}
-
-// The layout with the sections that the first n bytes of a file tell as fitted.
-fn equipped(plan: Layout, file: &[u8], n: usize) -> Layout {
-    if file.len() < n {
-        return plan;
-    }
-    match fitted::fit(plan, &file[0..n]) {
-        Ok(equipped) => equipped,
-        Err(_) => plan,
-    }
+    let file = read_named(rt, argument, &mut room)?;
+    Ok(play(
+        plan,
+        asking,
+        &file[..file.len() - file.len() % 12],
+        turns,
+        given,
+    ))
 }
 
 // The layout in the file that an argument names.
 fn layout_named(rt: &HostRuntime, argument: usize) -> Result<Layout, Reported> {
     let mut room = [0u8; 65536];
-    let n = read_named(rt, argument, &mut room)?;
-    Ok(layout_of(&room, n))
+    match layout::load(read_named(rt, argument, &mut room)?) {
+        Ok(layout) => Ok(layout),
+        Err(_) => Ok(layout::no_layout()),
+    }
 }
 
 // The layout with the sections that the file that an argument names tells as fitted.
 fn equipped_named(rt: &HostRuntime, plan: Layout, argument: usize) -> Result<Layout, Reported> {
     let mut room = [0u8; 65536];
-    let n = read_named(rt, argument, &mut room)?;
-    Ok(equipped(plan, &room, n))
-}
-
-// A number with one more digit; other bytes than digits leave it as it was.
-fn with_digit(n: u64, digit: u8) -> u64 {
-    if digit < 48 || 57 < digit {
-        return n;
+    match fitted::fit(plan, read_named(rt, argument, &mut room)?) {
+        Ok(equipped) => Ok(equipped),
+        Err(_) => Ok(plan),
     }
-    10 * (n % 1000000000) + (digit - 48) as u64
 }
 
-// The number that is written in digits.
+// The number that is written in digits, of which the last ten count; other bytes than digits leave it as it was.
 fn number_of(text: &[u8]) -> u64 {
-    let mut n = 0;
-    for digit in text {
-        n = with_digit(n, *digit);
+    let mut n: u64 = 0;
+    for byte in text {
+        if let b'0'..=b'9' = *byte {
+            n = 10 * (n % 1000000000) + (*byte - b'0') as u64;
+        }
     }
     n
 }
@@ -212,17 +162,14 @@ fn number_of(text: &[u8]) -> u64 {
 // The number that an argument is, 0 where it has more than twenty bytes.
 fn number_named(rt: &HostRuntime, argument: usize) -> u64 {
     let mut text = [0u8; 20];
-    match console::argument(rt, argument, &mut text) {
-        Some(n) => number_of(&text[..n]),
-        None => 0,
-    }
+    console::argument(rt, argument, &mut text).map_or(0, |digits| number_of(digits))
 }
 
 // Whether an argument begins with the letter.
 fn begins_with(rt: &HostRuntime, argument: usize, letter: u8) -> bool {
     let mut text = [0u8; 4096];
     match console::argument(rt, argument, &mut text) {
-        Some(n) => n > 0 && text[0] == letter,
+        Some(word) => word.first() == Some(&letter),
         None => false,
     }
 }
@@ -231,36 +178,23 @@ fn begins_with(rt: &HostRuntime, argument: usize, letter: u8) -> bool {
 fn mixed_codes(sum: u64, codes: &[u8]) -> u64 {
     let mut all = sum;
     for code in codes {
-        all = mixed(all, wide(*code));
+        all = mixed(all, u32::from(*code));
     }
     all
 }
 
-// The sum with the codes of sections, points and routes.
-fn mixed_half(sum: u64, s: State) -> u64 {
-    let section = s.section;
-    let point = s.point;
-    let order = s.order;
-    let phase = s.phase;
-    let step = s.steps;
-    let a = mixed_codes(sum, &section);
-    let b = mixed_codes(a, &point);
-    let c = mixed_codes(b, &order);
-    let d = mixed_codes(c, &phase);
-    mixed_codes(d, &step)
-}
-
 // The sum with all the codes of a state but for its heads and lamps.
-fn mixed_state(sum: u64, s: State) -> u64 {
-    let second = s.seconds;
-    let direction = s.direction;
-    let stage = s.stage;
-    let bar = s.bar;
-    let a = mixed_half(sum, s);
-    let b = mixed_codes(a, &second);
-    let c = mixed_codes(b, &direction);
-    let d = mixed_codes(c, &stage);
-    mixed_codes(d, &bar)
+fn mixed_state(sum: u64, s: &State) -> u64 {
+    let mut all = sum;
+    all = mixed_codes(all, &s.section);
+    all = mixed_codes(all, &s.point);
+    all = mixed_codes(all, &s.order);
+    all = mixed_codes(all, &s.phase);
+    all = mixed_codes(all, &s.steps);
+    all = mixed_codes(all, &s.seconds);
+    all = mixed_codes(all, &s.direction);
+    all = mixed_codes(all, &s.stage);
+    mixed_codes(all, &s.bar)
 }
 
 // Plays what the arguments name, from a state on.
@@ -269,8 +203,7 @@ fn play_arguments(rt: &HostRuntime, plan: Layout, state: State) -> Result<(), Re
     let turns = number_named(rt, 5);
     let first = play_named(rt, plan, asking, 3, 1, Played { state, sum: 0 })?;
     let played = play_named(rt, plan, asking, 4, turns, first)?;
-    let last = played.state;
-    console::print_value(rt, mixed_state(played.sum, last))?;
+    console::print_value(rt, mixed_state(played.sum, &played.state))?;
     console::print(rt, b"\n")
 }
 

@@ -1,64 +1,65 @@
-// A line of text in the room lent. Each function answers how much of the room is used; what it has no place for is left out.
+// A line of text.
 use console::Reported;
 
-// Puts a byte.
-pub fn put(line: &mut [u8], at: usize, byte: u8) -> usize {
-    if line.len() <= at {
-        return at;
-    }
-    line[at] = byte;
-    at + 1
-}
-
-// Puts bytes.
-fn put_bytes(line: &mut [u8], from: usize, bytes: &[u8]) -> usize {
-    let mut at = from;
-    for byte in bytes {
-        at = put(line, at, *byte);
-    }
-    at
-}
-
-// Puts a number.
-pub fn put_number(line: &mut [u8], at: usize, n: u32) -> usize {
-    let mut digits = [0u8; 20];
-    let k = numerals::put_digits(20, n as u64, &mut digits, 0);
-    put_bytes(line, at, &digits[..k])
+// The line is the first bytes of its room; what there is no place for is left out.
+#[derive(Clone, Copy)]
+pub struct Line {
+    room: [u8; 4096],
+    used: usize,
 }
 
 // A code as a digit.
 fn digit(code: u8) -> u8 {
-    if code < 10 {
-        return 48 + code;
-    }
-    b'?'
+    if code < 10 { 48 + code } else { b'?' }
 }
 
-// Puts a code in so many digits, one or two.
-fn put_code(line: &mut [u8], at: usize, code: u8, digits: u8) -> usize {
-    if digits == 1 {
-        return put(line, at, digit(code));
-    }
-    let next = put(line, at, digit(code / 10));
-    put(line, next, digit(code % 10))
-}
-
-// Puts the first n codes of a table, each in so many digits, and a space.
-pub fn put_codes(line: &mut [u8], from: usize, codes: &[u8], n: usize, digits: u8) -> usize {
-    let mut at = from;
-    for i in 0..n {
-        if codes.len() <= i {
-            return put(line, at, b' ');
+impl Line {
+    // An empty line.
+    pub fn new() -> Line {
+        Line {
+            room: [0; 4096],
+            used: 0,
         }
-        at = put_code(line, at, codes[i], digits);
     }
-    put(line, at, b' ')
-}
 
-// Writes the line.
-pub fn write(rt: &HostRuntime, line: &[u8], at: usize) -> Result<(), Reported> {
-    if line.len() < at {
-        return Ok(());
+    // Whether there is nothing in it.
+    pub fn is_empty(&self) -> bool {
+        self.used == 0
     }
-    console::print(rt, &line[0..at])
+
+    // Puts a byte.
+    pub fn put(&mut self, byte: u8) {
+        if self.used < 4096 {
+            self.room[self.used] = byte;
+            self.used += 1;
+        }
+    }
+
+    // Puts a number.
+    pub fn put_number(&mut self, n: u32) {
+        let mut digits = [0u8; 20];
+        let k = numerals::put_digits(20, n as u64, &mut digits, 0);
+        for byte in &digits[..k.min(20)] {
+            self.put(*byte);
+        }
+    }
+
+    // Puts the first n codes of a table, as far as it has so many, each in so many digits, one or two, and a space.
+    pub fn put_codes(&mut self, codes: &[u8], n: usize, digits: u8) {
+        for code in &codes[..n.min(codes.len())] {
+            if digits == 2 {
+                self.put(digit(*code / 10));
+                self.put(digit(*code % 10));
+            } else {
+                self.put(digit(*code));
+            }
+        }
+        self.put(b' ');
+    }
+
+    // Writes the line with its end.
+    pub fn write(&mut self, rt: &HostRuntime) -> Result<(), Reported> {
+        self.put(b'\n');
+        console::print(rt, &self.room[..self.used.min(4096)])
+    }
 }

@@ -2,122 +2,37 @@
 use super::by_hand::{Change, put};
 use track::{Line, Route};
 
-// A line with a number changed.
-fn changed_line_numbers(given: Line, c: Change) -> Line {
-    let mut t = given;
-    if c.field == 0 {
-        t.blocks = c.byte;
-    }
-    if c.field == 1 {
-        let mut xs = given.block;
-        put(&mut xs, c.place, c.byte);
-        t.block = xs;
-    }
-    if c.field == 2 {
-        t.innera = c.byte;
-    }
-    if c.field == 3 {
-        t.innerb = c.byte;
-    }
-    if c.field == 4 {
-        t.entrancea = c.byte;
-    }
-    if c.field == 5 {
-        t.entranceb = c.byte;
-    }
-    if c.field == 6 {
-        t.points = c.byte;
-    }
-    t
-}
-
-// A line with a point or a position changed.
-fn changed_line_points(given: Line, c: Change) -> Line {
-    let mut t = given;
-    if c.field == 7 {
-        let mut xs = given.point;
-        put(&mut xs, c.place, c.byte);
-        t.point = xs;
-    }
-    if c.field == 8 {
-        let mut xs = given.position;
-        put(&mut xs, c.place, c.byte);
-        t.position = xs;
-    }
-    t
-}
-
-// A route with a number changed.
-fn changed_route_numbers(given: Route, c: Change) -> Route {
-    let mut t = given;
-    if c.field == 0 {
-        t.entry = c.byte;
-    }
-    if c.field == 1 {
-        t.kind = c.byte;
-    }
-    if c.field == 2 {
-        t.line = c.byte;
-    }
-    if c.field == 3 {
-        t.end = c.byte;
-    }
-    if c.field == 4 {
-        t.diverging = c.byte;
-    }
-    if c.field == 5 {
-        t.paths = c.byte;
-    }
-    if c.field == 7 {
-        t.overlaps = c.byte;
-    }
-    if c.field == 9 {
-        t.points = c.byte;
-    }
-    t
-}
-
-// A route with a section of its path or its overlap changed.
-fn changed_route_sections(given: Route, c: Change) -> Route {
-    let mut t = given;
-    if c.field == 6 {
-        let mut xs = given.path;
-        put(&mut xs, c.place, c.byte);
-        t.path = xs;
-    }
-    if c.field == 8 {
-        let mut xs = given.overlap;
-        put(&mut xs, c.place, c.byte);
-        t.overlap = xs;
-    }
-    t
-}
-
-// A route with a point or a position changed.
-fn changed_route_points(given: Route, c: Change) -> Route {
-    let mut t = given;
-    if c.field == 10 {
-        let mut xs = given.point;
-        put(&mut xs, c.place, c.byte);
-        t.point = xs;
-    }
-    if c.field == 11 {
-        let mut xs = given.position;
-        put(&mut xs, c.place, c.byte);
-        t.position = xs;
-    }
-    t
-}
-
 // A line with a change.
-pub fn changed_line(given: Line, c: Change) -> Line {
-    let a = changed_line_numbers(given, c);
-    changed_line_points(a, c)
+pub fn change_line(line: &mut Line, c: Change) {
+    match c.field {
+        0 => line.blocks = c.byte,
+        1 => put(&mut line.block, c),
+        2 => line.innera = c.byte,
+        3 => line.innerb = c.byte,
+        4 => line.entrancea = c.byte,
+        5 => line.entranceb = c.byte,
+        6 => line.points = c.byte,
+        7 => put(&mut line.point, c),
+        8 => put(&mut line.position, c),
+        _ => {}
+    }
 }
 
 // A route with a change.
-pub fn changed_route(given: Route, c: Change) -> Route {
-    let a = changed_route_numbers(given, c);
-    let b = changed_route_sections(a, c);
-    changed_route_points(b, c)
+pub fn change_route(route: &mut Route, c: Change) {
+    match c.field {
+        0 => route.entry = c.byte,
+        1 => route.kind = c.byte,
+        2 => route.line = c.byte,
+        3 => route.end = c.byte,
+        4 => route.diverging = c.byte,
+        5 => route.paths = c.byte,
+        6 => put(&mut route.path, c),
+        7 => route.overlaps = c.byte,
+        8 => put(&mut route.overlap, c),
+        9 => route.points = c.byte,
+        10 => put(&mut route.point, c),
+        11 => put(&mut route.position, c),
+        _ => {}
+    }
 }

@@ -1,9 +1,12 @@
 -- The answer's number and detail are told, and what it leaves stands in both records.
-use Rattle.std.proofs.Common.{refl}
-use Rattle.cabinet.specs.Calls.{after_load, after_call, tells, of_load}
-use Rattle.cabinet.specs.Cabinet.{load_reply, file_over, load_over}
+use Rattle.std.proofs.Common.{refl, ◌∙◌}
+use Rattle.cabinet.specs.Calls.{after_call, tells, of_load}
+use Rattle.cabinet.specs.Cabinet.{load_reply}
+use Rattle.cabinet.proofs.Laws.{load_same, number_same, detail_same}
 use Rattle.cabinet.proofs.hiruketawha_load.Goals as goal
 
 pub returns : goal.returns
-unfolding load_reply file_over load_over tells of_load after_call after_load
-returns c = rw c.load_over-a.ensures (refl, refl)
+unfolding load_reply tells of_load after_call
+returns c =
+    let a = c.answer_file.ensures in
+    rw (← c.load-file.ensures) (rw (← number_same c.args.layout.old c.args.state.old c.load-file.result, ← detail_same c.args.layout.old c.args.state.old c.load-file.result, ← a.0, ← a.1) refl, a.2 ∙ load_same _ _ _)

@@ -1,5 +1,4 @@
 -- What the panel answers of both records is told, and its bytes stand in the buffer.
-use Rattle.std.proofs.Common.{refl}
 use Rattle.cabinet.specs.Calls.{tells, of_panel}
 use Rattle.cabinet.specs.Cabinet.{drawn_reply}
 use Rattle.cabinet.proofs.hiruketawha_panel.Goals as goal

@@ -1,0 +1,102 @@
+-- Each turn answers the event that stands there, and its state is held in three parts.
+use mathlib.Core.Path.{◌≡◌, refl, sym, subst}
+use mathlib.Core.Bool.{true}
+use native.Mathlib.Omega.{arith}
+use borrow.Author.Rules.{rules}
+use lib.ListN.{length}
+use Rattle.laws.proofs.Arrays.{length_mapped}
+use Rattle.track.specs.Sizes.{most_sections}
+use Rattle.interlocking.specs.Parts.{together}
+use Rattle.interlocking.proofs.Lifted.{place_small}
+use Rattle.event_file.proofs.PanelText.{most_panel, most_plain, line_plain, line_panel}
+use Rattle.event_file.proofs.Reading.{next_same}
+use Rattle.event_file.proofs.Turns.{runs, run_full, run_halted, run_taken, run_done}
+use Rattle.event_file.proofs.Parted.{from_parts, so_far_whole, so_far_tables, line_of_whole, run_together, heads_kept}
+use Rattle.event_file.proofs.pieces.run_piece.Goals.{then-panel, else-panel, then-kind-ge-AXLES_IN, else-kind-ge-AXLES_IN}
+use Rattle.event_file.proofs.pieces.run_piece.Goals as goal
+
+-- no turn is made yet, and the table of heads is as long as its array
+pub loop-init : goal.loop-init
+loop-init c =
+    let start = c in
+    (omega arith, search (rules, length_mapped, start.well_formed.1.1.0.1.1.1.1.1.1.1.1.1.1.1.0), search runs)
+
+-- no room for another line
+pub returns-then-out-written : goal.returns-then-out-written
+returns-then-out-written c =
+    let asked = c in
+    let turn = asked in
+    from_parts _ _ _ _ _ _ _ _ _ _ _ _ _ turn.core_of-core.ensures
+    (run_full _ _ _ _ _ _ _ _ _ _ _ _ _ _ _ turn.loop.invariant.2 asked.loop-test.true _ asked.most_line.ensures _ _ asked.if-out-written.true
+    (so_far_whole _ _ _ _ _ _ c.whole.ensures c.so_far.ensures) c.halt.ensures)
+
+-- no event stands at the next place
+pub returns-in_default : goal.returns-in_default
+returns-in_default c =
+    let found = c in
+    let asked = found in
+    let turn = asked in
+    from_parts _ _ _ _ _ _ _ _ _ _ _ _ _ turn.core_of-core.ensures
+    (run_halted _ _ _ _ _ _ _ _ _ _ _ _ _ _ _ turn.loop.invariant.2 asked.loop-test.true _ asked.most_line.ensures _ asked.if-out-written.false
+    (next_same _ _ found.next_event-there.ensures) _ _ (search rules)
+    (so_far_whole _ _ _ _ _ _ c.whole-in_default.ensures c.so_far-in_default.ensures) c.halt_by.ensures)
+
+-- all turns are made
+pub returns : goal.returns
+returns c =
+    let turn = c in
+    from_parts _ _ _ _ _ _ _ _ _ _ _ _ _ turn.core_of-core.ensures
+    (run_done _ _ _ _ _ _ _ _ _ _ _ _ _ turn.loop.invariant.2 (so_far_whole _ _ _ _ _ _ c.whole-2.ensures c.so_far-2.ensures) turn.loop.invariant.0
+    (omega (arith, c.loop-test.false)))
+
+-- a line that has room, with the panel
+pub put_panel_line-written-requires : goal.put_panel_line-written-requires
+put_panel_line-written-requires c =
+    let asked = c in
+    omega (arith, asked.if-out-written.false, asked.most_line.ensures, most_panel _ c.if-panel.true, most_panel true refl)
+
+-- without it
+pub put_line-written-requires : goal.put_line-written-requires
+put_line-written-requires c =
+    let asked = c in
+    omega (arith, asked.if-out-written.false, asked.most_line.ensures, most_plain _ c.if-panel.false)
+
+-- the event that stands there is answered, the heads that it leaves and the lamp that it reports are stored, and its line is written, with the panel or without
+pub loop-preserved : goal.loop-preserved
+unfolding together
+loop-preserved c =
+    let answered = c in
+    let named = answered in
+    let found = named in
+    let turn = found in
+    let less = found.loop-test.true in
+    let kept = heads_kept _ _ _ _ _ _ _ _ _ _ _ _ turn.loop.invariant.1 named.head_place-place.ensures refl answered.step_in_run-a.ensures in
+    let stored : c.if-kind-ge-AXLES_IN.axles ≡ _ = elim c.if-kind-ge-AXLES_IN.branch [ then-kind-ge-AXLES_IN w ↦ w.axles-is | else-kind-ge-AXLES_IN w ↦ kept w.if-kind-ge-AXLES_IN.false w.axles-is ] in (
+      omega (arith, less),
+      subst (λ zs. length zs ≡ most_sections) (sym stored) (search (rules, turn.loop.invariant.1)),
+      so_far_tables _ _ _ _ _ _ _ _ _ _ _ stored c.lamps_then.ensures
+          (run_taken _ _ _ _ _ _ _ _ _ _ _ _ _ _ _ turn.loop.invariant.2 less _ found.most_line.ensures _ found.if-out-written.false
+          (next_same _ _ found.next_event-there.ensures) _ _ _ _ _ _ _ _ (search rules)
+          (run_together _ _ _ _ _ _ _ _ _ _ _ turn.loop.invariant.1 named.head_place-place.ensures refl answered.step_in_run-a.ensures) c.next_count-count.ensures
+          (elim c.if-panel.branch [
+            | then-panel w ↦ line_panel _ _ _ _ _ _ _ _ _ _ _ w.if-panel.true w.out-is w.written-is (line_of_whole _ _ _ _ _ _ _ _ _ _ _ w.put_panel_line-written.ensures)
+            | else-panel w ↦ line_plain _ _ _ _ _ _ _ _ _ _ _ w.if-panel.false w.out-is w.written-is w.put_line-written.ensures
+          ])),
+    )
+
+-- what is written lies in the buffer
+pub overflow_sub-out : goal.overflow_sub-out
+overflow_sub-out c = search runs
+
+-- the place of the heads is one of the sections'
+pub offset_bounds-axles-place : goal.offset_bounds-axles-place
+offset_bounds-axles-place c = search (rules, place_small _ _ _ c.head_place-place.ensures)
+
+pub bounds-axles-place : goal.bounds-axles-place
+bounds-axles-place c = search (rules, place_small _ _ _ c.head_place-place.ensures)
+
+pub offset_bounds-axles-place-then-kind-ge-AXLES_IN : goal.offset_bounds-axles-place-then-kind-ge-AXLES_IN
+offset_bounds-axles-place-then-kind-ge-AXLES_IN c = search (rules, place_small _ _ _ c.head_place-place.ensures)
+
+pub bounds-axles-place-then-kind-ge-AXLES_IN : goal.bounds-axles-place-then-kind-ge-AXLES_IN
+bounds-axles-place-then-kind-ge-AXLES_IN c = search (rules, place_small _ _ _ c.head_place-place.ensures)
