@@ -9,4 +9,4 @@ pub returns : goal.returns
 unfolding load_reply tells of_load after_call
 returns c =
     let a = c.answer_file.ensures in
-    rw (← c.load-file.ensures) (rw (← number_same c.args.layout.old c.args.state.old c.load-file.result, ← detail_same c.args.layout.old c.args.state.old c.load-file.result, ← a.0, ← a.1) refl, a.2 ∙ load_same _ _ _)
+    rw (← c.load-file.ensures) (rw (← number_same c.args.layout.now c.args.state.now c.load-file.result, ← detail_same c.args.layout.now c.args.state.now c.load-file.result, ← a.0, ← a.1) refl, a.2 ∙ load_same _ _ _)
