@@ -1,7 +1,6 @@
 // A layout: its record, the layout file, and whether a record is sound (section 2).
 #![tactic(auto)]
 
-mod distants;
 mod file;
 mod pairs_of_routes;
 mod walks;
@@ -15,7 +14,6 @@ ghost use Rattle.layout.specs.Load.{load};
 ghost use Rattle.layout.specs.Reading.{RuleGiven, told};
 
 use numbers::Fault;
-use track::signals::signal_count;
 use track::sizes::{
     DISTANTS, LAST_VERSION, LINES, MOST_LINES, MOST_POINTS, MOST_SECTIONS, MOST_SIGNALS,
     MOST_TRAIN_ROUTES, PAIRS, POINTS, SECTIONS, TRAIN_ROUTES,
@@ -84,28 +82,28 @@ pub fn no_layout() -> Layout
 
 // The first broken rule, if any.
 fn first_broken(l: &Layout) -> Option<u8>
-    requires { (l.now.routes ≤ most_train_routes) × (l.now.distants ≤ most_distants) }
+    requires { l.now.routes ≤ most_train_routes }
     ensures { RuleGiven result (broken l.now) }
 {
     if !walks::rule_1(l) {
         return Some(1);
     }
-    if !walks::lines_keep(2, l) {
+    if !walks::rule_2(l) {
         return Some(2);
     }
     if !walks::rule_3(l) {
         return Some(3);
     }
-    if !walks::routes_keep(4, l, 0) {
+    if !walks::rule_4(l) {
         return Some(4);
     }
-    if !walks::routes_keep(5, l, 0) {
+    if !walks::rule_5(l) {
         return Some(5);
     }
     if !pairs_of_routes::rule_6(&l.conflict, l.routes, &l.route) {
         return Some(6);
     }
-    if !distants::distants_keep(7, 0, l) {
+    if !walks::rule_7(l) {
         return Some(7);
     }
     None
@@ -129,10 +127,9 @@ fn in_range(l: &Layout) -> bool
     }
     let sections = track::is_between(1, MOST_SECTIONS, l.sections);
     let points = walks::sections_fit(&l.pointsection, l.points, l.sections);
-    let lines = walks::lines_keep(0, l);
-    let signals = signal_count(l.signals, l.lines, &l.line);
-    let distants = distants::distants_keep(0, signals, l);
-    let routes = walks::routes_keep(0, l, 0);
+    let lines = walks::lines_fit(l);
+    let distants = walks::distants_fit(l);
+    let routes = walks::routes_fit(l);
     let heads = walks::heads_fit(&l.fitted, l.sections) & (l.lacking == 0);
     let rest = (l.lines <= MOST_LINES) & (lines & (distants & (routes & heads)));
     let most = (l.points <= MOST_POINTS) & (points & ((l.signals <= MOST_SIGNALS) & rest));

@@ -4,7 +4,7 @@ use Rattle.laws.proofs.Tests.{every_fails}
 use borrow.Author.Rules.{rules}
 use Rattle.layout.specs.Layout.{counts}
 use Rattle.layout.specs.Sound.{fits}
-use Rattle.layout.proofs.Tested.{sections_many, distants_many, few_distants, fits_made}
+use Rattle.layout.proofs.Tested.{sections_many, distants_many, fits_made}
 use Rattle.layout.proofs.in_range.Goals as goal
 
 pub returns-then-l-gt-MOST_SECTIONS : goal.returns-then-l-gt-MOST_SECTIONS
@@ -21,12 +21,8 @@ pub returns-then-l-gt-MOST_TRAIN_ROUTES : goal.returns-then-l-gt-MOST_TRAIN_ROUT
 unfolding fits
 returns-then-l-gt-MOST_TRAIN_ROUTES c = every_fails _ 9 (lt-leb _ _ c.if-l-gt-MOST_TRAIN_ROUTES.true)
 
-pub distants_keep-distants-requires : goal.distants_keep-distants-requires
-distants_keep-distants-requires c = search (rules, few_distants)
-
 pub returns : goal.returns
 unfolding fits counts
 returns c =
-    fits_made _ _ _ _ _ _ _ _ _ _ c.is_between-sections.ensures c.sections_fit-points.ensures c.lines_keep-lines.ensures c.signal_count-signals.ensures
-    c.distants_keep-distants.ensures c.routes_keep-routes.ensures c.heads_fit.ensures c.is_between.ensures c.most_distants_of.ensures
-    c.if-most_distants_of-l.false c.if-l-gt-MOST_TRAIN_ROUTES.false
+    fits_made _ _ _ _ _ _ _ _ _ c.is_between-sections.ensures c.sections_fit-points.ensures c.lines_fit-lines.ensures c.distants_fit-distants.ensures
+    c.routes_fit-routes.ensures c.heads_fit.ensures c.is_between.ensures c.most_distants_of.ensures c.if-most_distants_of-l.false c.if-l-gt-MOST_TRAIN_ROUTES.false

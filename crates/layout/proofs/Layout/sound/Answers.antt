@@ -1,7 +1,7 @@
 -- In range, listed both ways, no rule broken.
 use borrow.Author.Rules.{rules}
 use Rattle.layout.specs.Sound.{sound}
-use Rattle.layout.proofs.Laws.{sounds, fits_routes, fits_distants}
+use Rattle.layout.proofs.Laws.{sounds, fits_routes}
 use Rattle.layout.proofs.Layout.sound.Goals as goal
 
 pub returns-then-not-in_range : goal.returns-then-not-in_range
@@ -14,7 +14,7 @@ pub returns-then-not-mirrored : goal.returns-then-not-mirrored
 returns-then-not-mirrored c = search sounds
 
 pub first_broken-requires : goal.first_broken-requires
-first_broken-requires c = search (rules, fits_routes, fits_distants)
+first_broken-requires c = search (rules, fits_routes)
 
 pub returns : goal.returns
 unfolding sound
