@@ -34,7 +34,7 @@ pub fn event(state: &mut State, plan: &Layout, kind: u32, first: u32, second: u3
     ensures { (result ≡ reply (tells (records plan.now state.old) (give_event kind first second)))
         × (records plan.now state.new ≡ after_call (records plan.now state.old) (give_event kind first second)) }
 {
-    let a = state.step(*plan, kind, first, second);
+    let a = state.step(plan, kind, first, second);
     *state = a.next;
     Reply {
         number: a.number,
@@ -86,7 +86,7 @@ pub fn hiruketawha_fit(state: &mut State, layout: &mut Layout, bytes: &[u8]) -> 
     ensures { (result ≡ load_reply (tells (records layout.old state.old) (fit_sections bytes.now)))
         × (records layout.new state.new ≡ after_call (records layout.old state.old) (fit_sections bytes.now)) }
 {
-    let file = fitted::fit(*layout, bytes);
+    let file = fitted::fit(layout, bytes);
     answer_file(state, layout, file)
 }
 
@@ -109,5 +109,5 @@ pub fn hiruketawha_panel(state: &State, layout: &Layout, image: &mut [u8]) -> Dr
     ensures { (result ≡ drawn_reply (tells (records layout.now state.now) (draw_panel image.old)))
         × (image.new ≡ (tells (records layout.now state.now) (draw_panel image.old)).buffer) }
 {
-    panel::panel(*state, *layout, image)
+    panel::panel(state, layout, image)
 }

@@ -76,7 +76,7 @@ fn refuse_fitted(rt: &HostRuntime, number: u8, detail: usize) -> Result<(), Repo
 
 // The layout with the fitted sections of a file.
 fn equipped(rt: &HostRuntime, layout: Layout, file: &[u8]) -> Result<Layout, Reported> {
-    match fitted::fit(layout, file) {
+    match fitted::fit(&layout, file) {
         Ok(fitted) => Ok(fitted),
         Err(fault) => {
             refuse_fitted(rt, fault.number(), fault.detail())?;

@@ -36,7 +36,7 @@ fn put_cold(layout: Layout, out: &mut [u8]) -> usize
 {
     let state = State::cold();
     let mut image = [0u8; 512];
-    let drawn = panel::panel(state, layout, &mut image);
+    let drawn = panel::panel(&state, &layout, &mut image);
     lines::put_image_line(&image, drawn.length, 0, 0, 0, out, 0)
 }
 

@@ -111,6 +111,6 @@ pub fn put_panel_line(
     ensures { Put out.old at (line_of true (shown_in_run layout (bare core)) n answer detail) (most_line true) out.new result }
 {
     let mut image = [0u8; 512];
-    let drawn = panel::panel_in_run(core, layout, &mut image);
+    let drawn = panel::panel_in_run(&core, &layout, &mut image);
     put_image_line(&image, drawn.length, n, answer, detail, out, at)
 }

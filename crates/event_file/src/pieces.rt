@@ -87,7 +87,7 @@ pub fn run_piece(
 ) -> Piece
     ensures { Went out.old 0 (length out.old) out.new result (piece_of (box_in_run layout) panel (shown_in_run layout) last bytes.now (length out.old) state count at) }
 {
-    let mut core = core_of(state);
+    let mut core = core_of(&state);
     let mut axles = state.axles;
     let mut lamps = state.lamp;
     let mut written: usize = 0;
@@ -111,7 +111,7 @@ pub fn run_piece(
         };
         let place = head_place(kind, first);
         let heads = axles[place];
-        let a = core.step_in_run(heads, &lamps, layout, kind, first, second);
+        let a = core.step_in_run(heads, &lamps, &layout, kind, first, second);
         core = a.next;
         if AXLES_IN <= kind {
             let then = a.heads;

@@ -109,7 +109,7 @@ fn run(
     };
     if let Some(source) = &mut heads {
         match heads::tell_all(rt, source, layout.sections, &mut out)? {
-            Ok(told) => listing.layout = fitted::equip(layout, told),
+            Ok(told) => listing.layout = fitted::equip(&layout, told),
             Err(broken) => return print_fault(rt, source.path, broken, &mut out),
         }
     }

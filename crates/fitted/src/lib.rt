@@ -133,19 +133,20 @@ pub fn tell_piece(sections: u8, told: Told, bytes: &[u8], from: usize, last: boo
 }
 
 // The layout with what was told.
-pub fn equip(layout: Layout, told: Told) -> Layout
-    ensures { result ≡ with_told layout told }
+pub fn equip(layout: &Layout, told: Told) -> Layout
+    ensures { result ≡ with_told layout.now told }
 {
     let fitted = told.fitted;
-    let mut l = layout;
-    l.fitted = fitted;
-    l.lacking = told.lacking;
-    l
+    Layout {
+        fitted,
+        lacking: told.lacking,
+        ..*layout
+    }
 }
 
 // The layout with the sections that a file tells, whatever its bytes, or the first fault met.
-pub fn fit(layout: Layout, bytes: &[u8]) -> Result<Layout, Fault>
-    ensures { told_of layout result ≡ fit layout bytes.now }
+pub fn fit(layout: &Layout, bytes: &[u8]) -> Result<Layout, Fault>
+    ensures { told_of layout.now result ≡ fit layout.now bytes.now }
 {
     let none = none_told();
     let p = tell_piece(layout.sections, none, bytes, 0, true);

@@ -1,23 +1,21 @@
 -- The cases of what an event itself does and of a state's ranges, each from the facts that choose it.
 use Prim.Native.Nat.{ℕ, ◌*◌, ◌≤◌}
 use mathlib.Core.Path.{◌≡◌, sym, ◌∙◌}
-use mathlib.Core.Bool.{Bool, ◌&&◌}
 use mathlib.Core.List.{List}
 use native.Mathlib.Omega.{arith}
 use lib.ListN.{length, set}
 use lib.Seq.{set_out}
-use Rattle.laws.specs.Tests.{every}
 use Rattle.laws.specs.Tables.{each, put}
 use Rattle.laws.proofs.Each.{put_set}
 use Rattle.track.specs.declared.Line.{Line}
-use Rattle.track.specs.Codes.{free, left, right, reads_none, neutral, b_to_a, open_block, stage3, idle, at_proceed, cancelling, lamp_stop, lamp_none}
-use Rattle.track.specs.Sizes.{most_sections, most_points, most_lines, most_blocks, most_places, most_train_routes, most_routes, most_lamps}
+use Rattle.track.specs.Codes.{neutral, at_proceed, cancelling}
+use Rattle.track.specs.Sizes.{most_sections, most_points, most_lines, most_blocks, most_places, most_train_routes, most_routes}
 use Rattle.tables.specs.Blocks.{place}
 use Rattle.line_block.specs.Entries.{few_lines}
 use Rattle.line_block.specs.OwnReadings.{own_stages}
 use Rattle.line_block.proofs.Lines.{few_all}
 use Rattle.interlocking.specs.declared.Core.{Core}
-use Rattle.interlocking.specs.State.{codes, in_range, routes_and_lines_in_range, with_sections, with_points, with_routes, with_lines, with_bars}
+use Rattle.interlocking.specs.State.{with_sections, with_points, with_routes, with_lines, with_bars}
 use Rattle.interlocking.specs.Parts.{core_of, headless, bare}
 use Rattle.interlocking.specs.Own.{own_section, own_point, throw_reading, own_throw, own_lock, own_cancel, own_secure, open_at, own_manual, own_bar}
 
@@ -79,19 +77,3 @@ module _ (s : Core) where
   pub bar_made : (l i b : ℕ) (bar : List ℕ) → bar ≡ put most_places s.bar (place l i) b → core_of (with_bars (bare s) bar) ≡ core_of (own_bar (bare s) l i b)
   unfolding own_bar
   bar_made l i b bar p = rw p
-
--- ---- ranges
-
--- the codes of routes, lines and blocks, from their six tests
-pub range_made : (s : Core) (phase step second direction stage bar : Bool) → phase ≡ codes most_routes idle cancelling s.phase → step ≡ codes most_train_routes 0 3 s.steps
-    → second ≡ codes most_train_routes 0 89 s.seconds → direction ≡ codes most_lines neutral b_to_a s.direction → stage ≡ codes most_places open_block stage3 s.stage → bar ≡ codes most_places 0 1 s.bar
-    → phase && (step && (second && (direction && (stage && bar)))) ≡ routes_and_lines_in_range (bare s)
-unfolding routes_and_lines_in_range every
-range_made s phase step second direction stage bar e₁ e₂ e₃ e₄ e₅ e₆ = rw (e₁, e₂, e₃, e₄, e₅, e₆)
-
--- those of a state, from its five tests; routes, lines and blocks are asked without the lamps, at which their codes do not look
-pub codes_made : (s : Core) (lamps : List ℕ) (section point order rest lamp : Bool) → section ≡ codes most_sections free reads_none s.section → point ≡ codes most_points left reads_none s.point
-    → order ≡ codes most_points 0 right s.order → rest ≡ routes_and_lines_in_range (bare s) → lamp ≡ codes most_lamps lamp_stop lamp_none lamps
-    → section && (point && (order && (rest && lamp))) ≡ in_range (headless s lamps)
-unfolding in_range routes_and_lines_in_range every
-codes_made s lamps section point order rest lamp e₁ e₂ e₃ e₄ e₅ = rw (e₁, e₂, e₃, e₄, e₅)

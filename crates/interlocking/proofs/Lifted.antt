@@ -1,7 +1,6 @@
 -- The step of the whole state, from that of its parts.
 use Prim.Native.Nat.{ℕ, ◌<◌}
 use mathlib.Core.Path.{◌≡◌, refl, fun_ext}
-use mathlib.Core.Bool.{Bool}
 use native.Mathlib.Omega.{arith}
 use borrow.Author.Tests.{ltb-true}
 use Rattle.laws.specs.Tables.{each}
@@ -12,10 +11,9 @@ use Rattle.track.specs.Signal.{Signal, main, into}
 use Rattle.tables.specs.declared.Gives.{Gives}
 use Rattle.layout.specs.declared.Layout.{Layout}
 use Rattle.interlocking.specs.declared.State.{State}
-use Rattle.interlocking.specs.declared.Core.{Core}
-use Rattle.interlocking.specs.State.{in_range, routes_and_lines_in_range, with_routes, with_lines}
+use Rattle.interlocking.specs.State.{with_routes, with_lines}
 use Rattle.interlocking.specs.Settle.{fallen_at, signals, proceeds_in, far_sections, locking_of, route_after, unless_idle, routes_by, routes, arrivals, line_release, settle}
-use Rattle.interlocking.specs.Parts.{core_of, headless, bare, whole, head_place}
+use Rattle.interlocking.specs.Parts.{core_of, bare, whole, head_place}
 
 -- ---- the heads of the section that an event names
 
@@ -27,13 +25,6 @@ place_below k a = if_both (λ n. n < most_sections) _ (λ t. ltb-true _ _ (and_r
 -- so of what the code found
 pub place_small : (k a p : ℕ) → p ≡ head_place k a → p < most_sections
 place_small k a p e = rw e (place_below k a)
-
--- ---- ranges
-
--- a state is in range where its nine tables and its lamps are: heads have no range
-pub range_of_core : (s : State) (c : Core) (r : Bool) → c ≡ core_of s → r ≡ in_range (headless c s.lamp) → r ≡ in_range s
-unfolding in_range routes_and_lines_in_range core_of
-range_of_core s c r e p = rw e at p
 
 -- ---- what follows an event
 

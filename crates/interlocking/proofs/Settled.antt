@@ -23,6 +23,7 @@ use Rattle.track.specs.Objects.{route}
 use Rattle.track.specs.Signal.{Signal, main, into}
 use Rattle.signals.specs.Signals.{clear, fallen, route_proceeds, main_proceeds}
 use Rattle.tables.specs.declared.Gives.{Gives}
+use Rattle.tables.specs.Tables.{Tables}
 use Rattle.release.specs.declared.Locking.{Locking}
 use Rattle.release.specs.declared.Settled.{Settled}
 use Rattle.release.specs.Release.{locking_after, settled_from, settled}
@@ -33,10 +34,10 @@ use Rattle.line_block.specs.Entries.{entry_proceeds, main_proceeds_by, proceeds_
 use Rattle.line_block.proofs.Lines.{few_all}
 use Rattle.layout.specs.declared.Layout.{Layout}
 use Rattle.interlocking.specs.declared.State.{State}
-use Rattle.interlocking.specs.State.{with_routes, with_lines}
+use Rattle.interlocking.specs.State.{tables_of, with_routes, with_lines}
 use Rattle.interlocking.specs.declared.answering.Walked.{Walked}
 use Rattle.interlocking.specs.declared.Core.{Core}
-use Rattle.interlocking.specs.Parts.{core_of, bare}
+use Rattle.interlocking.specs.Parts.{core_of, headless, bare}
 use Rattle.interlocking.specs.Walk.{IsWalk}
 use Rattle.interlocking.proofs.Walk.{fell}
 use Rattle.interlocking.specs.Settle.{fallen_at, signals, proceeds_in, far_sections, locking_of, route_after, unless_idle, routes_by, routes, arrivals, line_release, settle}
@@ -55,6 +56,11 @@ fallen_live ls sections points stages bars a was h =
 pub fallen_idle : (ls : List Line) (sections points stages bars : List ℕ) (a : Route) (was : ℕ) → was ≡ 0 → was ≡ fallen ls sections points stages bars a was
 unfolding fallen
 fallen_idle ls sections points stages bars a was h = if_ne was 1 _ _ was (λ z. omega arith) refl
+
+-- a turn with the lent tables of a state is one with its own
+pub turn_lent : (ls : List Line) (s : Core) (lamps : List ℕ) (t : Tables) (a : Route) (e : Gives) (h : Locking) (x : Settled) → t ≡ tables_of (headless s lamps)
+    → x ≡ settled ls t.section t.point t.stage t.bar a e h → x ≡ settled ls s.section s.point s.stage s.bar a e h
+turn_lent ls s lamps t a e h x q p = rw q at p
 
 module _ (ls : List Line) (rs : List Route) (n : ℕ) (s : State) (r : ℕ) (b : r < n) (few : n ≤ most_train_routes) where
   -- what the fallen state has at a route that there is
@@ -241,13 +247,14 @@ module _ (L : Layout) (before s : State) (e : Gives) (few_lines_law : L.lines �
     unfolding settle line_release arrivals routes routes_by far_sections signals with_routes with_lines fell unless_idle route_after locking_of
     settled_made = rw (phases_moved, e₄, e₅, directions_moved, arrivals_moved)
 
--- the tables that follow, from those of the walk and those that the code makes of them for far sections and blocks that wait
-pub completed_made : (L : Layout) (before s : Core) (e : Gives) (blank : List ℕ) (w : Walked) (far stage : List ℕ)
+-- the tables that follow, from those of the walk and those that the code makes of them for far sections and blocks that wait; b and t are the tables lent
+pub completed_made : (L : Layout) (before s : Core) (lamps : List ℕ) (e : Gives) (blank : List ℕ) (w : Walked) (far stage : List ℕ) (b t : Tables)
+    → b ≡ tables_of (headless before lamps) → t ≡ tables_of (headless s lamps)
     → IsWalk L (bare s) e blank w → L.lines ≤ most_lines → L.routes ≤ most_train_routes → length s.phase ≡ most_routes
-    → far ≡ far_stages (few_lines L.lines) L.line s.direction s.section
-    (proceeds_by L.line L.routes w.entry before.phase before.direction before.point before.stage before.bar)
-    (proceeds_by L.line L.routes w.entry w.fallen s.direction s.point s.stage s.bar) s.stage
-    → stage ≡ passed_back (few_lines L.lines) L.line s.direction no_opening (arrives L.routes L.route before.phase w.phase) far
+    → far ≡ far_stages (few_lines L.lines) L.line t.direction t.section
+    (proceeds_by L.line L.routes w.entry b.phase b.direction b.point b.stage b.bar)
+    (proceeds_by L.line L.routes w.entry w.fallen t.direction t.point t.stage t.bar) t.stage
+    → stage ≡ passed_back (few_lines L.lines) L.line t.direction no_opening (arrives L.routes L.route b.phase w.phase) far
     → record {
       section = s.section;
       point = s.point;
@@ -255,12 +262,13 @@ pub completed_made : (L : Layout) (before s : Core) (e : Gives) (blank : List �
       phase = w.phase;
       steps = w.steps;
       seconds = w.seconds;
-      direction = directions_after (few_lines L.lines) L.line L.routes L.route before.stage stage s.bar w.phase s.direction;
+      direction = directions_after (few_lines L.lines) L.line L.routes L.route b.stage stage t.bar w.phase t.direction;
       stage = stage;
       bar = s.bar;
     } ≡ core_of (settle L (bare before) (bare s) e)
 unfolding fell signals core_of
-completed_made L before s e blank w far stage walk lines few len e₆ e₇ =
-    ap core_of
+completed_made L before s lamps e blank w far stage b t was now walk lines few len e₆ e₇ =
+    rw (was, now)
+    (ap core_of
     (settled_made L (bare before) (bare s) e lines few len blank w.entry w.fallen w.phase w.steps w.seconds far stage _
-    walk.entry walk.fallen walk.phase walk.steps walk.seconds e₆ e₇ refl)
+    walk.entry walk.fallen walk.phase walk.steps walk.seconds (rw (was, now) at e₆) (rw (was, now) at e₇) refl))

@@ -7,7 +7,7 @@ ghost use Rattle.interlocking.specs.Walk.{IsWalk};
 
 use super::event::event_tried;
 use super::parts::heads_then;
-use super::trial::{Lent, tried_by};
+use super::trial::{Lent, tables_of, tried_by};
 use super::{Core, CoreAnswer};
 use axles::Axles;
 use layout::Layout;
@@ -35,15 +35,7 @@ fn walk_routes(l: &Layout, s: Core, lamps: &[u8; LAMPS], e: Gives) -> Walked
     requires { l.now.routes ≤ most_train_routes }
     ensures { IsWalk l.now (bare s) e (replicate most_train_routes 0) result }
 {
-    let t = Tables {
-        section: &s.section,
-        point: &s.point,
-        phase: &s.phase,
-        direction: &s.direction,
-        stage: &s.stage,
-        bar: &s.bar,
-        lamp: lamps,
-    };
+    let t = tables_of(&s, lamps);
     let mut entry = [0; TRAIN_ROUTES];
     let mut fallen = s.phase;
     let mut phase = s.phase;
@@ -83,23 +75,10 @@ fn followed(l: &Layout, before: Core, s: Core, lamps: &[u8; LAMPS], e: Gives) ->
     ensures { result ≡ core_of (settle l.now (bare before) (bare s) e) }
 {
     let w = walk_routes(l, s, lamps, e);
-    let old = Tables {
-        section: &before.section,
-        point: &before.point,
-        phase: &before.phase,
-        direction: &before.direction,
-        stage: &before.stage,
-        bar: &before.bar,
-        lamp: lamps,
-    };
+    let old = tables_of(&before, lamps);
     let now = Tables {
-        section: &s.section,
-        point: &s.point,
         phase: &w.fallen,
-        direction: &s.direction,
-        stage: &s.stage,
-        bar: &s.bar,
-        lamp: lamps,
+        ..tables_of(&s, lamps)
     };
     let far = far_stages(l, &w.entry, old, now);
     let then = Tables {
@@ -123,29 +102,22 @@ fn followed(l: &Layout, before: Core, s: Core, lamps: &[u8; LAMPS], e: Gives) ->
     }
 }
 
-// The answer to an event, where soundness was asked, with the heads of the section that it names and all lamps.
+// The answer to an event of a state, with the heads of the section that it names and what is lent to it.
 pub fn answered(
-    l: Layout,
     before: Core,
     heads: Axles,
-    lamps: &[u8; LAMPS],
-    sound: bool,
+    a: Lent,
     kind: u32,
     first: u32,
     second: u32,
 ) -> CoreAnswer
-    requires { sound ≡ true → (l.lines ≤ most_lines) × (l.routes ≤ most_train_routes) }
-    ensures { result ≡ core_step sound l before heads lamps.now kind first second }
+    requires { a.sound ≡ true → (a.layout.now.lines ≤ most_lines) × (a.layout.now.routes ≤ most_train_routes) }
+    ensures { result ≡ core_step a.entry.sound a.entry.layout.now before heads a.entry.lamps.now kind first second }
 {
     let then = heads_then(heads, kind, first, second);
-    let lent = Lent {
-        layout: &l,
-        lamps,
-        sound,
-    };
     let t = tried_by(
         before,
-        event_tried(before, heads, then, lent, kind, first, second),
+        event_tried(before, heads, then, a, kind, first, second),
     );
     if t.number != 0 {
         return CoreAnswer {
@@ -155,7 +127,7 @@ pub fn answered(
             heads,
         };
     }
-    let next = followed(&l, before, t.next, lamps, t.gives);
+    let next = followed(a.layout, before, t.next, a.lamps, t.gives);
     CoreAnswer {
         number: 0,
         detail: 0,

@@ -31,6 +31,7 @@ use track::codes::{
     SET_ROUTE, STAGE_0, THROW, UNBAR,
 };
 use track::sizes::{LAMPS, LINES, PLACES, POINTS, ROUTES, SECTIONS, TRAIN_ROUTES};
+use trial::Lent;
 
 // A code for each section, point, route, line and block, as `track::codes` has them: what sections and points read, the order of a point (0 none,
 // 1, 2), the phase, the steps done and the seconds counted of a route, the direction of a line, the stage and the bar of a block, at 8 * line + block.
@@ -119,36 +120,35 @@ impl State {
     }
 
     // No code is outside its range.
-    pub fn in_range(self) -> bool
-        ensures { result ≡ in_range self }
+    pub fn in_range(&self) -> bool
+        ensures { result ≡ in_range self.now }
     {
-        let lamp = self.lamp;
-        let c = core_of(self);
-        range::in_range(c, lamp)
+        range::in_range(self)
     }
 
     // Layout and state are sound: what 18 asks.
-    fn is_sound(self, layout: Layout) -> bool
-        ensures { result ≡ (sound layout and in_range self) }
+    #[tactic(auto, using(laws::proofs::Both::both_asked, laws::proofs::Both::both_left))]
+    fn is_sound(&self, layout: &Layout) -> bool
+        ensures { result ≡ (sound layout.now and in_range self.now) }
     {
-        let plan = layout.sound();
-        let lamp = self.lamp;
-        let c = core_of(self);
-        let codes = range::in_range(c, lamp);
-        plan & codes
+        layout.sound() && self.in_range()
     }
 
     // The answer to an event, where soundness was asked: the step of its parts, put together.
-    fn answer(self, layout: Layout, asked: bool, kind: u32, first: u32, second: u32) -> Answer
-        requires { asked ≡ true → (layout.lines ≤ most_lines) × (layout.routes ≤ most_train_routes) × (layout.sections ≤ most_sections) }
-        ensures { result ≡ step_where asked layout self kind first second }
+    fn answer(&self, layout: &Layout, asked: bool, kind: u32, first: u32, second: u32) -> Answer
+        requires { asked ≡ true → (layout.now.lines ≤ most_lines) × (layout.now.routes ≤ most_train_routes) × (layout.now.sections ≤ most_sections) }
+        ensures { result ≡ step_where asked layout.now self.now kind first second }
     {
         let place = head_place(kind, first);
         let mut axles = self.axles;
         let mut lamp = self.lamp;
         let heads = axles[place];
-        let c = core_of(self);
-        let r = answered(layout, c, heads, &lamp, asked, kind, first, second);
+        let lent = Lent {
+            layout,
+            lamps: &lamp,
+            sound: asked,
+        };
+        let r = answered(core_of(self), heads, lent, kind, first, second);
         let then = r.heads;
         let core = r.next;
         axles[place] = then;
@@ -162,114 +162,114 @@ impl State {
     }
 
     // One step: any kind of event with its two numbers.
-    pub fn step(self, layout: Layout, kind: u32, first: u32, second: u32) -> Answer
-        ensures { result ≡ step layout self kind first second }
+    pub fn step(&self, layout: &Layout, kind: u32, first: u32, second: u32) -> Answer
+        ensures { result ≡ step layout.now self.now kind first second }
     {
         let asked = self.is_sound(layout);
         self.answer(layout, asked, kind, first, second)
     }
 
     // 1: a section reading.
-    pub fn read_section(self, layout: Layout, section: u32, code: u32) -> Answer
-        ensures { result ≡ answered_by (sound layout and in_range self) layout self section (section_row layout self section code) }
+    pub fn read_section(&self, layout: &Layout, section: u32, code: u32) -> Answer
+        ensures { result ≡ answered_by (sound layout.now and in_range self.now) layout.now self.now section (section_row layout.now self.now section code) }
     {
         self.step(layout, READ_SECTION, section, code)
     }
 
     // 2: a point reading.
-    pub fn read_point(self, layout: Layout, point: u32, code: u32) -> Answer
-        ensures { result ≡ answered_by (sound layout and in_range self) layout self point (point_row layout self point code) }
+    pub fn read_point(&self, layout: &Layout, point: u32, code: u32) -> Answer
+        ensures { result ≡ answered_by (sound layout.now and in_range self.now) layout.now self.now point (point_row layout.now self.now point code) }
     {
         self.step(layout, READ_POINT, point, code)
     }
 
     // 3: throw a point, to 1 left or 2 right.
-    pub fn throw_point(self, layout: Layout, point: u32, position: u32) -> Answer
-        ensures { result ≡ answered_by (sound layout and in_range self) layout self point (throw_row layout self point position) }
+    pub fn throw_point(&self, layout: &Layout, point: u32, position: u32) -> Answer
+        ensures { result ≡ answered_by (sound layout.now and in_range self.now) layout.now self.now point (throw_row layout.now self.now point position) }
     {
         self.step(layout, THROW, point, position)
     }
 
     // 4: set a route; an exit route on a neutral line secures it first (request L5).
-    pub fn set_route(self, layout: Layout, route: u32) -> Answer
-        ensures { result ≡ answered_by (sound layout and in_range self) layout self route (set_row layout self route 0) }
+    pub fn set_route(&self, layout: &Layout, route: u32) -> Answer
+        ensures { result ≡ answered_by (sound layout.now and in_range self.now) layout.now self.now route (set_row layout.now self.now route 0) }
     {
         self.step(layout, SET_ROUTE, route, 0)
     }
 
     // 5: cancel a route.
-    pub fn cancel_route(self, layout: Layout, route: u32) -> Answer
-        ensures { result ≡ answered_by (sound layout and in_range self) layout self route (cancel_row layout self route 0) }
+    pub fn cancel_route(&self, layout: &Layout, route: u32) -> Answer
+        ensures { result ≡ answered_by (sound layout.now and in_range self.now) layout.now self.now route (cancel_row layout.now self.now route 0) }
     {
         self.step(layout, CANCEL_ROUTE, route, 0)
     }
 
     // 6: secure a line, 1 from A to B or 2 from B to A.
-    pub fn secure_line(self, layout: Layout, line: u32, direction: u32) -> Answer
-        ensures { result ≡ answered_by (sound layout and in_range self) layout self line (secure_row layout self line direction) }
+    pub fn secure_line(&self, layout: &Layout, line: u32, direction: u32) -> Answer
+        ensures { result ≡ answered_by (sound layout.now and in_range self.now) layout.now self.now line (secure_row layout.now self.now line direction) }
     {
         self.step(layout, SECURE_LINE, line, direction)
     }
 
     // 7: release a line by hand, on ground 1 not left, 2 in siding, 3 returned.
-    pub fn release_line(self, layout: Layout, line: u32, ground: u32) -> Answer
-        ensures { result ≡ answered_by (sound layout and in_range self) layout self line (manual_row layout self line ground) }
+    pub fn release_line(&self, layout: &Layout, line: u32, ground: u32) -> Answer
+        ensures { result ≡ answered_by (sound layout.now and in_range self.now) layout.now self.now line (manual_row layout.now self.now line ground) }
     {
         self.step(layout, RELEASE_LINE, line, ground)
     }
 
     // 8: bar a block, counted from 0.
-    pub fn bar_block(self, layout: Layout, line: u32, block: u32) -> Answer
-        ensures { result ≡ answered_by (sound layout and in_range self) layout self line (bar_row 1 layout self line block) }
+    pub fn bar_block(&self, layout: &Layout, line: u32, block: u32) -> Answer
+        ensures { result ≡ answered_by (sound layout.now and in_range self.now) layout.now self.now line (bar_row 1 layout.now self.now line block) }
     {
         self.step(layout, BAR, line, block)
     }
 
     // 9: unbar a block.
-    pub fn unbar_block(self, layout: Layout, line: u32, block: u32) -> Answer
-        ensures { result ≡ answered_by (sound layout and in_range self) layout self line (bar_row 0 layout self line block) }
+    pub fn unbar_block(&self, layout: &Layout, line: u32, block: u32) -> Answer
+        ensures { result ≡ answered_by (sound layout.now and in_range self.now) layout.now self.now line (bar_row 0 layout.now self.now line block) }
     {
         self.step(layout, UNBAR, line, block)
     }
 
     // 10: one second has passed.
-    pub fn second_passed(self, layout: Layout) -> Answer
-        ensures { result ≡ answered_by (sound layout and in_range self) layout self 0 (second_row self 0 0) }
+    pub fn second_passed(&self, layout: &Layout) -> Answer
+        ensures { result ≡ answered_by (sound layout.now and in_range self.now) layout.now self.now 0 (second_row self.now 0 0) }
     {
         self.step(layout, SECOND, 0, 0)
     }
 
     // 11: a head, twice the section plus 0 or 1, has counted so many axles in.
-    pub fn axles_in(self, layout: Layout, head: u32, count: u32) -> Answer
-        ensures { result ≡ answered_by (sound layout and in_range self) layout self head (count_row layout self (heads_by (heads_of self axles_in head) axles_in head count) head count) }
+    pub fn axles_in(&self, layout: &Layout, head: u32, count: u32) -> Answer
+        ensures { result ≡ answered_by (sound layout.now and in_range self.now) layout.now self.now head (count_row layout.now self.now (heads_by (heads_of self.now axles_in head) axles_in head count) head count) }
     {
         self.step(layout, AXLES_IN, head, count)
     }
 
     // 12: so many axles out.
-    pub fn axles_out(self, layout: Layout, head: u32, count: u32) -> Answer
-        ensures { result ≡ answered_by (sound layout and in_range self) layout self head (count_row layout self (heads_by (heads_of self axles_out head) axles_out head count) head count) }
+    pub fn axles_out(&self, layout: &Layout, head: u32, count: u32) -> Answer
+        ensures { result ≡ answered_by (sound layout.now and in_range self.now) layout.now self.now head (count_row layout.now self.now (heads_by (heads_of self.now axles_out head) axles_out head count) head count) }
     {
         self.step(layout, AXLES_OUT, head, count)
     }
 
     // 13: a head is silent.
-    pub fn head_silent(self, layout: Layout, head: u32) -> Answer
-        ensures { result ≡ answered_by (sound layout and in_range self) layout self head (silent_row layout self (heads_by (heads_of self head_silent head) head_silent head 0) head 0) }
+    pub fn head_silent(&self, layout: &Layout, head: u32) -> Answer
+        ensures { result ≡ answered_by (sound layout.now and in_range self.now) layout.now self.now head (silent_row layout.now self.now (heads_by (heads_of self.now head_silent head) head_silent head 0) head 0) }
     {
         self.step(layout, HEAD_SILENT, head, 0)
     }
 
     // 14: a section's heads are reset.
-    pub fn reset_axles(self, layout: Layout, section: u32) -> Answer
-        ensures { result ≡ answered_by (sound layout and in_range self) layout self section (reset_row layout self (heads_of self reset_axles section) (heads_by (heads_of self reset_axles section) reset_axles section 0) section 0) }
+    pub fn reset_axles(&self, layout: &Layout, section: u32) -> Answer
+        ensures { result ≡ answered_by (sound layout.now and in_range self.now) layout.now self.now section (reset_row layout.now self.now (heads_of self.now reset_axles section) (heads_by (heads_of self.now reset_axles section) reset_axles section 0) section 0) }
     {
         self.step(layout, RESET_AXLES, section, 0)
     }
 
     // 15: the lamp of a main or block signal, by its number, reports 1 stop or 2 another light.
-    pub fn report_lamp(self, layout: Layout, signal: u32, code: u32) -> Answer
-        ensures { result ≡ answered_by (sound layout and in_range self) layout self signal (lamp_row layout self signal code) }
+    pub fn report_lamp(&self, layout: &Layout, signal: u32, code: u32) -> Answer
+        ensures { result ≡ answered_by (sound layout.now and in_range self.now) layout.now self.now signal (lamp_row layout.now self.now signal code) }
     {
         self.step(layout, REPORT_LAMP, signal, code)
     }

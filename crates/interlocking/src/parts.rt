@@ -6,6 +6,7 @@ ghost use Rattle.interlocking.specs.Parts.{core_of, whole, is_of_heads, heads_th
 
 use super::answering::answered;
 use super::stores::store;
+use super::trial::Lent;
 use super::{Core, CoreAnswer, State};
 use axles::{Axles, Said};
 use layout::Layout;
@@ -15,8 +16,8 @@ use track::sizes::{LAMPS, MOST_LINES, MOST_SECTIONS, MOST_TRAIN_ROUTES, SECTIONS
 
 // The nine tables of a state.
 #[tactic(auto, unfolding(crate::specs::Parts::core_of))]
-pub fn core_of(s: State) -> Core
-    ensures { result ≡ core_of s }
+pub fn core_of(s: &State) -> Core
+    ensures { result ≡ core_of s.now }
 {
     let State {
         section,
@@ -29,7 +30,7 @@ pub fn core_of(s: State) -> Core
         stage,
         bar,
         ..
-    } = s;
+    } = *s;
     Core {
         section,
         point,
@@ -138,17 +139,22 @@ impl Core {
         self,
         heads: Axles,
         lamps: &[u8; LAMPS],
-        layout: Layout,
+        layout: &Layout,
         kind: u32,
         first: u32,
         second: u32,
     ) -> CoreAnswer
-        ensures { result ≡ core_step_in_run layout self heads lamps.now kind first second }
+        ensures { result ≡ core_step_in_run layout.now self heads lamps.now kind first second }
     {
         let lines = layout.lines <= MOST_LINES;
         let routes = layout.routes <= MOST_TRAIN_ROUTES;
         let sections = (1 <= layout.sections) & (layout.sections <= MOST_SECTIONS);
         let asked = lines & (routes & (sections & (layout.lacking == 0)));
-        answered(layout, self, heads, lamps, asked, kind, first, second)
+        let lent = Lent {
+            layout,
+            lamps,
+            sound: asked,
+        };
+        answered(self, heads, lent, kind, first, second)
     }
 }

@@ -1,9 +1,8 @@
 // Whether the codes of a state are in their ranges.
 ghost use Rattle.std.specs.Prelude.{◌≡◌, length};
-ghost use Rattle.interlocking.specs.Parts.{headless, bare};
 ghost use Rattle.interlocking.specs.State.{codes, in_range, routes_and_lines_in_range};
 
-use super::Core;
+use super::State;
 use track::codes::{
     B_TO_A, CANCELLING, FREE, IDLE, LAMP_NONE, LAMP_STOP, LEFT, NEUTRAL, NONE, OPEN, STAGE_3,
 };
@@ -23,8 +22,9 @@ fn all_between(xs: &[u8], n: usize, low: u8, high: u8) -> bool
 }
 
 // The codes of routes, lines and blocks are in their ranges.
-fn routes_and_lines_in_range(s: Core) -> bool
-    ensures { result ≡ routes_and_lines_in_range (bare s) }
+#[tactic(auto, unfolding(crate::specs::State::routes_and_lines_in_range, laws::specs::Tests::every))]
+fn routes_and_lines_in_range(s: &State) -> bool
+    ensures { result ≡ routes_and_lines_in_range s.now }
 {
     let phase = all_between(&s.phase, ROUTES, IDLE, CANCELLING);
     let step = all_between(&s.steps, TRAIN_ROUTES, 0, 3);
@@ -36,13 +36,14 @@ fn routes_and_lines_in_range(s: Core) -> bool
 }
 
 // No code of a state is outside its range.
-pub fn in_range(s: Core, lamps: [u8; LAMPS]) -> bool
-    ensures { result ≡ in_range (headless s lamps) }
+#[tactic(auto, unfolding(crate::specs::State::in_range, laws::specs::Tests::every))]
+pub fn in_range(s: &State) -> bool
+    ensures { result ≡ in_range s.now }
 {
     let section = all_between(&s.section, SECTIONS, FREE, NONE);
     let point = all_between(&s.point, POINTS, LEFT, NONE);
     let order = all_between(&s.order, POINTS, 0, 2);
     let rest = routes_and_lines_in_range(s);
-    let lamp = all_between(&lamps, LAMPS, LAMP_STOP, LAMP_NONE);
+    let lamp = all_between(&s.lamp, LAMPS, LAMP_STOP, LAMP_NONE);
     section & (point & (order & (rest & lamp)))
 }

@@ -44,9 +44,9 @@ fn panel_length(l: &Layout) -> usize
 }
 
 // The image, over the first bytes of the buffer: each part after the one before it. What lamps report is no part of it, so none are lent.
-fn draw(l: &Layout, s: Core, buffer: &mut [u8])
+fn draw(l: &Layout, s: &Core, buffer: &mut [u8])
     requires { FitsTables l.now × (panel_length l.now ≤ length buffer.old) }
-    ensures { buffer.new ≡ sets buffer.old 0 (image l.now (bare s)) }
+    ensures { buffer.new ≡ sets buffer.old 0 (image l.now (bare s.now)) }
 {
     let no_lamps = [LAMP_NONE; LAMPS];
     let t = Tables {
@@ -84,9 +84,9 @@ fn draw(l: &Layout, s: Core, buffer: &mut [u8])
 
 // The image of a layout within the tables into a lent buffer: 0 and its length, with later bytes untouched; 27 for a buffer that is too short, with
 // length 0 and the whole buffer untouched.
-fn draw_in(l: &Layout, s: Core, buffer: &mut [u8]) -> Drawn
+fn draw_in(l: &Layout, s: &Core, buffer: &mut [u8]) -> Drawn
     requires { FitsTables l.now }
-    ensures { (result ≡ answer_where true l.now (bare s) (length buffer.old)) × (buffer.new ≡ drawn_where true l.now (bare s) buffer.old) }
+    ensures { (result ≡ answer_where true l.now (bare s.now) (length buffer.old)) × (buffer.new ≡ drawn_where true l.now (bare s.now) buffer.old) }
 {
     let n = panel_length(l);
     if buffer.len() < n {
@@ -103,8 +103,8 @@ fn draw_in(l: &Layout, s: Core, buffer: &mut [u8]) -> Drawn
 }
 
 // The panel image into a lent buffer. 18 for an unsound record comes before 27, with length 0 and the whole buffer untouched.
-pub fn panel(state: State, layout: Layout, buffer: &mut [u8]) -> Drawn
-    ensures { (result ≡ answer layout state (length buffer.old)) × (buffer.new ≡ drawn layout state buffer.old) }
+pub fn panel(state: &State, layout: &Layout, buffer: &mut [u8]) -> Drawn
+    ensures { (result ≡ answer layout.now state.now (length buffer.old)) × (buffer.new ≡ drawn layout.now state.now buffer.old) }
 {
     if !state.in_range() {
         return Drawn {
@@ -119,7 +119,7 @@ pub fn panel(state: State, layout: Layout, buffer: &mut [u8]) -> Drawn
         };
     }
     let core = core_of(state);
-    draw_in(&layout, core, buffer)
+    draw_in(layout, &core, buffer)
 }
 
 // There is a section, none that is fitted is lacking, and there are no more objects than the tables hold.
@@ -138,14 +138,14 @@ fn is_drawable(l: &Layout) -> bool
 
 // The same in a run that asked soundness before its first event, of the nine tables: 18 asks no more of the layout than is needed to draw it and that no
 // fitted section is lacking, and nothing of the state.
-pub fn panel_in_run(core: Core, layout: Layout, buffer: &mut [u8]) -> Drawn
-    ensures { (result ≡ answer_in_run layout (bare core) (length buffer.old)) × (buffer.new ≡ drawn_in_run layout (bare core) buffer.old) }
+pub fn panel_in_run(core: &Core, layout: &Layout, buffer: &mut [u8]) -> Drawn
+    ensures { (result ≡ answer_in_run layout.now (bare core.now) (length buffer.old)) × (buffer.new ≡ drawn_in_run layout.now (bare core.now) buffer.old) }
 {
-    if !is_drawable(&layout) {
+    if !is_drawable(layout) {
         return Drawn {
             number: 18,
             length: 0,
         };
     }
-    draw_in(&layout, core, buffer)
+    draw_in(layout, core, buffer)
 }

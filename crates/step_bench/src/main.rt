@@ -60,7 +60,7 @@ fn is_sound(plan: Layout, core: Core, axles: [Axles; SECTIONS], lamp: [u8; LAMPS
 #[tactic(auto, using(interlocking::proofs::Lifted::place_below))]
 fn play(plan: Layout, asking: bool, events: &[u8], turns: u64, given: Played) -> Played {
     let s = given.state;
-    let mut core = core_of(s);
+    let mut core = core_of(&s);
     let mut axles = s.axles;
     let mut lamp = s.lamp;
     let mut sum = given.sum;
@@ -83,7 +83,7 @@ fn play(plan: Layout, asking: bool, events: &[u8], turns: u64, given: Played) ->
             }
             let place = head_place(e.kind, e.first);
             let heads = axles[place];
-            let r = core.step_in_run(heads, &lamp, plan, e.kind, e.first, e.second);
+            let r = core.step_in_run(heads, &lamp, &plan, e.kind, e.first, e.second);
             core = r.next;
             let then = r.heads;
             axles[place] = then;
@@ -142,7 +142,7 @@ fn layout_named(rt: &HostRuntime, argument: usize) -> Result<Layout, Reported> {
 // The layout with the sections that the file that an argument names tells as fitted.
 fn equipped_named(rt: &HostRuntime, plan: Layout, argument: usize) -> Result<Layout, Reported> {
     let mut room = [0u8; 65536];
-    match fitted::fit(plan, read_named(rt, argument, &mut room)?) {
+    match fitted::fit(&plan, read_named(rt, argument, &mut room)?) {
         Ok(equipped) => Ok(equipped),
         Err(_) => Ok(plan),
     }

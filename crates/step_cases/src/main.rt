@@ -72,7 +72,7 @@ fn play_next(
     line: &mut Line,
 ) -> Result<(), Reported> {
     let e = next_event(rt, archive)?;
-    let r = state.step(*plan, e.kind, e.first, e.second);
+    let r = state.step(plan, e.kind, e.first, e.second);
     line.put_number(r.number as u32);
     line.put(b':');
     line.put_number(r.detail);
@@ -152,7 +152,7 @@ fn equip(rt: &HostRuntime, archive: &mut File, plan: Layout) -> Result<Layout, R
     }
     read_full(rt, archive, &mut room[..n])?;
     console::print(rt, b" ")?;
-    match fitted::fit(plan, &room[..n]) {
+    match fitted::fit(&plan, &room[..n]) {
         Ok(equipped) => {
             write_answer(rt, 0, 0)?;
             Ok(equipped)

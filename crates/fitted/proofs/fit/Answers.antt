@@ -7,4 +7,4 @@ pub returns-in-Bad : goal.returns-in-Bad
 returns-in-Bad c = fit_is _ _ _ _ c.none_told-none.ensures c.tell_piece-p.ensures (answer_fault _ _ _ c.in-Bad.is)
 
 pub returns : goal.returns
-returns c = fit_is _ _ _ _ c.none_told-none.ensures c.tell_piece-p.ensures (answer_read _ _ (whole_end c.args.layout _ _ _ c.tell_piece-p.ensures c.in_default.not-Bad) c.equip.ensures)
+returns c = fit_is _ _ _ _ c.none_told-none.ensures c.tell_piece-p.ensures (answer_read _ _ (whole_end c.args.layout.now _ _ _ c.tell_piece-p.ensures c.in_default.not-Bad) c.equip.ensures)
