@@ -5,7 +5,7 @@
 #![tactic(auto)]
 
 use console::Reported;
-use event_file::FileKind;
+use event_file::{End, FileKind};
 use interlocking::State;
 use layout::Layout;
 
@@ -42,8 +42,14 @@ fn play(rt: &HostRuntime, panel: bool, layout: Layout, file: &[u8]) -> Result<()
     print_first(rt, &out, opened)?;
     let p = event_file::run_piece(panel, layout, State::cold(), 0, file, 0, true, &mut out);
     print_first(rt, &out, p.written)?;
-    if p.stop > 3 {
-        let closed = event_file::fault_line(FileKind::Events, p.stop as u64, p.at as u64, &mut out);
+    if let End::Bad { fault } = p.end {
+        let number = fault.number() as u64;
+        let closed = event_file::fault_line(
+            FileKind::Events,
+            number,
+            fault.detail() as u64,
+            &mut out,
+        );
         print_first(rt, &out, closed)?;
     }
     Ok(())

@@ -25,8 +25,8 @@ use Rattle.interlocking.specs.Step.{step}
 use Rattle.step_facts.specs.Run.{Event, box, box_in_run}
 use Rattle.step_facts.proofs.Range.{cold_in_range}
 use Rattle.step_facts.proofs.Step.{step_in_range}
-use Rattle.event_file.specs.declared.Next.{Next}
-use Rattle.event_file.specs.declared.Next.TheVariants.{Taken, Bad, Nothing}
+use Rattle.event_file.specs.Next.{Next}
+use Rattle.event_file.specs.Next.{Taken, Bad, Nothing}
 use Rattle.event_file.specs.Read.{event_at}
 use Rattle.event_file.specs.Lines.{next_count, shown, shown_in_run, line_of, most_text, most_line}
 use Rattle.event_file.specs.Run.{Run}

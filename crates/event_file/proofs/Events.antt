@@ -16,8 +16,8 @@ use Rattle.numbers.specs.Form.{encode, Bytes}
 use Rattle.numbers.proofs.Readings.{number_after, number_inside, number_written, number_most}
 use Rattle.numbers.proofs.Forms.{accepts}
 use Rattle.step_facts.specs.Run.{Event, event}
-use Rattle.event_file.specs.declared.Next.{Next}
-use Rattle.event_file.specs.declared.Next.TheVariants.{Taken, Bad, Nothing}
+use Rattle.event_file.specs.Next.{Next}
+use Rattle.event_file.specs.Next.{Taken, Bad, Nothing}
 use Rattle.event_file.specs.Read.{with_second, with_first, with_kind, event_at}
 use Rattle.event_file.specs.Events.{events_next, events_from, events_of, behind_next, behind_from, behind_events, ending_by, ending_of, event_form, written, Writable, AllWritable}
 use Rattle.event_file.proofs.Reading.{event_none}

@@ -10,8 +10,8 @@ use Rattle.numbers.specs.Number.{Number}
 use Rattle.numbers.specs.Number.{Value, Fault}
 use Rattle.numbers.specs.Number.{number_at}
 use Rattle.numbers.proofs.Further.{further, inside_further, number_further}
-use Rattle.event_file.specs.declared.Next.{Next}
-use Rattle.event_file.specs.declared.Next.TheVariants.{Taken, Bad, Nothing}
+use Rattle.event_file.specs.Next.{Next}
+use Rattle.event_file.specs.Next.{Taken, Bad, Nothing}
 use Rattle.event_file.specs.Read.{with_second, with_first, with_kind, event_at}
 
 -- so many places further on

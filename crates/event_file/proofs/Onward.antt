@@ -16,8 +16,8 @@ use Rattle.numbers.specs.Number.{Number}
 use Rattle.numbers.specs.Number.{Value, Fault}
 use Rattle.numbers.specs.Number.{number_at}
 use Rattle.numbers.proofs.Readings.{number_after, number_inside, fault_number}
-use Rattle.event_file.specs.declared.Next.{Next}
-use Rattle.event_file.specs.declared.Next.TheVariants.{Taken, Bad, Nothing}
+use Rattle.event_file.specs.Next.{Next}
+use Rattle.event_file.specs.Next.{Taken, Bad, Nothing}
 use Rattle.event_file.specs.Read.{with_second, with_first, with_kind, event_at}
 use Rattle.event_file.specs.Lines.{next_count}
 use Rattle.event_file.specs.List.{events_word, fault_line, answer_line, list_next, list_from}

@@ -15,8 +15,8 @@ use Rattle.laws.proofs.Choice.{if_both, if_ge}
 use Rattle.interlocking.specs.declared.State.{State}
 use Rattle.interlocking.specs.declared.Answer.{Answer}
 use Rattle.step_facts.specs.Run.{Event}
-use Rattle.event_file.specs.declared.Next.{Next}
-use Rattle.event_file.specs.declared.Next.TheVariants.{Taken, Bad, Nothing}
+use Rattle.event_file.specs.Next.{Next}
+use Rattle.event_file.specs.Next.{Taken, Bad, Nothing}
 use Rattle.event_file.specs.Read.{event_at}
 use Rattle.event_file.specs.Lines.{most_line}
 use Rattle.event_file.specs.Run.{Run, stopped, took, next_of, turn_of, after, turn_run, start, piece_of}

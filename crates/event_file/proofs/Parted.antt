@@ -24,9 +24,8 @@ use Rattle.interlocking.specs.Parts.{core_of, bare, whole, is_of_heads, heads_th
 use Rattle.interlocking.proofs.Together.{together_is}
 use Rattle.panel.specs.Panel.{signal_shows, distant_byte, image, answer_where, answer_in_run}
 use Rattle.step_facts.specs.Run.{Event, event, box_in_run}
-use Rattle.event_file.specs.declared.pieces.Piece.{Piece}
 use Rattle.event_file.specs.Lines.{shown_in_run, line_of, most_line}
-use Rattle.event_file.specs.Run.{Run, piece_of, so_far, Went}
+use Rattle.event_file.specs.Run.{Piece, Run, piece_of, so_far, Went}
 use Rattle.numerals.specs.Writes.{Put}
 
 -- a state is its three parts, so a run from these is a run from it

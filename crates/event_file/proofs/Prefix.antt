@@ -11,8 +11,8 @@ use Rattle.laws.specs.Choice.{when◌then◌else◌}
 use Rattle.numbers.specs.Number.{Number}
 use Rattle.numbers.specs.Number.{Value, Fault}
 use Rattle.numbers.proofs.Prefix.{Kept, prefix_inside, number_kept}
-use Rattle.event_file.specs.declared.Next.{Next}
-use Rattle.event_file.specs.declared.Next.TheVariants.{Bad}
+use Rattle.event_file.specs.Next.{Next}
+use Rattle.event_file.specs.Next.{Bad}
 use Rattle.event_file.specs.Read.{with_second, with_first, with_kind, event_at}
 
 -- what stands at a place of the prefix is 21, or what stands there in the whole

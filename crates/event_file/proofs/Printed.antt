@@ -31,8 +31,8 @@ use Rattle.step_facts.specs.Run.{Event, event, box, answers, from_cold}
 use Rattle.step_facts.proofs.Range.{cold_in_range}
 use Rattle.step_facts.proofs.Step.{step_in_range, unsound_18}
 use Rattle.step_facts.proofs.Run.{cold_run_in_range}
-use Rattle.event_file.specs.declared.Next.{Next}
-use Rattle.event_file.specs.declared.Next.TheVariants.{Taken, Bad, Nothing}
+use Rattle.event_file.specs.Next.{Next}
+use Rattle.event_file.specs.Next.{Taken, Bad, Nothing}
 use Rattle.event_file.specs.Read.{event_at}
 use Rattle.event_file.specs.Lines.{next_count, shown_by, shown, line_of}
 use Rattle.event_file.specs.List.{layout_word, fitted_word, header, fault_line, answer_line, list_next, list_from, opening, list_on, printed_by, printed, WellFitted}

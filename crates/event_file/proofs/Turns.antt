@@ -1,7 +1,7 @@
 -- The turns of a run, each from the facts that choose it.
 use Prim.Native.Nat.{ℕ, zero, suc, ◌+◌, ◌-◌, ◌<◌, ◌≤◌}
 use mathlib.Core.Path.{◌≡◌, refl, sym, ap, subst, ◌∙◌}
-use mathlib.Core.Logic.{◌⊎◌, inl, inr, ⊎_elim}
+use mathlib.Core.Logic.{⊎_elim}
 use mathlib.Core.Bool.{Bool, true, false, not}
 use mathlib.Core.List.{List, ◌++◌}
 use native.Mathlib.Nat.{add-zero}
@@ -9,9 +9,9 @@ use native.Mathlib.Numerals.{add-one}
 use native.Mathlib.Omega.{arith}
 use borrow.Author.Rules.{rules}
 use borrow.Author.Tests.{eq-eqb, ne_eqb}
-use denote.Enum.Declared.{tag_of}
 use lib.Dec.{eqb}
 use lib.ListN.{length}
+use Rattle.std.specs.Prelude.{Option, Some, None}
 use Rattle.laws.specs.Choice.{when◌then◌else◌}
 use Rattle.laws.specs.Tests.{◌and◌}
 use Rattle.laws.specs.Tables.{iter}
@@ -19,15 +19,15 @@ use Rattle.laws.proofs.Choice.{if_true, if_false, if_lt, if_ge}
 use Rattle.interlocking.specs.declared.State.{State}
 use Rattle.interlocking.specs.declared.Answer.{Answer}
 use Rattle.step_facts.specs.Run.{Event}
-use Rattle.event_file.specs.declared.Next.{Next}
-use Rattle.event_file.specs.declared.Next.TheVariants.{Taken, Bad, Nothing}
-use Rattle.event_file.specs.declared.pieces.Piece.{Piece}
+use Rattle.numbers.specs.declared.Fault.{Fault}
+use Rattle.numbers.specs.Given.{number_of, detail_of}
+use Rattle.event_file.specs.Next.{Next}
+use Rattle.event_file.specs.Next.{Taken, Bad, Nothing}
 use Rattle.event_file.specs.Read.{event_at}
 use Rattle.event_file.specs.Lines.{next_count, line_of, most_line}
 use Rattle.event_file.specs.List.{answer_line}
-use Rattle.event_file.specs.Run.{Run, stopped, took, next_of, turn_of, after, turn_run, start, turns, piece_of, halted, halted_by, so_far, Went}
+use Rattle.event_file.specs.Run.{Piece, Run, stopped, took, next_of, turn_of, after, turn_run, start, turns, piece_of, no_event, halted, halted_by, so_far, Went}
 use Rattle.numerals.specs.Writes.{Put}
-use Rattle.event_file.specs.contracts.Next.{the_type}
 use Rattle.numerals.proofs.Writes.{put_then, put_within}
 use Rattle.event_file.proofs.Onward.{Past, event_past}
 
@@ -39,40 +39,43 @@ unfolding ◌and◌
 both_fail true u z = z
 both_fail false u z = refl
 
-module _ (last : Bool) (p r : Piece) (x : Next) where
+module _ (last : Bool) (p : Piece) where
   -- an event that the piece's end cuts off, where more is to come
-  pub halts_past : {number place : ℕ} → x ≡ Bad number place → last ≡ false → number ≡ 21 → r ≡ halted p p.at 2 → r ≡ halted_by last p x
+  pub ends_past : (f : Fault) → last ≡ false → number_of f ≡ 21 → halted p p.at 2 ≡ halted_by last p (no_event (Some f))
   unfolding halted_by ◌and◌ when◌then◌else◌
-  halts_past e h f q = rw (e, f, h) q
+  ends_past f h e = rw (e, h) refl
 
   -- a fault in the last piece
-  pub halts_cut : {number place : ℕ} → x ≡ Bad number place → last ≡ true → r ≡ halted p place number → r ≡ halted_by last p x
+  pub ends_cut : (f : Fault) → last ≡ true → halted p (detail_of f) (number_of f) ≡ halted_by last p (no_event (Some f))
   unfolding halted_by when◌then◌else◌
-  halts_cut {number} {place} e h q = rw (e, both_fail (eqb number 21) (not last) (ap not h)) q
+  ends_cut f h = rw (both_fail (eqb (number_of f) 21) (not last) (ap not h)) refl
 
   -- a bad number in any piece
-  pub halts_bad : {number place : ℕ} → x ≡ Bad number place → (number ≡ 21 → ⊥) → r ≡ halted p place number → r ≡ halted_by last p x
+  pub ends_bad : (f : Fault) → (number_of f ≡ 21 → ⊥) → halted p (detail_of f) (number_of f) ≡ halted_by last p (no_event (Some f))
   unfolding halted_by ◌and◌ when◌then◌else◌
-  halts_bad {number} {place} e h q = rw (e, ne_eqb number 21 h) q
+  ends_bad f h = rw (ne_eqb (number_of f) 21 h) refl
 
   -- the file's end after the event before
-  pub halts_end : x ≡ Nothing → last ≡ true → r ≡ halted p p.at 3 → r ≡ halted_by last p x
+  pub ends_last : last ≡ true → halted p p.at 3 ≡ halted_by last p (no_event None)
   unfolding halted_by when◌then◌else◌
-  halts_end e h q = rw (e, h) q
+  ends_last h = rw h refl
 
   -- the piece's end, where more is to come
-  pub halts_none : x ≡ Nothing → last ≡ false → r ≡ halted p p.at 2 → r ≡ halted_by last p x
+  pub ends_more : last ≡ false → halted p p.at 2 ≡ halted_by last p (no_event None)
   unfolding halted_by when◌then◌else◌
-  halts_none e h q = rw (e, h) q
+  ends_more h = rw h refl
 
--- an event ends no run
-pub halts_not : (last : Bool) (p : Piece) (x : Next) {kind first second next : ℕ} → x ≡ Taken kind first second next → p ≡ halted_by last p x
-unfolding halted_by
-halts_not last p x e = rw e
-
-pub ruleset halts = (rules, halts_not, halts_past, halts_cut, halts_bad, halts_end, halts_none)
+-- one answer has one fault
+pub fault_once : {f g : Fault} → ◌≡◌ {A = Option Fault} (Some f) (Some g) → number_of g ≡ 21 → number_of f ≡ 21
+fault_once e h = cc
 
 -- ---- one turn
+
+-- what stands at a place is no event
+abbrev pub NoEvent : Next → Type 0
+NoEvent (Taken kind first second next) = ⊥
+NoEvent (Bad number place) = Unit {0}
+NoEvent Nothing = Unit {0}
 
 -- a run that ended, and wrote nothing more
 record Ended (a : List ℕ) (from most : ℕ) (r : Piece) (g : Run) : Type 0 where
@@ -102,13 +105,12 @@ module _ (a : List ℕ) (p r : Piece) (most : ℕ) where
   either_ended true at why place number h k e = halted_ended at why h e
   either_ended false at why place number h k e = halted_ended place number k e
 
-  -- by what stands at the next place, where that is no event: its variant is the one of a fault or the one of the file's end
+  -- by what stands at the next place, where that is no event
   next_ended : (f : State → Event → Answer) (panel : Bool) (show : State → List ℕ) (last : Bool) (bytes : List ℕ) (x : Next) → Past bytes p.at x
-      → (tag_of the_type x ≡ 1) ⊎ (tag_of the_type x ≡ 2) → r ≡ halted_by last p x
+      → NoEvent x → r ≡ halted_by last p x
       → Ended a p.written most r (next_of f panel show last p.state p.count p.at x)
   unfolding next_of halted_by
-  next_ended f panel show last bytes (Taken kind first second next) h (inl k) e = absurd (let z : ◌≡◌ {A = ℕ} 0 1 = k in omega arith)
-  next_ended f panel show last bytes (Taken kind first second next) h (inr k) e = absurd (let z : ◌≡◌ {A = ℕ} 0 2 = k in omega arith)
+  next_ended f panel show last bytes (Taken kind first second next) h k e = absurd k
   next_ended f panel show last bytes (Bad number place) h k e =
       either_ended _ p.at 2 place number (λ z. let y : 2 ≡ 0 = z in omega arith) (λ z. ⊎_elim (λ y. omega arith) (λ y. omega arith) h) e
   next_ended f panel show last bytes Nothing h k e =
@@ -234,7 +236,7 @@ module _ (f : State → Event → Answer) (panel : Bool) (show : State → List 
 
       module _ (x : Next) (h : v ≤ length b - written) (e : x ≡ event_at bytes place) where
         -- no event stands at the next place
-        pub run_halted : (p r : Piece) → (tag_of the_type x ≡ 1) ⊎ (tag_of the_type x ≡ 2) → p ≡ so_far t m place written → r ≡ halted_by last p x
+        pub run_halted : (p r : Piece) → NoEvent x → p ≡ so_far t m place written → r ≡ halted_by last p x
             → Went a 0 (length a) b r (piece_of f panel show last bytes (length a) s n at)
         unfolding so_far
         run_halted p r k c q =

@@ -1,3 +1,4 @@
+pub mod Next
 pub mod Read
 pub mod Lines
 pub mod List

@@ -13,8 +13,8 @@ use Rattle.interlocking.specs.declared.State.{State}
 use Rattle.interlocking.specs.declared.Answer.{Answer}
 use Rattle.interlocking.specs.State.{cold}
 use Rattle.step_facts.specs.Run.{Event, box}
-use Rattle.event_file.specs.declared.Next.{Next}
-use Rattle.event_file.specs.declared.Next.TheVariants.{Taken, Bad, Nothing}
+use Rattle.event_file.specs.Next.{Next}
+use Rattle.event_file.specs.Next.{Taken, Bad, Nothing}
 use Rattle.event_file.specs.Read.{event_at}
 use Rattle.event_file.specs.Lines.{two_numbers, line_end, next_count, shown, line_of, most_line}
 

@@ -4,8 +4,8 @@ use Rattle.laws.specs.Choice.{when◌then◌else◌}
 use Rattle.numbers.specs.Number.{Number}
 use Rattle.numbers.specs.Number.{Value, Fault}
 use Rattle.numbers.specs.Number.{largest, number_at}
-use Rattle.event_file.specs.declared.Next.{Next}
-use Rattle.event_file.specs.declared.Next.TheVariants.{Taken, Bad, Nothing}
+use Rattle.event_file.specs.Next.{Next}
+use Rattle.event_file.specs.Next.{Taken, Bad, Nothing}
 
 -- a number, where it is one, is not too large
 abbrev pub Small : Number → Type 0

@@ -1,14 +1,18 @@
 -- A run over an event file, a piece of the file at a time (section 8).
-use Rattle.std.specs.Prelude.{ℕ, ◌-◌, ◌≡◌, Bool, not, List, [], ◌++◌, length, eqb, ltb}
+use Rattle.std.specs.Prelude.{ℕ, ◌-◌, ◌≡◌, Bool, not, List, [], ◌++◌, length, eqb, ltb, Option, Some, None}
+use Rattle.numbers.specs.declared.Fault.{Fault}
+use Rattle.numbers.specs.Given.{number_of, detail_of}
 use Rattle.laws.specs.Choice.{when◌then◌else◌}
 use Rattle.laws.specs.Tests.{◌and◌}
 use Rattle.laws.specs.Tables.{iter}
 use Rattle.interlocking.specs.declared.State.{State}
 use Rattle.interlocking.specs.declared.Answer.{Answer}
 use Rattle.step_facts.specs.Run.{Event}
-use Rattle.event_file.specs.declared.Next.{Next}
-use Rattle.event_file.specs.declared.Next.TheVariants.{Taken, Bad, Nothing}
-use Rattle.event_file.specs.declared.pieces.Piece.{Piece}
+use Rattle.event_file.specs.Next.{Next}
+use Rattle.event_file.specs.Next.{Taken, Bad, Nothing}
+use Rattle.event_file.specs.declared.pieces.Piece.{Piece as PieceGiven}
+use Rattle.event_file.specs.declared.pieces.End.{End}
+use Rattle.event_file.specs.declared.pieces.End.TheVariants.{Turned, Full, Later, AtEnd, Bad as BadGiven}
 use Rattle.event_file.specs.Read.{event_at}
 use Rattle.event_file.specs.Lines.{next_count, most_line}
 use Rattle.event_file.specs.List.{answer_line}
@@ -65,6 +69,38 @@ unfoldable pub piece_of : (State → Event → Answer) → Bool → (State → L
 piece_of f panel show last bytes room s n at = iter (λ i. turn_run f panel show last bytes room) turns (start s n at)
 
 -- ---- how the code holds it
+
+-- how far a run came, with how many bytes were written in place of what is printed
+pub record Piece : Type 0 where
+  pub state : State
+  pub count : ℕ
+  pub at : ℕ
+  pub written : ℕ
+  pub stop : ℕ
+
+-- where a run ended, and why
+abbrev pub place_of : End → ℕ
+place_of (Turned at) = at
+place_of (Full at) = at
+place_of (Later at) = at
+place_of (AtEnd at) = at
+place_of (BadGiven fault) = detail_of fault
+
+abbrev pub stop_given : End → ℕ
+stop_given (Turned at) = 0
+stop_given (Full at) = 1
+stop_given (Later at) = 2
+stop_given (AtEnd at) = 3
+stop_given (BadGiven fault) = number_of fault
+
+-- what the code gives for a run, by its numbers
+abbrev pub in_numbers : PieceGiven → Piece
+in_numbers p = record { state = p.state; count = p.count; at = place_of p.end; written = p.written; stop = stop_given p.end }
+
+-- what stands at a place where there is no event: a fault, or nothing
+abbrev pub no_event : Option Fault → Next
+no_event (Some f) = Bad (number_of f) (detail_of f)
+no_event None = Nothing
 
 -- the same run with another end
 unfoldable pub halted : Piece → ℕ → ℕ → Piece

@@ -4,23 +4,37 @@ ghost use Rattle.step_facts.specs.Run.{box_in_run};
 ghost use Rattle.event_file.specs.Lines.{next_count, shown_in_run, most_line};
 ghost use Rattle.numerals.specs.Writes.{Put};
 ghost use Rattle.event_file.specs.Writes.{rest};
-ghost use Rattle.event_file.specs.Run.{piece_of, halted, halted_by, so_far, Went};
+ghost use Rattle.event_file.specs.Run.{Piece as Reached, place_of, stop_given, in_numbers, no_event, piece_of, halted, halted_by, Went};
 
-use crate::{Next, lines, next_event};
+use crate::{Event, lines, next_event};
 use interlocking::State;
 use interlocking::parts::{core_of, head_place, lamps_then, whole};
 use layout::Layout;
+use numbers::Fault;
 use track::codes::AXLES_IN;
 
-// How far a run came: the state, how many events there were, the place of the next one, how many bytes were written, and why it stopped.
-// 0 it did not; 1 no room for another line; 2 the next event lies past the piece's end; 3 the file's end; 21, 22 a fault, at its place.
+// Why a run stopped, and the place that it came to.
+#[derive(Clone, Copy)]
+pub enum End {
+    // It made all turns of a call; the next event's place.
+    Turned { at: usize },
+    // There is no room for another line.
+    Full { at: usize },
+    // The next event lies past the piece's end.
+    Later { at: usize },
+    // The file's end.
+    AtEnd { at: usize },
+    // A fault of the event file.
+    Bad { fault: Fault },
+}
+
+// How far a run came: the state, how many events there were, how many bytes were written, and where and why it stopped.
 #[derive(Clone, Copy)]
 pub struct Piece {
     pub state: State,
     pub count: u64,
-    pub at: usize,
     pub written: usize,
-    pub stop: u8,
+    pub end: End,
 }
 
 // The event's number.
@@ -37,38 +51,15 @@ pub fn most_line(panel: bool) -> usize
     if panel { 2113 } else { 63 }
 }
 
-// The same run with another end.
-#[tactic(auto, unfolding(crate::specs::Run::halted))]
-fn halt(p: Piece, at: usize, stop: u8) -> Piece
-    ensures { result ≡ halted p at stop }
+// How a run ends at a place where no event stands but a fault, or nothing. An event that a piece cuts off is read again with what follows the piece.
+fn end_by(at: usize, fault: Option<Fault>, last: bool) -> End
+    ensures { (p : Reached) → p.at ≡ at → halted p (place_of result) (stop_given result) ≡ halted_by last p (no_event fault) }
 {
-    Piece { at, stop, ..p }
-}
-
-// The same run, ended by what stands at the next place, where that is no event.
-fn halt_by(p: Piece, next: Next, last: bool) -> Piece
-    ensures { result ≡ halted_by last p next }
-{
-    match next {
-        Next::Taken { .. } => p,
-        Next::Bad { number, .. } if number == 21 && !last => halt(p, p.at, 2),
-        Next::Bad { number, at } => halt(p, at, number),
-        Next::Nothing if last => halt(p, p.at, 3),
-        Next::Nothing => halt(p, p.at, 2),
-    }
-}
-
-// A run that did not stop.
-#[tactic(auto, unfolding(crate::specs::Run::so_far))]
-fn so_far(state: State, count: u64, at: usize, written: usize) -> Piece
-    ensures { result ≡ so_far state count at written }
-{
-    Piece {
-        state,
-        count,
-        at,
-        written,
-        stop: 0,
+    match fault {
+        Some(fault) if fault.number() == 21 && !last => End::Later { at },
+        Some(fault) => End::Bad { fault },
+        None if last => End::AtEnd { at },
+        None => End::Later { at },
     }
 }
 
@@ -85,7 +76,7 @@ pub fn run_piece(
     last: bool,
     out: &mut [u8],
 ) -> Piece
-    ensures { Went out.old 0 (length out.old) out.new result (piece_of (box_in_run layout) panel (shown_in_run layout) last bytes.now (length out.old) state count at) }
+    ensures { Went out.old 0 (length out.old) out.new (in_numbers result) (piece_of (box_in_run layout) panel (shown_in_run layout) last bytes.now (length out.old) state count at) }
 {
     let mut core = core_of(&state);
     let mut axles = state.axles;
@@ -93,21 +84,42 @@ pub fn run_piece(
     let mut written: usize = 0;
     for _ in 0u32..65536 {
         if out.len() - written < most_line(panel) {
-            return halt(so_far(whole(core, axles, lamps), count, at, written), at, 1);
+            let state = whole(core, axles, lamps);
+            let end = End::Full { at };
+            return Piece {
+                state,
+                count,
+                written,
+                end,
+            };
         }
-        let there = next_event(bytes, at);
-        let Next::Taken {
+        let Event {
             kind,
             first,
             second,
             next,
-        } = there
-        else {
-            return halt_by(
-                so_far(whole(core, axles, lamps), count, at, written),
-                there,
-                last,
-            );
+        } = match next_event(bytes, at) {
+            Ok(Some(event)) => event,
+            Ok(None) => {
+                let state = whole(core, axles, lamps);
+                let end = end_by(at, None, last);
+                return Piece {
+                    state,
+                    count,
+                    written,
+                    end,
+                };
+            }
+            Err(fault) => {
+                let state = whole(core, axles, lamps);
+                let end = end_by(at, Some(fault), last);
+                return Piece {
+                    state,
+                    count,
+                    written,
+                    end,
+                };
+            }
         };
         let place = head_place(kind, first);
         let heads = axles[place];
@@ -126,7 +138,14 @@ pub fn run_piece(
             lines::put_line(count, a.number, a.detail, out, written)
         };
     }
-    so_far(whole(core, axles, lamps), count, at, written)
+    let state = whole(core, axles, lamps);
+    let end = End::Turned { at };
+    Piece {
+        state,
+        count,
+        written,
+        end,
+    }
 }
 
 // The bytes of a buffer from one place to another are brought to its front; how many they are.

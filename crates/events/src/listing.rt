@@ -2,7 +2,7 @@
 use crate::files::{Held, Source};
 use crate::{print_first, tell};
 use console::Reported;
-use event_file::{FileKind, Piece};
+use event_file::{End, FileKind, Piece};
 use interlocking::State;
 use layout::Layout;
 
@@ -39,22 +39,23 @@ fn end_list(
     Ok(())
 }
 
-// What is left of the buffer is brought to the front and the file is read on behind it. Where it cannot be read, the list ends there.
+// What is left of the buffer from a place on is brought to the front and the file is read on behind it. Where it cannot be read, the list ends there.
 fn with_more(
     rt: &HostRuntime,
     source: &mut Source,
     w: Walk,
     p: Piece,
+    at: usize,
     buf: &mut [u8],
 ) -> Result<Walk, Reported> {
-    let rest = event_file::bring_rest(buf, p.at, w.have);
+    let rest = event_file::bring_rest(buf, at, w.have);
     let held = source.read_on(rt, buf, rest)?;
     Ok(Walk {
         state: p.state,
         count: p.count,
         at: 0,
         have: held.have,
-        before: w.before.saturating_add(p.at),
+        before: w.before.saturating_add(at),
         last: held.last,
     })
 }
@@ -80,18 +81,18 @@ fn walk_on(
         out,
     );
     print_first(rt, out, p.written)?;
-    match p.stop {
-        0 | 1 => Ok(Some(Walk {
+    match p.end {
+        End::Turned { at } | End::Full { at } => Ok(Some(Walk {
             state: p.state,
             count: p.count,
-            at: p.at,
+            at,
             ..w
         })),
-        2 => Ok(Some(with_more(rt, source, w, p, buf)?)),
-        3 => Ok(None),
-        number => {
-            let place = w.before.saturating_add(p.at);
-            end_list(rt, source.path, number, place, out)?;
+        End::Later { at } => Ok(Some(with_more(rt, source, w, p, at, buf)?)),
+        End::AtEnd { .. } => Ok(None),
+        End::Bad { fault } => {
+            let place = w.before.saturating_add(fault.detail());
+            end_list(rt, source.path, fault.number(), place, out)?;
             Ok(None)
         }
     }

@@ -1,11 +1,10 @@
 -- The turns of a run over a file in the number form, each from the facts that choose it.
 use Prim.Native.Nat.{ℕ, suc, ◌+◌, ◌*◌, ◌/◌, ◌≤◌}
-use mathlib.Core.Path.{◌≡◌, refl, ap, subst}
+use mathlib.Core.Path.{◌≡◌, refl, sym, ap, subst, ◌∙◌}
 use mathlib.Core.Bool.{Bool, true, false}
 use mathlib.Core.List.{List, [], ◌++◌, append-nil}
 use native.Mathlib.Numerals.{add-one}
 use native.Mathlib.Omega.{arith}
-use borrow.Author.Rules.{rules}
 use lib.Dec.{eqb}
 use lib.ListN.{length}
 use Rattle.laws.specs.Choice.{when◌then◌else◌}
@@ -18,12 +17,11 @@ use Rattle.numbers.specs.Given.{number_of, detail_of, given}
 use Rattle.numbers.specs.Number.{Number}
 use Rattle.numbers.specs.Number.{Value, Fault}
 use Rattle.numbers.specs.Number.{number_at}
-use Rattle.numbers.proofs.Cases.{number_same}
+use Rattle.numbers.proofs.Same.{not_none}
 use Rattle.numerals.specs.Writes.{Put}
 use Rattle.numerals.proofs.Writes.{put_none, put_then, put_within}
-use Rattle.number_text.specs.declared.unpack.Unpacked.{Unpacked}
 use Rattle.number_text.specs.Lines.{Run, next_column, number_text, begun, onward, turn_of, unpacked}
-use Rattle.number_text.specs.Pieces.{held, Went}
+use Rattle.number_text.specs.Pieces.{Unpacked, stop_given, held, Went}
 
 -- ---- one turn
 
@@ -54,8 +52,9 @@ unfolding turn_of held
 turn_stopped per p a bytes h =
     subst (Went a p.written 7 a p) (if_ne _ _ _ _ _ h refl) (record { column = refl; at = refl; stop = refl; text = put_none 7 })
 
--- for one turn
-pub ruleset onwards = (rules, number_same, value_went, fault_went, turn_stopped, turn_goes)
+-- a fault has a number
+pub fault_stops : (x : Result ℕ FileFault) {f : FileFault} → x ≡ Err f → stop_given x ≡ 0 → ⊥
+fault_stops x {f} e z = not_none f (sym (ap stop_given e) ∙ z)
 
 -- ---- the turns of a call
 

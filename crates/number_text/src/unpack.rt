@@ -3,18 +3,17 @@ ghost use Rattle.std.specs.Prelude.{◌≡◌, ◌+◌, ◌/◌, ◌≤◌, leng
 ghost use Rattle.numerals.specs.Writes.{Put};
 ghost use Rattle.numbers.specs.Given.{given};
 ghost use Rattle.number_text.specs.Lines.{next_column, before, behind, number_text, onward, turn_of, unpacked};
-ghost use Rattle.number_text.specs.Pieces.{held, Went};
+ghost use Rattle.number_text.specs.Pieces.{in_numbers, held, Went};
 
 use numbers::{Fault, Given};
 
-// A piece of a file was read: how many numbers stand in the last line, the next number's place, how many bytes of text were written, and the
-// fault at that place: 0 none, 21 the piece ends, 22 a bad number.
+// A piece of a file was read: how many numbers stand in the last line, how many bytes of text were written, and the next number's place, or the fault
+// there: the piece ends, or a bad number.
 #[derive(Clone, Copy)]
 pub struct Unpacked {
     pub column: u64,
-    pub at: usize,
     pub written: usize,
-    pub stop: u8,
+    pub next: Result<usize, Fault>,
 }
 
 // How many numbers stand in the line after one more.
@@ -63,21 +62,19 @@ fn put_number(per: u64, column: u64, n: u64, out: &mut [u8], at: usize) -> usize
 // What stands at the next place.
 fn go_on(per: u64, p: Unpacked, n: Result<Given, Fault>, out: &mut [u8]) -> Unpacked
     requires { p.written + 7 ≤ length out.old }
-    ensures { Went out.old p.written 7 out.new result (onward per (held p) (given n)) }
+    ensures { Went out.old p.written 7 out.new (in_numbers result) (onward per (held (in_numbers p)) (given n)) }
 {
     match n {
         Ok(number) => {
             let written = put_number(per, p.column, number.value, out, p.written);
             Unpacked {
                 column: next_column(per, p.column),
-                at: number.next,
                 written,
-                stop: 0,
+                next: Ok(number.next),
             }
         }
         Err(fault) => Unpacked {
-            at: fault.detail(),
-            stop: fault.number(),
+            next: Err(fault),
             ..p
         },
     }
@@ -86,24 +83,25 @@ fn go_on(per: u64, p: Unpacked, n: Result<Given, Fault>, out: &mut [u8]) -> Unpa
 // One number, where there was no fault before.
 fn turn(per: u64, p: Unpacked, bytes: &[u8], out: &mut [u8]) -> Unpacked
     requires { p.written + 7 ≤ length out.old }
-    ensures { Went out.old p.written 7 out.new result (turn_of per bytes.now (held p)) }
+    ensures { Went out.old p.written 7 out.new (in_numbers result) (turn_of per bytes.now (held (in_numbers p))) }
 {
-    if p.stop != 0 {
-        return p;
+    match p.next {
+        Ok(at) => {
+            let n = numbers::read(bytes, at);
+            go_on(per, p, n, out)
+        }
+        Err(_) => p,
     }
-    let n = numbers::read(bytes, p.at);
-    go_on(per, p, n, out)
 }
 
 // As many numbers of a piece as there is room for the text of, seven bytes for each, with so many numbers in a line.
 pub fn unpack_piece(per: u64, column: u64, bytes: &[u8], at: usize, out: &mut [u8]) -> Unpacked
-    ensures { Went out.old 0 (length out.old) out.new result (unpacked (length out.old / 7) per bytes.now column at) }
+    ensures { Went out.old 0 (length out.old) out.new (in_numbers result) (unpacked (length out.old / 7) per bytes.now column at) }
 {
     let mut p = Unpacked {
         column,
-        at,
         written: 0,
-        stop: 0,
+        next: Ok(at),
     };
     for _ in 0..out.len() / 7 {
         p = turn(per, p, bytes, out);

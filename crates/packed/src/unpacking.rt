@@ -84,16 +84,27 @@ fn walk_on(
     let have = w.have.min(buf.len());
     let p = number_text::unpack_piece(per, w.column, &buf[..have], w.at, &mut out);
     written(rt, &out, p.written, writes)?;
-    let next = Walk {
-        column: p.column,
-        at: p.at,
-        have,
-        before: w.before,
-    };
-    match p.stop {
-        0 => Ok(Some(next)),
-        21 => read_on(rt, file, path, next, buf, writes),
-        stop => Err(tell(rt, path, stop, w.before.saturating_add(p.at))),
+    let column = p.column;
+    match p.next {
+        Ok(at) => Ok(Some(Walk {
+            column,
+            at,
+            have,
+            ..w
+        })),
+        Err(fault) if fault.number() == 21 => {
+            let next = Walk {
+                column,
+                at: fault.detail(),
+                have,
+                ..w
+            };
+            read_on(rt, file, path, next, buf, writes)
+        }
+        Err(fault) => {
+            let place = w.before.saturating_add(fault.detail());
+            Err(tell(rt, path, fault.number(), place))
+        }
     }
 }
 

@@ -8,8 +8,10 @@ use Rattle.laws.proofs.Arrays.{length_mapped}
 use Rattle.track.specs.Sizes.{most_sections}
 use Rattle.interlocking.specs.Parts.{together}
 use Rattle.interlocking.proofs.Lifted.{place_small}
+use Rattle.std.specs.Prelude.{Some}
+use Rattle.event_file.specs.Run.{no_event, halted, so_far}
 use Rattle.event_file.proofs.PanelText.{most_panel, most_plain, line_plain, line_panel}
-use Rattle.event_file.proofs.Reading.{next_same}
+use Rattle.event_file.proofs.Reading.{next_same, next_none, next_some}
 use Rattle.event_file.proofs.Turns.{runs, run_full, run_halted, run_taken, run_done}
 use Rattle.event_file.proofs.Parted.{from_parts, so_far_whole, so_far_tables, line_of_whole, run_together, heads_kept}
 use Rattle.event_file.proofs.pieces.run_piece.Goals.{then-panel, else-panel, then-kind-ge-AXLES_IN, else-kind-ge-AXLES_IN}
@@ -23,31 +25,45 @@ loop-init c =
 
 -- no room for another line
 pub returns-then-out-written : goal.returns-then-out-written
+unfolding so_far halted
 returns-then-out-written c =
     let asked = c in
     let turn = asked in
     from_parts _ _ _ _ _ _ _ _ _ _ _ _ _ turn.core_of-core.ensures
-    (run_full _ _ _ _ _ _ _ _ _ _ _ _ _ _ _ turn.loop.invariant.2 asked.loop-test.true _ asked.most_line.ensures _ _ asked.if-out-written.true
-    (so_far_whole _ _ _ _ _ _ c.whole.ensures c.so_far.ensures) c.halt.ensures)
+    (run_full _ _ _ _ _ _ _ _ _ _ _ _ _ _ _ turn.loop.invariant.2 asked.loop-test.true _ asked.most_line.ensures
+    (so_far c.whole-state.result c.loop.count c.loop.at c.loop.written) _ asked.if-out-written.true
+    (so_far_whole _ _ _ _ _ _ c.whole-state.ensures refl) refl)
 
--- no event stands at the next place
-pub returns-in_default : goal.returns-in_default
-returns-in_default c =
-    let found = c in
-    let asked = found in
+-- nothing stands at the next place
+pub returns-in-Ok-None : goal.returns-in-Ok-None
+unfolding so_far halted
+returns-in-Ok-None c =
+    let asked = c in
     let turn = asked in
+    let ran = so_far c.whole-state-in-Ok-None.result c.loop.count c.loop.at c.loop.written in
     from_parts _ _ _ _ _ _ _ _ _ _ _ _ _ turn.core_of-core.ensures
     (run_halted _ _ _ _ _ _ _ _ _ _ _ _ _ _ _ turn.loop.invariant.2 asked.loop-test.true _ asked.most_line.ensures _ asked.if-out-written.false
-    (next_same _ _ found.next_event-there.ensures) _ _ (search rules)
-    (so_far_whole _ _ _ _ _ _ c.whole-in_default.ensures c.so_far-in_default.ensures) c.halt_by.ensures)
+    (next_none _ _ c.in-Ok-None.field-0-is c.in-Ok-None.ensures) ran _ tt (so_far_whole _ _ _ _ _ _ c.whole-state-in-Ok-None.ensures refl) (c.end_by-end.ensures ran refl))
+
+-- or a fault
+pub returns-in-Err : goal.returns-in-Err
+unfolding so_far halted
+returns-in-Err c =
+    let asked = c in
+    let turn = asked in
+    let ran = so_far c.whole-state-in-Err.result c.loop.count c.loop.at c.loop.written in
+    from_parts _ _ _ _ _ _ _ _ _ _ _ _ _ turn.core_of-core.ensures
+    (run_halted _ _ _ _ _ _ _ _ _ _ _ _ _ _ _ turn.loop.invariant.2 asked.loop-test.true _ asked.most_line.ensures _ asked.if-out-written.false
+    (next_same (no_event (Some c.in-Err.fault)) _ c.in-Err.ensures) ran _ tt (so_far_whole _ _ _ _ _ _ c.whole-state-in-Err.ensures refl) (c.end_by-end-in-Err.ensures ran refl))
 
 -- all turns are made
 pub returns : goal.returns
+unfolding so_far
 returns c =
     let turn = c in
     from_parts _ _ _ _ _ _ _ _ _ _ _ _ _ turn.core_of-core.ensures
-    (run_done _ _ _ _ _ _ _ _ _ _ _ _ _ turn.loop.invariant.2 (so_far_whole _ _ _ _ _ _ c.whole-2.ensures c.so_far-2.ensures) turn.loop.invariant.0
-    (omega (arith, c.loop-test.false)))
+    (run_done _ _ _ _ _ _ _ _ _ _ _ (so_far c.whole-state-2.result c.loop.count c.loop.at c.loop.written) _ turn.loop.invariant.2
+    (so_far_whole _ _ _ _ _ _ c.whole-state-2.ensures refl) turn.loop.invariant.0 (omega (arith, c.loop-test.false)))
 
 -- a line that has room, with the panel
 pub put_panel_line-written-requires : goal.put_panel_line-written-requires
@@ -76,7 +92,7 @@ loop-preserved c =
       subst (λ zs. length zs ≡ most_sections) (sym stored) (search (rules, turn.loop.invariant.1)),
       so_far_tables _ _ _ _ _ _ _ _ _ _ _ stored c.lamps_then.ensures
           (run_taken _ _ _ _ _ _ _ _ _ _ _ _ _ _ _ turn.loop.invariant.2 less _ found.most_line.ensures _ found.if-out-written.false
-          (next_same _ _ found.next_event-there.ensures) _ _ _ _ _ _ _ _ (search rules)
+          (next_some _ _ found.in-Ok-Some.field-0-is found.in-Ok-Some.ensures) _ _ _ _ _ _ _ _ refl
           (run_together _ _ _ _ _ _ _ _ _ _ _ turn.loop.invariant.1 named.head_place-place.ensures refl answered.step_in_run-a.ensures) c.next_count-count.ensures
           (elim c.if-panel.branch [
             | then-panel w ↦ line_panel _ _ _ _ _ _ _ _ _ _ _ w.if-panel.true w.out-is w.written-is (line_of_whole _ _ _ _ _ _ _ _ _ _ _ w.put_panel_line-written.ensures)
