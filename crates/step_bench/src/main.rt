@@ -51,14 +51,14 @@ fn event_of(e: &[u8]) -> Event {
 }
 
 // Layout and state are sound, as `State::step` asks it.
-fn is_sound(plan: Layout, core: Core, axles: [Axles; SECTIONS], lamp: [u8; LAMPS]) -> bool {
+fn is_sound(plan: &Layout, core: Core, axles: [Axles; SECTIONS], lamp: [u8; LAMPS]) -> bool {
     let s = whole(core, axles, lamp);
     plan.sound() & s.in_range()
 }
 
 // Plays the events of a file so many times, each with soundness asked or not. It ends where that fails.
 #[tactic(auto, using(interlocking::proofs::Lifted::place_below))]
-fn play(plan: Layout, asking: bool, events: &[u8], turns: u64, given: Played) -> Played {
+fn play(plan: &Layout, asking: bool, events: &[u8], turns: u64, given: Played) -> Played {
     let s = given.state;
     let mut core = core_of(&s);
     let mut axles = s.axles;
@@ -83,7 +83,7 @@ fn play(plan: Layout, asking: bool, events: &[u8], turns: u64, given: Played) ->
             }
             let place = head_place(e.kind, e.first);
             let heads = axles[place];
-            let r = core.step_in_run(heads, &lamp, &plan, e.kind, e.first, e.second);
+            let r = core.step_in_run(heads, &lamp, plan, e.kind, e.first, e.second);
             core = r.next;
             let then = r.heads;
             axles[place] = then;
@@ -113,7 +113,7 @@ fn read_named<'a>(
 // Plays the whole events of the file that an argument names so many times.
 fn play_named(
     rt: &HostRuntime,
-    plan: Layout,
+    plan: &Layout,
     asking: bool,
     argument: usize,
     turns: u64,
@@ -198,7 +198,7 @@ fn mixed_state(sum: u64, s: &State) -> u64 {
 }
 
 // Plays what the arguments name, from a state on.
-fn play_arguments(rt: &HostRuntime, plan: Layout, state: State) -> Result<(), Reported> {
+fn play_arguments(rt: &HostRuntime, plan: &Layout, state: State) -> Result<(), Reported> {
     let asking = begins_with(rt, 6, b's');
     let turns = number_named(rt, 5);
     let first = play_named(rt, plan, asking, 3, 1, Played { state, sum: 0 })?;
@@ -222,7 +222,7 @@ fn start(rt: &HostRuntime) -> Result<(), Reported> {
         console::tell(rt, b"the layout is not sound\n");
         return Ok(());
     }
-    play_arguments(rt, plan, state)
+    play_arguments(rt, &plan, state)
 }
 
 // The exit status tells nothing: where something failed, standard error has said so.
