@@ -118,6 +118,7 @@ pub fn fill<R: Read>(
     ensures end { IfOk result (λ n. n < length buf.new → IsAtEnd (R.remaining file.new)) }
 {
     let mut done = 0;
+    // The place moves by as many bytes as a read gave, so no `for` counts it.
     while done < buf.len() {
         let n = read(rt, file, path, &mut buf[done..])?;
         if n == 0 {

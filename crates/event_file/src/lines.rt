@@ -17,6 +17,7 @@ fn put_digits(places: u8, n: u64, out: &mut [u8], at: usize) -> usize
     numerals::put_digits(places, n, out, at)
 }
 
+// put_two and put_three stay two: three numbers are one and two (`three_numbers`), and a loop over a slice of them would be no shorter.
 // Two numbers with a space between.
 pub fn put_two(a: u64, b: u64, out: &mut [u8], at: usize) -> usize
     requires { at + 41 ≤ length out.old }

@@ -66,6 +66,7 @@ fn end_by(at: usize, fault: Option<Fault>, last: bool) -> End
 // A run over a piece of the file from a place on, from a state that was asked for soundness with its layout before the file's first event.
 // The nine tables, the heads and the lamps go apart, so that an event copies only the heads that it names, and stores them only from the first kind of
 // heads on (request L1): below it nothing changes them. The lamps are lent, and an accepted report is stored in them (request L3).
+// Its parameters stay apart: from call to call all but two of them are others, so a struct of them would be built anew for each.
 pub fn run_piece(
     panel: bool,
     layout: Layout,

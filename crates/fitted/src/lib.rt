@@ -120,6 +120,7 @@ pub fn tell_piece(sections: u8, told: Told, bytes: &[u8], from: usize, last: boo
 {
     let mut t = told;
     let mut at = from;
+    // The place moves by a number's length, which its reading tells: no index is counted.
     while at < bytes.len() {
         match numbers::read(bytes, at) {
             Ok(number) => {

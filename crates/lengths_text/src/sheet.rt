@@ -20,6 +20,7 @@ fn whole_metres(stopping: bool, row: u32, column: usize) -> u64
     }
 }
 
+// put_entries and put_speeds stay two: one function would take a closure and its contract, which is longer than the two loops.
 // The lengths of a row.
 fn put_entries(stopping: bool, row: u32, out: &mut [u8], at: usize) -> usize
     requires { (row < 9) × (at + 48 ≤ length out.old) }

@@ -25,6 +25,7 @@ fn next_column(per: u64, column: u64) -> u64
     if next < per { next } else { 0 }
 }
 
+// put_before and put_behind stay two: each is a definition of its own, and one function of a test and a byte would say neither.
 // The space before a number.
 fn put_before(column: u64, out: &mut [u8], at: usize) -> usize
     requires { at + 1 ≤ length out.old }

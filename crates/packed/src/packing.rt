@@ -23,6 +23,7 @@ fn tell(rt: &HostRuntime, path: &[u8], reader: Reader) -> Reported {
     show(rt, &reader.word, reader.size as usize);
     console::tell(
         rt,
+        // Why a reading stopped stays a number, as `Reader` says.
         if reader.doing == 5 {
             b" is above 65535\n"
         } else {

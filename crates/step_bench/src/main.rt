@@ -66,6 +66,7 @@ fn play(plan: &Layout, asking: bool, events: &[u8], turns: u64, given: Played) -
     let mut sum = given.sum;
     for _ in 0..turns {
         let mut at = 0;
+        // The place moves by an event's twelve bytes; a rest of fewer ends the run, which a loop over chunks would have to ask too.
         while at < events.len() {
             if events.len() - at < 12 {
                 return Played {
