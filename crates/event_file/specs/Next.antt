@@ -4,8 +4,8 @@ use Rattle.numbers.specs.declared.Fault.{Fault}
 use Rattle.numbers.specs.Given.{number_of, detail_of}
 use Rattle.event_file.specs.declared.Event.{Event}
 
--- an event by its kind, its two numbers and the place after it; or a fault's number, 21 or 22, with the place that it is told of; or nothing, where the
--- file ended after the event before
+-- an event by its kind, its two numbers and the place after it; or a fault's number, 21 or 22, with the place that it is told of; or nothing, where
+-- the file ended after the event before
 pub data Next : Type 0 where
   Taken : ℕ → ℕ → ℕ → ℕ → Next
   Bad : ℕ → ℕ → Next

@@ -22,7 +22,7 @@ pub struct Event {
     pub next: usize,
 }
 
-// What stands at a place of an event file: an event; or fault 21, the file ends inside an event, or 22, a bad number; none where the file ended before it.
+// What stands at a place of an event file: an event, none where the file ended before it, or fault 21, it ends inside one, or 22, a bad number.
 pub fn next_event(file: &[u8], at: usize) -> Result<Option<Event>, Fault>
     ensures { next_told (found result) ≡ next_told (event_at file.now at) }
 {
