@@ -38,9 +38,9 @@ fn print_first(rt: &HostRuntime, out: &[u8], n: usize) -> Result<(), Reported> {
 // The list of a file, all of whose lines have room in the buffer.
 fn play(rt: &HostRuntime, panel: bool, layout: Layout, file: &[u8]) -> Result<(), Reported> {
     let mut out = [0u8; 65536];
-    let opened = event_file::opening_line(panel, layout, &mut out);
+    let opened = event_file::opening_line(panel, &layout, &mut out);
     print_first(rt, &out, opened)?;
-    let p = event_file::run_piece(panel, layout, State::cold(), 0, file, 0, true, &mut out);
+    let p = event_file::run_piece(panel, &layout, State::cold(), 0, file, 0, true, &mut out);
     print_first(rt, &out, p.written)?;
     if let End::Bad { fault } = p.end {
         let number = fault.number() as u64;

@@ -30,19 +30,19 @@ fn put_header(out: &mut [u8]) -> usize
 }
 
 // The line of the cold start with its panel.
-fn put_cold(layout: Layout, out: &mut [u8]) -> usize
+fn put_cold(layout: &Layout, out: &mut [u8]) -> usize
     requires { most_line true ≤ length out.old }
-    ensures { Put out.old 0 (line_of true (shown layout cold) 0 0 0) (most_line true) out.new result }
+    ensures { Put out.old 0 (line_of true (shown layout.now cold) 0 0 0) (most_line true) out.new result }
 {
     let state = State::cold();
     let mut image = [0u8; 512];
-    let drawn = panel::panel(&state, &layout, &mut image);
+    let drawn = panel::panel(&state, layout, &mut image);
     lines::put_image_line(&image, drawn.length, 0, 0, 0, out, 0)
 }
 
 // What stands before the first event, where the buffer has room for a line.
-pub fn opening_line(panel: bool, layout: Layout, out: &mut [u8]) -> usize
-    ensures { Put out.old 0 (opening_in (length out.old) panel layout) (most_line panel) out.new result }
+pub fn opening_line(panel: bool, layout: &Layout, out: &mut [u8]) -> usize
+    ensures { Put out.old 0 (opening_in (length out.old) panel layout.now) (most_line panel) out.new result }
 {
     if out.len() < pieces::most_line(panel) {
         return 0;

@@ -100,7 +100,7 @@ pub fn put_image_line(
 
 // A line with the panel of the tables then, in a run that asked soundness before its first event.
 pub fn put_panel_line(
-    layout: Layout,
+    layout: &Layout,
     core: Core,
     n: u64,
     answer: u8,
@@ -109,9 +109,9 @@ pub fn put_panel_line(
     at: usize,
 ) -> usize
     requires { at + most_line true ≤ length out.old }
-    ensures { Put out.old at (line_of true (shown_in_run layout (bare core)) n answer detail) (most_line true) out.new result }
+    ensures { Put out.old at (line_of true (shown_in_run layout.now (bare core)) n answer detail) (most_line true) out.new result }
 {
     let mut image = [0u8; 512];
-    let drawn = panel::panel_in_run(&core, &layout, &mut image);
+    let drawn = panel::panel_in_run(&core, layout, &mut image);
     put_image_line(&image, drawn.length, n, answer, detail, out, at)
 }

@@ -1,5 +1,6 @@
 // A run over an event file, a piece of the file at a time.
 ghost use Rattle.std.specs.Prelude.{◌≡◌, length};
+ghost use Rattle.interlocking.specs.Parts.{whole};
 ghost use Rattle.step_facts.specs.Run.{box_in_run};
 ghost use Rattle.event_file.specs.Lines.{next_count, shown_in_run, most_line};
 ghost use Rattle.numerals.specs.Writes.{Put};
@@ -7,11 +8,13 @@ ghost use Rattle.event_file.specs.Writes.{rest};
 ghost use Rattle.event_file.specs.Run.{Piece as Reached, place_of, stop_given, in_numbers, no_event, piece_of, halted, halted_by, Went};
 
 use crate::{Event, lines, next_event};
-use interlocking::State;
+use axles::Axles;
 use interlocking::parts::{core_of, head_place, lamps_then, whole};
+use interlocking::{Core, State};
 use layout::Layout;
 use numbers::Fault;
 use track::codes::AXLES_IN;
+use track::sizes::{LAMPS, SECTIONS};
 
 // Why a run stopped, and the place that it came to.
 #[derive(Clone, Copy)]
@@ -63,13 +66,33 @@ fn end_by(at: usize, fault: Option<Fault>, last: bool) -> End
     }
 }
 
+// How far a run came that holds its state in three parts.
+fn came(
+    core: Core,
+    axles: [Axles; SECTIONS],
+    lamps: [u8; LAMPS],
+    count: u64,
+    written: usize,
+    end: End,
+) -> Piece
+    ensures { result ≡ record { state = whole core axles lamps; count = count; written = written; end = end } }
+{
+    let state = whole(core, axles, lamps);
+    Piece {
+        state,
+        count,
+        written,
+        end,
+    }
+}
+
 // A run over a piece of the file from a place on, from a state that was asked for soundness with its layout before the file's first event.
 // The nine tables, the heads and the lamps go apart, so that an event copies only the heads that it names, and stores them only from the first kind of
 // heads on (request L1): below it nothing changes them. The lamps are lent, and an accepted report is stored in them (request L3).
 // Its parameters stay apart: from call to call all but two of them are others, so a struct of them would be built anew for each.
 pub fn run_piece(
     panel: bool,
-    layout: Layout,
+    layout: &Layout,
     state: State,
     mut count: u64,
     bytes: &[u8],
@@ -77,7 +100,7 @@ pub fn run_piece(
     last: bool,
     out: &mut [u8],
 ) -> Piece
-    ensures { Went out.old 0 (length out.old) out.new (in_numbers result) (piece_of (box_in_run layout) panel (shown_in_run layout) last bytes.now (length out.old) state count at) }
+    ensures { Went out.old 0 (length out.old) out.new (in_numbers result) (piece_of (box_in_run layout.now) panel (shown_in_run layout.now) last bytes.now (length out.old) state count at) }
 {
     let mut core = core_of(&state);
     let mut axles = state.axles;
@@ -85,14 +108,7 @@ pub fn run_piece(
     let mut written: usize = 0;
     for _ in 0u32..65536 {
         if out.len() - written < most_line(panel) {
-            let state = whole(core, axles, lamps);
-            let end = End::Full { at };
-            return Piece {
-                state,
-                count,
-                written,
-                end,
-            };
+            return came(core, axles, lamps, count, written, End::Full { at });
         }
         let Event {
             kind,
@@ -102,29 +118,17 @@ pub fn run_piece(
         } = match next_event(bytes, at) {
             Ok(Some(event)) => event,
             Ok(None) => {
-                let state = whole(core, axles, lamps);
                 let end = end_by(at, None, last);
-                return Piece {
-                    state,
-                    count,
-                    written,
-                    end,
-                };
+                return came(core, axles, lamps, count, written, end);
             }
             Err(fault) => {
-                let state = whole(core, axles, lamps);
                 let end = end_by(at, Some(fault), last);
-                return Piece {
-                    state,
-                    count,
-                    written,
-                    end,
-                };
+                return came(core, axles, lamps, count, written, end);
             }
         };
         let place = head_place(kind, first);
         let heads = axles[place];
-        let a = core.step_in_run(heads, &lamps, &layout, kind, first, second);
+        let a = core.step_in_run(heads, &lamps, layout, kind, first, second);
         core = a.next;
         if AXLES_IN <= kind {
             let then = a.heads;
@@ -139,14 +143,7 @@ pub fn run_piece(
             lines::put_line(count, a.number, a.detail, out, written)
         };
     }
-    let state = whole(core, axles, lamps);
-    let end = End::Turned { at };
-    Piece {
-        state,
-        count,
-        written,
-        end,
-    }
+    came(core, axles, lamps, count, written, End::Turned { at })
 }
 
 // The bytes of a buffer from one place to another are brought to its front; how many they are.

@@ -72,7 +72,7 @@ fn walk_on(
     let have = w.have.min(buf.len());
     let p = event_file::run_piece(
         listing.panel,
-        listing.layout,
+        &listing.layout,
         w.state,
         w.count,
         &buf[..have],

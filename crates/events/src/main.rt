@@ -78,7 +78,7 @@ fn list(
     buf: &mut [u8],
     out: &mut [u8],
 ) -> Result<(), Reported> {
-    let end = event_file::opening_line(listing.panel, listing.layout, out);
+    let end = event_file::opening_line(listing.panel, &listing.layout, out);
     print_first(rt, out, end)?;
     listing::walk_all(rt, events, listing, held, buf, out)
 }

@@ -6,7 +6,7 @@ use borrow.Author.Rules.{rules}
 use lib.ListN.{length}
 use Rattle.laws.proofs.Arrays.{length_mapped}
 use Rattle.track.specs.Sizes.{most_sections}
-use Rattle.interlocking.specs.Parts.{together}
+use Rattle.interlocking.specs.Parts.{whole, together}
 use Rattle.interlocking.proofs.Lifted.{place_small}
 use Rattle.std.specs.Prelude.{Some}
 use Rattle.event_file.specs.Run.{no_event, halted, so_far}
@@ -29,10 +29,10 @@ unfolding so_far halted
 returns-then-out-written c =
     let asked = c in
     let turn = asked in
-    from_parts _ _ _ _ _ _ _ _ _ _ _ _ _ turn.core_of-core.ensures
+    rw c.came.ensures (from_parts _ _ _ _ _ _ _ _ _ _ _ _ _ turn.core_of-core.ensures
     (run_full _ _ _ _ _ _ _ _ _ _ _ _ _ _ _ turn.loop.invariant.2 asked.loop-test.true _ asked.most_line.ensures
-    (so_far c.whole-state.result c.loop.count c.loop.at c.loop.written) _ asked.if-out-written.true
-    (so_far_whole _ _ _ _ _ _ c.whole-state.ensures refl) refl)
+    (so_far (whole c.loop.core c.loop.axles c.loop.lamps) c.loop.count c.loop.at c.loop.written) _ asked.if-out-written.true
+    (so_far_whole _ _ _ _ _ _ refl refl) refl))
 
 -- nothing stands at the next place
 pub returns-in-Ok-None : goal.returns-in-Ok-None
@@ -40,10 +40,10 @@ unfolding so_far halted
 returns-in-Ok-None c =
     let asked = c in
     let turn = asked in
-    let ran = so_far c.whole-state-in-Ok-None.result c.loop.count c.loop.at c.loop.written in
-    from_parts _ _ _ _ _ _ _ _ _ _ _ _ _ turn.core_of-core.ensures
+    let ran = so_far (whole c.loop.core c.loop.axles c.loop.lamps) c.loop.count c.loop.at c.loop.written in
+    rw c.came-in-Ok-None.ensures (from_parts _ _ _ _ _ _ _ _ _ _ _ _ _ turn.core_of-core.ensures
     (run_halted _ _ _ _ _ _ _ _ _ _ _ _ _ _ _ turn.loop.invariant.2 asked.loop-test.true _ asked.most_line.ensures _ asked.if-out-written.false
-    (next_none _ _ c.in-Ok-None.field-0-is c.in-Ok-None.ensures) ran _ tt (so_far_whole _ _ _ _ _ _ c.whole-state-in-Ok-None.ensures refl) (c.end_by-end.ensures ran refl))
+    (next_none _ _ c.in-Ok-None.field-0-is c.in-Ok-None.ensures) ran _ tt (so_far_whole _ _ _ _ _ _ refl refl) (c.end_by-end.ensures ran refl)))
 
 -- or a fault
 pub returns-in-Err : goal.returns-in-Err
@@ -51,19 +51,19 @@ unfolding so_far halted
 returns-in-Err c =
     let asked = c in
     let turn = asked in
-    let ran = so_far c.whole-state-in-Err.result c.loop.count c.loop.at c.loop.written in
-    from_parts _ _ _ _ _ _ _ _ _ _ _ _ _ turn.core_of-core.ensures
+    let ran = so_far (whole c.loop.core c.loop.axles c.loop.lamps) c.loop.count c.loop.at c.loop.written in
+    rw c.came-in-Err.ensures (from_parts _ _ _ _ _ _ _ _ _ _ _ _ _ turn.core_of-core.ensures
     (run_halted _ _ _ _ _ _ _ _ _ _ _ _ _ _ _ turn.loop.invariant.2 asked.loop-test.true _ asked.most_line.ensures _ asked.if-out-written.false
-    (next_same (no_event (Some c.in-Err.fault)) _ c.in-Err.ensures) ran _ tt (so_far_whole _ _ _ _ _ _ c.whole-state-in-Err.ensures refl) (c.end_by-end-in-Err.ensures ran refl))
+    (next_same (no_event (Some c.in-Err.fault)) _ c.in-Err.ensures) ran _ tt (so_far_whole _ _ _ _ _ _ refl refl) (c.end_by-end-in-Err.ensures ran refl)))
 
 -- all turns are made
 pub returns : goal.returns
 unfolding so_far
 returns c =
     let turn = c in
-    from_parts _ _ _ _ _ _ _ _ _ _ _ _ _ turn.core_of-core.ensures
-    (run_done _ _ _ _ _ _ _ _ _ _ _ (so_far c.whole-state-2.result c.loop.count c.loop.at c.loop.written) _ turn.loop.invariant.2
-    (so_far_whole _ _ _ _ _ _ c.whole-state-2.ensures refl) turn.loop.invariant.0 (omega (arith, c.loop-test.false)))
+    rw c.came-2.ensures (from_parts _ _ _ _ _ _ _ _ _ _ _ _ _ turn.core_of-core.ensures
+    (run_done _ _ _ _ _ _ _ _ _ _ _ (so_far (whole c.loop.core c.loop.axles c.loop.lamps) c.loop.count c.loop.at c.loop.written) _ turn.loop.invariant.2
+    (so_far_whole _ _ _ _ _ _ refl refl) turn.loop.invariant.0 (omega (arith, c.loop-test.false))))
 
 -- a line that has room, with the panel
 pub put_panel_line-written-requires : goal.put_panel_line-written-requires
