@@ -11,6 +11,7 @@ use Rattle.numbers.specs.declared.Fault.{Fault}
 use Rattle.numbers.specs.declared.Given.{Given}
 use Rattle.numbers.specs.Given.{number_of, detail_of, given}
 use Rattle.numbers.specs.Number.{Number, Value, number_at, number_told}
+use Rattle.numbers.proofs.Readings.{fault_place}
 use Rattle.numbers.proofs.Cases.{number_same}
 use Rattle.numbers.proofs.Same.{not_none, fault_same}
 use Rattle.fields.specs.Cursor.{Cursor}
@@ -42,6 +43,10 @@ pub field_value : (s : List ℕ) (c : Cursor) (low limit fault : ℕ) {at v next
     → field s c low limit fault ≡ record { at = next; fault = 0; value = v }
 unfolding field
 field_value s c low limit fault h e l m = sym (if_eq _ _ _ _ _ h.none (rw h.place (sym (judge_in low limit fault _ e l m))))
+
+-- a fault of the number form is told of the place that was read
+pub bad_place : (s : List ℕ) (f : Fault) {at : ℕ} → number_told (given (Err f)) ≡ number_told (number_at s at) → at ≡ detail_of f
+bad_place s f e = sym (fault_place s _ (number_same _ _ e) refl)
 
 module _ (s : List ℕ) (c : Cursor) {at : ℕ} (low limit : ℕ) (outside : Fault) (h : Stands c at) where
   -- what stands at the place is judged
@@ -111,10 +116,11 @@ module _ {A : Type 0} (P : A → Type 0) (f : ℕ → A → A) (a : A) (s : (i :
 pub begun : (at : ℕ) → Stands (record { at = at; fault = 0; value = 0 }) at
 begun at = record { none = refl; place = refl }
 
--- two readings that end at one cursor
-pub one_reading : {A : Type 0} (at : ℕ) (c : Cursor) (Gives : A → Type 0) → ((a b : A) → Gives a → Gives b → a ≡ b) → (r q : Result A Fault)
-    → Reads r at c Gives → Reads q at c Gives → r ≡ q
-one_reading at c Gives one (Ok a) (Ok b) p o = ap Ok (one a b p.1 o.1)
-one_reading at c Gives one (Ok a) (Err g) p o = absurd (not_none g (sym o.number ∙ p.0.none))
-one_reading at c Gives one (Err f) (Ok b) p o = absurd (not_none f (sym p.number ∙ o.0.none))
-one_reading at c Gives one (Err f) (Err g) p o = ap Err (fault_same f g (sym p.number ∙ o.number) (sym p.place ∙ o.place))
+-- two readings that end at one cursor, and the places after them
+pub one_reading : {A : Type 0} (c : Cursor) (Gives : A → Type 0) → ((a b : A) → Gives a → Gives b → a ≡ b) → (r q : Result A Fault) {at to : ℕ}
+    → Reads r at c Gives → Reads q to c Gives → (r ≡ q) × (at ≡ to)
+one_reading c Gives one (Ok a) (Ok b) p o = (ap Ok (one a b p.1 o.1), sym p.0.place ∙ o.0.place)
+one_reading c Gives one (Ok a) (Err g) p o = absurd (not_none g (sym o.0.number ∙ p.0.none))
+one_reading c Gives one (Err f) (Ok b) p o = absurd (not_none f (sym p.0.number ∙ o.0.none))
+one_reading c Gives one (Err f) (Err g) p o =
+    let e : detail_of f ≡ detail_of g = sym p.0.place ∙ o.0.place in (ap Err (fault_same f g (sym p.0.number ∙ o.0.number) e), p.1 ∙ e ∙ sym o.1)

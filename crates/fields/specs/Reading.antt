@@ -16,9 +16,9 @@ pub record Met (c : Cursor) (f : Fault) : Type 0 where
   pub number : c.fault ≡ number_of f
   pub place : c.at ≡ detail_of f
 
--- a reading that ends at c gives a value, with the place after it, or the fault that was met
+-- a reading that ends at c gives a value, with the place after it, or the fault that was met, and stands where the fault is told of
 abbrev pub Reads : {A : Type 0} → Result A Fault → ℕ → Cursor → (A → Type 0) → Type 0
-Reads r at c Gives = MatchResult r (λ a. Stands c at × Gives a) (Met c)
+Reads r at c Gives = MatchResult r (λ a. Stands c at × Gives a) (λ f. Met c f × (at ≡ detail_of f))
 
 -- the number read last
 abbrev pub NumberRead : Result ℕ Fault → ℕ → Cursor → Type 0

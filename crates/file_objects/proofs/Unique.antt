@@ -3,6 +3,7 @@ use Prim.Native.Nat.{ℕ}
 use mathlib.Core.Path.{◌≡◌, ap, ◌∙◌}
 use mathlib.Core.List.{List}
 use Rattle.laws.proofs.Only.{Determines, only}
+use Rattle.fields.proofs.Unique.{DeterminesPlace}
 use Rattle.fields.proofs.Laws.{begun, one_reading}
 use Rattle.track.specs.declared.Line.{Line}
 use Rattle.track.specs.declared.Route.{Route}
@@ -28,9 +29,9 @@ no_sections_determined κs a r q s = only
 same_section : {a b : Owned} → a.count ≡ b.count → a.section ≡ b.section → a ≡ b
 same_section {a} {b} n l = ap (λ (k : ℕ). record { count = k; section = a.section }) n ∙ ap (λ (x : List ℕ). record { count = b.count; section = x }) l
 
-pub read_sections_determined : Determines read_sections.Post
-read_sections_determined κs a r q s p o =
-    one_reading _ _ _ (λ (a b : Owned) x y. same_section (only x.0 y.0) (only x.1 y.1)) r q (p _ (begun _)) (o _ (begun _))
+pub read_sections_determined : DeterminesPlace (λ κs s. s.1.0.now) read_sections.Post
+read_sections_determined κs a r q s t p o =
+    one_reading _ _ (λ (a b : Owned) x y. same_section (only x.0 y.0) (only x.1 y.1)) r q (p _ (begun _)) (o _ (begun _))
 
 -- no lines
 pub no_lines_determined : Determines no_lines.Post
@@ -40,9 +41,9 @@ no_lines_determined κs a r q s = only
 same_line : {a b : Lines} → a.count ≡ b.count → a.line ≡ b.line → a ≡ b
 same_line {a} {b} n l = ap (λ (k : ℕ). record { count = k; line = a.line }) n ∙ ap (λ (x : List Line). record { count = b.count; line = x }) l
 
-pub read_lines_determined : Determines read_lines.Post
-read_lines_determined κs a r q s p o =
-    one_reading _ _ _ (λ (a b : Lines) x y. same_line (only x.0 y.0) (only x.1 y.1)) r q (p _ (begun _)) (o _ (begun _))
+pub read_lines_determined : DeterminesPlace (λ κs s. s.1.0.now) read_lines.Post
+read_lines_determined κs a r q s t p o =
+    one_reading _ _ (λ (a b : Lines) x y. same_line (only x.0 y.0) (only x.1 y.1)) r q (p _ (begun _)) (o _ (begun _))
 
 -- the most distants of a version
 pub most_distants_of_determined : Determines most_distants_of.Post
@@ -59,9 +60,9 @@ same_distants {a} {b} n l m =
     ∙ ap (λ (x : List ℕ). record { count = b.count; carrier = x; announced = a.announced }) l
     ∙ ap (λ (x : List ℕ). record { count = b.count; carrier = b.carrier; announced = x }) m
 
-pub read_distants_determined : Determines read_distants.Post
-read_distants_determined κs a r q s p o =
-    one_reading _ _ _ (λ (a b : Distants) x y. same_distants (only x.0 y.0) (only x.1 y.1) (only x.2 y.2)) r q (p _ (begun _)) (o _ (begun _))
+pub read_distants_determined : DeterminesPlace (λ κs s. s.1.0.now) read_distants.Post
+read_distants_determined κs a r q s t p o =
+    one_reading _ _ (λ (a b : Distants) x y. same_distants (only x.0 y.0) (only x.1 y.1) (only x.2 y.2)) r q (p _ (begun _)) (o _ (begun _))
 
 -- no routes
 pub no_routes_determined : Determines no_routes.Post
@@ -71,6 +72,6 @@ no_routes_determined κs a r q s = only
 same_route : {a b : Routes} → a.count ≡ b.count → a.route ≡ b.route → a ≡ b
 same_route {a} {b} n l = ap (λ (k : ℕ). record { count = k; route = a.route }) n ∙ ap (λ (x : List Route). record { count = b.count; route = x }) l
 
-pub read_routes_determined : Determines read_routes.Post
-read_routes_determined κs a r q s p o =
-    one_reading _ _ _ (λ (a b : Routes) x y. same_route (only x.0 y.0) (only x.1 y.1)) r q (p _ (begun _)) (o _ (begun _))
+pub read_routes_determined : DeterminesPlace (λ κs s. s.1.0.now) read_routes.Post
+read_routes_determined κs a r q s t p o =
+    one_reading _ _ (λ (a b : Routes) x y. same_route (only x.0 y.0) (only x.1 y.1)) r q (p _ (begun _)) (o _ (begun _))

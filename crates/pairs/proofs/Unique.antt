@@ -3,6 +3,7 @@ use mathlib.Core.Path.{◌≡◌, ap, ◌∙◌}
 use mathlib.Core.List.{List}
 use Prim.Native.Nat.{ℕ}
 use Rattle.laws.proofs.Only.{Determines, only}
+use Rattle.fields.proofs.Unique.{DeterminesPlace}
 use Rattle.fields.proofs.Laws.{begun, one_reading}
 use Rattle.pairs.specs.declared.Pair.{Pair}
 use Rattle.pairs.specs.declared.Pairs.{Pairs}
@@ -22,6 +23,6 @@ no_pairs_determined κs a r q s = only
 same_pairs : {a b : Pairs} → a.last ≡ b.last → a.conflict ≡ b.conflict → a ≡ b
 same_pairs {a} {b} n l = ap (λ (p : Pair). record { last = p; conflict = a.conflict }) n ∙ ap (λ (x : List ℕ). record { last = b.last; conflict = x }) l
 
-pub read_pairs_determined : Determines read_pairs.Post
-read_pairs_determined κs a r q s p o =
-    one_reading _ _ _ (λ (a b : Pairs) x y. same_pairs (only x.0 y.0) (only x.1 y.1)) r q (p _ (begun _)) (o _ (begun _))
+pub read_pairs_determined : DeterminesPlace (λ κs s. s.1.0.now) read_pairs.Post
+read_pairs_determined κs a r q s t p o =
+    one_reading _ _ (λ (a b : Pairs) x y. same_pairs (only x.0 y.0) (only x.1 y.1)) r q (p _ (begun _)) (o _ (begun _))

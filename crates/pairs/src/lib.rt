@@ -63,6 +63,7 @@ fn read_pair(s: &[u8], at: &mut usize, routes: u8, last: Pair) -> Result<Pair, F
     if is_in_order(last, pair) {
         return Ok(pair);
     }
+    *at = between;
     Err(Fault::OutOfRange { at: between })
 }
 

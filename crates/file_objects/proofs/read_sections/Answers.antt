@@ -6,13 +6,13 @@ use Rattle.file_objects.proofs.Turns.{sections_begin, sections_few, sections_nex
 use Rattle.file_objects.proofs.read_sections.Goals as goal
 
 pub returns-in_err-count : goal.returns-in_err-count
-returns-in_err-count c = λ k h. let p = err_from_is_err_and c.from_residual.result c.from_residual.ensures.1 in rw (p.1, p.2) (sections_none _ k _ (c.in_err-count.ensures k h))
+returns-in_err-count c = λ k h. let p = err_from_is_err_and c.from_residual.result c.from_residual.ensures.1 in rw (p.1, p.2) (let m = c.in_err-count.ensures k h in (sections_none _ k _ m.0, m.1))
 
 pub loop-i-init : goal.loop-i-init
 loop-i-init c = λ k h. rw c.no_sections-section.ensures (sections_begin _ k _ (c.in_ok-count.ensures k h))
 
 pub returns-in_err-own : goal.returns-in_err-own
-returns-in_err-own c = λ k h. let p = err_from_is_err_and c.from_residual-in_err-own.result c.from_residual-in_err-own.ensures.1 in rw (p.1, p.2) (let d = c.loop-i.invariant k h in sections_cut _ k _ _ d (omega arith) (c.in_err-own.ensures _ d.stands))
+returns-in_err-own c = λ k h. let p = err_from_is_err_and c.from_residual-in_err-own.result c.from_residual-in_err-own.ensures.1 in rw (p.1, p.2) (let d = c.loop-i.invariant k h in let m = c.in_err-own.ensures _ d.stands in (sections_cut _ k _ _ d (omega arith) m.0, m.1))
 
 pub bounds-section-i : goal.bounds-section-i
 bounds-section-i c = omega (arith, sections_few _ _ _ (c.loop-i.invariant _ (begun _)))

@@ -4,7 +4,7 @@ use Rattle.layout.proofs.Laws.{whole_few, load_fault, load_left, load_rule, load
 use Rattle.layout.proofs.load.Goals as goal
 
 pub returns-in_err-layout : goal.returns-in_err-layout
-returns-in_err-layout c = let p = err_from_is_err_and c.from_residual.result c.from_residual.ensures.1 in rw (p.1, p.2) (load_fault _ c.in_err-layout.ensures)
+returns-in_err-layout c = let p = err_from_is_err_and c.from_residual.result c.from_residual.ensures.1 in rw (p.1, p.2) (load_fault _ c.in_err-layout.ensures.0)
 
 pub returns-then-at-s : goal.returns-then-at-s
 returns-then-at-s c = load_left _ c.in_ok-layout.ensures c.if-at-s.true

@@ -6,13 +6,13 @@ use Rattle.pairs.proofs.Laws.{few_is, named_few, pair_place, pair_mirror, pairs_
 use Rattle.pairs.proofs.read_pairs.Goals as goal
 
 pub returns-in_err-count : goal.returns-in_err-count
-returns-in_err-count c = λ k h. let p = err_from_is_err_and c.from_residual.result c.from_residual.ensures.1 in rw (p.1, p.2) (pairs_none _ _ k (c.in_err-count.ensures k h))
+returns-in_err-count c = λ k h. let p = err_from_is_err_and c.from_residual.result c.from_residual.ensures.1 in rw (p.1, p.2) (let m = c.in_err-count.ensures k h in (pairs_none _ _ k m.0, m.1))
 
 pub loop-i-init : goal.loop-i-init
 loop-i-init c = λ k h. rw c.no_pairs-conflict.ensures (pairs_begin _ _ k (c.in_ok-count.ensures k h))
 
 pub returns-in_err-pair : goal.returns-in_err-pair
-returns-in_err-pair c = λ k h. let p = err_from_is_err_and c.from_residual-in_err-pair.result c.from_residual-in_err-pair.ensures.1 in rw (p.1, p.2) (let d = c.loop-i.invariant k h in pairs_cut _ _ k _ d (omega arith) (rw (few_is c.args.routes c.min-few.ensures, d.is_last) at c.in_err-pair.ensures _ d.stands))
+returns-in_err-pair c = λ k h. let p = err_from_is_err_and c.from_residual-in_err-pair.result c.from_residual-in_err-pair.ensures.1 in rw (p.1, p.2) (let d = c.loop-i.invariant k h in let m = rw (few_is c.args.routes c.min-few.ensures, d.is_last) at c.in_err-pair.ensures _ d.stands in (pairs_cut _ _ k _ d (omega arith) m.0, m.1))
 
 pub bounds-conflict-place : goal.bounds-conflict-place
 bounds-conflict-place c =

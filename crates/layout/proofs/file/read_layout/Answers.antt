@@ -5,12 +5,12 @@ use Rattle.layout.proofs.Laws.{whole_cut, whole_cut1, whole_cut2, whole_cut3, wh
 use Rattle.layout.proofs.file.read_layout.Goals as goal
 
 pub returns-in_err-h : goal.returns-in_err-h
-returns-in_err-h c = let p = err_from_is_err_and c.from_residual.result c.from_residual.ensures.1 in rw (p.1, p.2) (whole_cut1 _ c.in_err-h.ensures)
+returns-in_err-h c = let p = err_from_is_err_and c.from_residual.result c.from_residual.ensures.1 in rw (p.1, p.2) (let m = c.in_err-h.ensures in (whole_cut1 _ m.0, m.1))
 
 pub returns-in_err-l : goal.returns-in_err-l
 returns-in_err-l c =
     let h = c.in_ok-h.ensures in
-    let p = err_from_is_err_and c.from_residual-in_err-l.result c.from_residual-in_err-l.ensures.1 in rw (p.1, p.2) (whole_cut2 _ (rw (counts_there _ h refl) at c.in_err-l.ensures _ h.0))
+    let p = err_from_is_err_and c.from_residual-in_err-l.result c.from_residual-in_err-l.ensures.1 in rw (p.1, p.2) (let m = rw (counts_there _ h refl) at c.in_err-l.ensures _ h.0 in (whole_cut2 _ m.0, m.1))
 
 pub few_signals-signals-requires : goal.few_signals-signals-requires
 few_signals-signals-requires c =
@@ -23,7 +23,7 @@ returns-in_err-d c =
     let h = c.in_ok-h.ensures in
     let l = rw (counts_there _ h refl) at c.in_ok-l.ensures _ h.0 in
     let g = rw (h.1.4, l.1.0, l.1.1) at c.few_signals-signals.ensures in
-    let p = err_from_is_err_and c.from_residual-in_err-d.result c.from_residual-in_err-d.ensures.1 in rw (p.1, p.2) (whole_cut3 _ (rw (h.1.0, g) at c.in_err-d.ensures _ l.0))
+    let p = err_from_is_err_and c.from_residual-in_err-d.result c.from_residual-in_err-d.ensures.1 in rw (p.1, p.2) (let m = rw (h.1.0, g) at c.in_err-d.ensures _ l.0 in (whole_cut3 _ m.0, m.1))
 
 pub returns-in_err-r : goal.returns-in_err-r
 returns-in_err-r c =
@@ -31,7 +31,7 @@ returns-in_err-r c =
     let l = rw (counts_there _ h refl) at c.in_ok-l.ensures _ h.0 in
     let g = rw (h.1.4, l.1.0, l.1.1) at c.few_signals-signals.ensures in
     let d = rw (h.1.0, g) at c.in_ok-d.ensures _ l.0 in
-    let p = err_from_is_err_and c.from_residual-in_err-r.result c.from_residual-in_err-r.ensures.1 in rw (p.1, p.2) (whole_cut4 _ (rw (counts_there _ h l.1.0) at c.in_err-r.ensures _ d.0))
+    let p = err_from_is_err_and c.from_residual-in_err-r.result c.from_residual-in_err-r.ensures.1 in rw (p.1, p.2) (let m = rw (counts_there _ h l.1.0) at c.in_err-r.ensures _ d.0 in (whole_cut4 _ m.0, m.1))
 
 pub returns-in_err-p : goal.returns-in_err-p
 returns-in_err-p c =
@@ -40,7 +40,7 @@ returns-in_err-p c =
     let g = rw (h.1.4, l.1.0, l.1.1) at c.few_signals-signals.ensures in
     let d = rw (h.1.0, g) at c.in_ok-d.ensures _ l.0 in
     let r = rw (counts_there _ h l.1.0) at c.in_ok-r.ensures _ d.0 in
-    let p = err_from_is_err_and c.from_residual-in_err-p.result c.from_residual-in_err-p.ensures.1 in rw (p.1, p.2) (whole_cut _ (rw r.1.0 at c.in_err-p.ensures _ r.0))
+    let p = err_from_is_err_and c.from_residual-in_err-p.result c.from_residual-in_err-p.ensures.1 in rw (p.1, p.2) (let m = rw r.1.0 at c.in_err-p.ensures _ r.0 in (whole_cut _ m.0, m.1))
 
 pub returns : goal.returns
 returns c =
