@@ -1,5 +1,5 @@
 // The records that live in the cabinet from power-on, and the entries that a controller calls, through the static library cabinet_c (sections 2, 3, 7, L1).
-// One thin entry lends the state's record to the event and changes it there; all else takes and returns states as values.
+// One thin entry lends the state's record to the event and changes it there; all else reads states that are lent and returns them as values.
 // Each call's contract is the call's definition in specs/Calls.
 #![tactic(auto)]
 

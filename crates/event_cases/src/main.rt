@@ -62,15 +62,13 @@ fn refuse(rt: &HostRuntime, number: u8, detail: usize) -> Result<(), Reported> {
     print_first(rt, &out, end)
 }
 
-// The layout of a file.
+// The layout of a file, and the line of one that is refused.
 fn layout_of(rt: &HostRuntime, file: &[u8]) -> Result<Layout, Reported> {
-    match layout::load(file) {
-        Ok(layout) => Ok(layout),
-        Err(fault) => {
-            refuse(rt, fault.number(), fault.detail())?;
-            Ok(layout::no_layout())
-        }
+    let loaded = layout::load(file);
+    if let Err(fault) = loaded {
+        refuse(rt, fault.number(), fault.detail())?;
     }
+    Ok(layout::layout_given(loaded))
 }
 
 // The line of a file of fitted sections that is no numbers.
@@ -91,7 +89,8 @@ fn equipped(rt: &HostRuntime, layout: Layout, file: &[u8]) -> Result<Layout, Rep
     }
 }
 
-// All entries; before the first layout file there is no layout.
+// All entries; before the first layout file there is no layout. What they need is no part of the stack of a call that names no archive.
+#[inline(never)]
 fn play_all(rt: &HostRuntime, archive: &[u8]) -> Result<(), Reported> {
     let mut layout = layout::no_layout();
     let mut rest = archive;

@@ -126,7 +126,8 @@ fn read_layout<'a>(
     Ok(&room[..n.min(room.len())])
 }
 
-// The layout is only loaded, and its answer printed.
+// The layout is only loaded, and its answer printed. Its room is no part of a run's stack.
+#[inline(never)]
 fn load_alone(rt: &HostRuntime, path: &[u8]) -> Result<(), Reported> {
     let mut room = [0u8; 65536];
     let file = read_layout(rt, path, &mut room)?;

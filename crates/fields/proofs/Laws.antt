@@ -75,14 +75,33 @@ module _ (s : List ℕ) (c : Cursor) {at : ℕ} (low limit : ℕ) (outside : Fau
     pub next_in : low ≤ n.value → n.value < limit → NumberRead (Ok n.value) n.next (field s c low limit (number_of outside))
     next_in l m = rw (field_judged, judge_in low limit (number_of outside) at (number_same _ _ e) l m) (record { none = refl; place = refl }, refl)
 
--- ---- a fault that was met stays
+-- ---- a fault that was met stays, whatever its number
+
+module _ (s : List ℕ) (c : Cursor) (h : c.fault ≡ 0 → ⊥) where
+  -- the next number is not read: the fault and its place stay, with no number
+  pub field_stays : (low limit fault : ℕ) → failed c.at c.fault ≡ field s c low limit fault
+  unfolding field
+  field_stays low limit fault = if_ne _ _ _ _ _ h refl
+
+  pub code_stays : (low high : ℕ) → failed c.at c.fault ≡ code s c low high
+  unfolding code
+  code_stays low high = field_stays low (high + 1) 23
+
+  pub reference_stays : (objects : ℕ) → failed c.at c.fault ≡ reference s c objects
+  unfolding reference
+  reference_stays objects = field_stays 0 objects 24
+
+  pub none_or_reference_stays : (objects : ℕ) → failed c.at c.fault ≡ none_or_reference s c objects
+  unfolding none_or_reference
+  none_or_reference_stays objects = reference_stays (objects + 1)
+
+-- ---- so one of the faults of a file
 
 module _ (s : List ℕ) (c : Cursor) (f : Fault) (h : Met c f) where
-  -- the next number is not read
   pub field_met : (low limit fault : ℕ) → Met (field s c low limit fault) f
-  unfolding field failed
+  unfolding failed
   field_met low limit fault =
-      let e : failed c.at c.fault ≡ field s c low limit fault = if_ne _ _ _ _ _ (λ z. not_none f (sym h.number ∙ z)) refl in
+      let e : failed c.at c.fault ≡ field s c low limit fault = field_stays s c (λ z. not_none f (sym h.number ∙ z)) low limit fault in
       rw (← e) (record { number = h.number; place = h.place })
 
   pub code_met : (low high : ℕ) → Met (code s c low high) f

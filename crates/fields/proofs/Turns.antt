@@ -10,11 +10,23 @@ use Rattle.laws.specs.Tables.{iter}
 use Rattle.track.specs.Sizes.{most_listed}
 use Rattle.numbers.specs.declared.Fault.{Fault}
 use Rattle.fields.specs.Cursor.{Cursor, Items, Points}
-use Rattle.fields.specs.Fields.{code, reference}
+use Rattle.fields.specs.Fields.{failed, code, reference}
 use Rattle.fields.specs.Lists.{item_turn, items, point_turn, points}
 use Rattle.fields.specs.Reading.{Stands, Met, NumberRead, ItemsRead, PointsRead}
-use Rattle.fields.proofs.Laws.{code_met, reference_met, after_turns}
+use Rattle.fields.proofs.Laws.{code_stays, code_met, reference_met, after_turns}
 use Rattle.fields.proofs.Ranges.{items_count, points_count}
+
+-- ---- after a fault that was met before, a list has nothing
+
+module _ (s : List ℕ) (c : Cursor) (h : c.fault ≡ 0 → ⊥) where
+  pub items_stay : (low high objects : ℕ) → record { cur = failed c.at c.fault; count = 0; item = replicate most_listed 0 } ≡ items s c low high objects
+  unfolding items failed iter
+  items_stay low high objects = rw (← code_stays s c h low high)
+
+  pub points_stay : (objects : ℕ)
+      → record { cur = failed c.at c.fault; count = 0; point = replicate most_listed 0; position = replicate most_listed 0 } ≡ points s c objects
+  unfolding points failed iter
+  points_stay objects = rw (← code_stays s c h 0 most_listed)
 
 -- ---- a list of objects
 

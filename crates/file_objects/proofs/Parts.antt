@@ -14,12 +14,20 @@ use Rattle.fields.proofs.Turns.{items_met, points_met}
 use Rattle.track.specs.declared.Counts.{Counts}
 use Rattle.track.specs.Sizes.{most_blocks, most_listed, most_overlap}
 use Rattle.file_objects.specs.Records.{End}
-use Rattle.file_objects.specs.Lines.{a_line}
+use Rattle.file_objects.specs.Lines.{line_of, a_line}
 use Rattle.file_objects.specs.Routes.{line_and_end, an_end, route_head, a_route}
 use Rattle.file_objects.specs.Reading.{LineRead, EndRead, HeadRead, RouteRead}
 use Rattle.file_objects.specs.declared.Head.{Head as HeadGiven}
 
 -- ---- a line
+
+-- from its six reads, whether a fault was met or not
+pub line_parts : (s : List ℕ) (n : Counts) (c : Cursor) (b : Items) (innera innerb entrancea entranceb : Cursor) (p : Points)
+    → b ≡ items s c 1 most_blocks n.sections → innera ≡ reference s b.cur n.sections → innerb ≡ reference s innera n.sections
+    → entrancea ≡ reference s innerb n.signals → entranceb ≡ reference s entrancea n.signals → p ≡ points s entranceb n.points
+    → line_of b innera innerb entrancea entranceb p ≡ a_line s n c
+unfolding a_line
+line_parts s n c b innera innerb entrancea entranceb p e₁ e₂ e₃ e₄ e₅ e₆ = rw (e₆, e₅, e₄, e₃, e₂, e₁)
 
 module _ (s : List ℕ) (n : Counts) (c : Cursor) where
   -- its blocks, and the cursors behind its inner sections and its entrance signals

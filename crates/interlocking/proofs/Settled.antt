@@ -13,13 +13,13 @@ use Rattle.laws.specs.Tests.{◌and◌}
 use Rattle.laws.specs.Tables.{each, read}
 use Rattle.laws.proofs.Choice.{if_eq, if_ne, if_both}
 use Rattle.laws.proofs.Tests.{any_same}
-use Rattle.laws.proofs.Arrays.{read_at}
+use Rattle.laws.proofs.Arrays.{read_in, read_at}
 use Rattle.laws.proofs.Each.{Redone, each_at, each_past, length_each, each_over}
 use Rattle.track.specs.declared.Line.{Line}
 use Rattle.track.specs.declared.Route.{Route}
 use Rattle.track.specs.Codes.{idle, at_proceed}
 use Rattle.track.specs.Sizes.{most_lines, most_train_routes, most_routes}
-use Rattle.track.specs.Objects.{route}
+use Rattle.track.specs.Objects.{route, no_route}
 use Rattle.track.specs.Signal.{Signal, main, into}
 use Rattle.signals.specs.Signals.{clear, fallen, route_proceeds, main_proceeds}
 use Rattle.tables.specs.declared.Gives.{Gives}
@@ -56,6 +56,11 @@ fallen_live ls sections points stages bars a was h =
 pub fallen_idle : (ls : List Line) (sections points stages bars : List ℕ) (a : Route) (was : ℕ) → was ≡ 0 → was ≡ fallen ls sections points stages bars a was
 unfolding fallen
 fallen_idle ls sections points stages bars a was h = if_ne was 1 _ _ was (λ z. omega arith) refl
+
+-- a route that there is stands in the table, so the default is not read
+pub route_in : (rs : List Route) (r n : ℕ) (d : Route) → length rs ≡ most_train_routes → r < n → n ≤ most_train_routes → get_or rs r d ≡ route rs r
+unfolding route
+route_in rs r n d q b few = read_in rs r most_train_routes d no_route q (omega arith)
 
 -- a turn with the lent tables of a state is one with its own
 pub turn_lent : (ls : List Line) (s : Core) (lamps : List ℕ) (t : Tables) (a : Route) (e : Gives) (h : Locking) (x : Settled) → t ≡ tables_of (headless s lamps)

@@ -17,7 +17,6 @@ use line_block::passing_back::stages_after_arrivals;
 use release::{Locking, route_settled};
 use tables::{Gives, Tables};
 use track::codes::IDLE;
-use track::route_at;
 use track::sizes::{LAMPS, ROUTES, TRAIN_ROUTES};
 
 // What the walk over the routes makes: the signal at which each starts, the phases after the signals, and then phase, steps and seconds.
@@ -43,7 +42,7 @@ fn walk_routes(l: &Layout, s: Core, lamps: &[u8; LAMPS], e: Gives) -> Walked
     let mut seconds = s.seconds;
     for r in 0..l.routes {
         let k = r as usize;
-        let a = route_at(&l.route, r);
+        let a = &l.route[k];
         entry[k] = a.entry;
         if s.phase[k] == IDLE {
             continue;

@@ -31,16 +31,17 @@ use Rattle.layout.specs.declared.file.Heading.{Heading as HeadingGiven}
 use Rattle.layout.specs.Reading.{HeadingRead, WholeRead}
 use lib.ListN.{length}
 use Rattle.track.specs.declared.Counts.{Counts}
-use Rattle.track.specs.Sizes.{last_version, most_sections, most_signals, most_lines, most_train_routes}
+use Rattle.track.specs.Sizes.{last_version, most_sections, most_signals, most_lines, most_distants, most_train_routes}
 use Rattle.track.specs.SignalNumbers.{signal_count}
 use Rattle.track.proofs.SignalNumbers.{signals_few}
 use Rattle.file_objects.specs.Records.{Lines}
 use Rattle.file_objects.specs.Records.{Distants}
 use Rattle.file_objects.specs.Records.{Routes}
 use Rattle.file_objects.specs.Lines.{lines}
-use Rattle.file_objects.specs.Distants.{distants}
+use Rattle.file_objects.specs.Distants.{most_distants_of, distants}
 use Rattle.file_objects.specs.Routes.{routes, routes_from, route_turn}
 use Rattle.file_objects.proofs.Ranges.{lines_count, lines_blocks}
+use Rattle.file_objects.proofs.DistantRanges.{version_most, distants_few}
 use Rattle.pairs.specs.Records.{Pairs}
 use Rattle.pairs.specs.Pairs.{pairs}
 use Rattle.layout.specs.declared.Layout.{Layout}
@@ -175,15 +176,30 @@ unfolding routes routes_from route_turn
 routes_few s n c =
     iter_keeps (λ i (t : Routes). t.count ≤ most_train_routes) (route_turn s n) _ _ (code_most s c 0 most_train_routes refl) (λ i b l p. p)
 
--- so in what was read of a file
-pub whole_few : (s : List ℕ) {L : Layout} → L ≡ (whole s).layout → L.routes ≤ most_train_routes
-unfolding whole
-whole_few s e = rw e (routes_few s _ _)
+-- nor more distants, which its version allows
+distants_most : (s : List ℕ) (version signals : ℕ) (c : Cursor) → (distants s version signals c).count ≤ most_distants
+distants_most s version signals c = omega (arith, distants_few s version signals c, version_most version)
 
--- and in a record that is in range, by its test
+-- as many routes and distants as there may be, or fewer
+abbrev pub Few : Layout → Type 0
+Few L = (L.routes ≤ most_train_routes) × (L.distants ≤ most_distants)
+
+-- so in what was read of a file
+pub whole_few : (s : List ℕ) {L : Layout} → L ≡ (whole s).layout → Few L
+unfolding whole
+whole_few s e = rw e (routes_few s _ _, distants_most s _ _ _)
+
+-- and in a record that is in range, each by its test: routes
 pub fits_routes : (L : Layout) (v : Bool) → v ≡ fits L → not v ≡ false → L.routes ≤ most_train_routes
 unfolding fits
 fits_routes L v e q = leb-true _ _ (every_at _ (sym e ∙ not-false v q) 9)
+
+-- distants
+pub fits_distants : (L : Layout) (v : Bool) → v ≡ fits L → not v ≡ false → L.distants ≤ most_distants
+unfolding fits
+fits_distants L v e q =
+    let few : L.distants ≤ most_distants_of L.version = leb-true _ _ (every_at _ (sym e ∙ not-false v q) 7) in
+    omega (arith, version_most L.version)
 
 -- ---- soundness, by cases
 

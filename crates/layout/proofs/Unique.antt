@@ -12,6 +12,7 @@ use Rattle.layout.proofs.none_fitted.Reads as none_fitted
 use Rattle.layout.proofs.no_layout.Reads as no_layout
 use Rattle.layout.proofs.Layout.sound.Reads as sound
 use Rattle.layout.proofs.load.Reads as load
+use Rattle.layout.proofs.layout_given.Reads as layout_given
 
 -- no section has heads
 pub none_fitted_determined : Determines none_fitted.Post
@@ -36,3 +37,7 @@ told_same (Err f) (Err g) e = ap Err (fault_same f g (ap (λ (l : Loaded). l.num
 -- the answer to a layout file
 pub load_determined : Determines load.Post
 load_determined κs a r q s p o = told_same r q (only p o)
+
+-- the layout that a load gives
+pub layout_given_determined : Determines layout_given.Post
+layout_given_determined κs a r q s = only

@@ -177,3 +177,14 @@ pub fn load(s: &[u8]) -> Result<Layout, Fault>
         None => Ok(layout),
     }
 }
+
+// The layout that a load gives: of a refused file the one with no objects (section 2).
+#[tactic(auto, unfolding(crate::specs::Load::refused, crate::specs::Layout::no_layout))]
+pub fn layout_given(loaded: Result<Layout, Fault>) -> Layout
+    ensures { result ≡ (told loaded).layout }
+{
+    match loaded {
+        Ok(layout) => layout,
+        Err(_) => no_layout(),
+    }
+}

@@ -46,7 +46,7 @@ none_fit g = rw (nothing_at {A = ℕ} most_sections 0 g)
 whole_fits : (s : List ℕ) → (whole s).cur.fault ≡ 0 → fits (whole s).layout ≡ true
 unfolding whole heading counts_of fits counts sections_fit line_in signals_in carrier_of announced_by route_in line_fits
 whole_fits s e =
-    let r = routes_in s _ _ (pairs_in s _ _ (whole_few s refl) e).0 in
+    let r = routes_in s _ _ (pairs_in s _ _ (whole_few s refl).0 e).0 in
     let d = distants_in s _ _ _ r.0 in
     let l = lines_in s _ _ d.0 in
     let signals = code_in s _ 0 most_signals l.0 in
@@ -76,7 +76,7 @@ pair_mirrors_law m n r q (both e f d a b) = rw (e, f)
 whole_mirrored : (s : List ℕ) → (whole s).cur.fault ≡ 0 → mirrored (whole s).layout ≡ true
 unfolding whole mirrored row_mirrors
 whole_mirrored s e =
-    let few = whole_few s refl in
+    let few = (whole_few s refl).0 in
     let said = (pairs_in s _ _ few e).1 in
     all_from _ _ (λ r h. and_both _ _ (eq-eqb _ 0 (own_none _ _ r (said r r (omega arith) (omega arith))))
     (all_from r _ (λ q l. pair_mirrors_law _ _ r q (said r q (omega arith) (omega arith)))))

@@ -36,7 +36,7 @@ whole_cleared s e = record {
   path = λ r. (routes_cleared s _ _ r).path;
   overlap = λ r. (routes_cleared s _ _ r).overlap;
   route_points = λ r. (routes_cleared s _ _ r).points;
-  conflicts = λ r q x y. none_listed _ _ r q ((pairs_in s _ _ (whole_few s refl) e).1 r q x y);
+  conflicts = λ r q x y. none_listed _ _ r q ((pairs_in s _ _ (whole_few s refl).0 e).1 r q x y);
 }
 
 -- in a layout that loads with 0 there is nothing past a count

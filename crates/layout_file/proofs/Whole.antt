@@ -34,7 +34,7 @@ whole_stands : (s : List ℕ) → Bytes s → (whole s).cur.fault ≡ 0 → pair
     → Stand s 0 (written (whole s).layout) (whole s).cur.at
 unfolding whole heading written parts flatten line_in route_in
 whole_stands s b e f =
-    let q = pairs_stand s b _ _ (whole_few s refl) e in
+    let q = pairs_stand s b _ _ (whole_few s refl).0 e in
     let r = routes_stand s b _ _ q.0 in
     let d = distants_stand s b _ _ _ r.0 in
     let l = lines_stand s b _ _ d.0 in
@@ -61,5 +61,5 @@ file_is_layout s b e =
     let w = loaded_whole s e in
     let L : Layout = (whole s).layout in
     let past = subst (λ M. ZeroPast M) w.2 (loaded_cleared s e) in
-    let p = whole_stands s b w.0 (pairs_by_place L (whole_few s refl) past.conflicts) in
+    let p = whole_stands s b w.0 (pairs_by_place L (whole_few s refl).0 past.conflicts) in
     rw w.2 (p.text ∙ ap (λ t. forms (written L) ++ t) (ap (λ n. drop n s) (loaded_end s e) ∙ drop-length s) ∙ append-nil (forms (written L)))

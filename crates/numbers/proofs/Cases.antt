@@ -1,6 +1,6 @@
 -- The cases of the number form, each from the facts that choose it.
 use Prim.Native.Nat.{ℕ, zero, suc, ◌+◌, ◌-◌, ◌*◌, ◌<◌, ◌≤◌}
-use mathlib.Core.Path.{◌≡◌, refl, sym}
+use mathlib.Core.Path.{◌≡◌, refl, sym, ap}
 use mathlib.Core.List.{List}
 use native.Mathlib.Numerals.{sub-one}
 use native.Mathlib.Omega.{arith}
@@ -113,6 +113,11 @@ number_same (Value v next) (Value w place) e = cc
 number_same (Value v next) (Fault m at) e = cc
 number_same (Fault m at) (Value v next) e = cc
 number_same (Fault m at) (Fault k place) e = cc
+
+-- a number of one byte, told
+pub told_short : (s : List ℕ) (at byte : ℕ) → at < length s → byte ≡ get_or s at 0 → get_or s at 0 < 128
+    → number_told (Value byte (at + 1)) ≡ number_told (number_at s at)
+told_short s at byte l e b = ap number_told (number_short s at byte l e b)
 
 -- for the functions, a case at each return
 pub ruleset cases = (rules, groups_none, groups_end, groups_last, after_fault, after_zero, after_value, number_fault, number_over, number_within, number_short)

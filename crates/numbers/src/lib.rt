@@ -107,6 +107,7 @@ fn read_groups(s: &[u8], at: usize) -> Result<Given, Fault>
 }
 
 // What stands at a place: a number, or fault 21 or 22 at its first place. Nearly every number is one byte, which is answered at once.
+#[tactic(auto, using(crate::proofs::Cases::told_short))]
 pub fn read(s: &[u8], at: usize) -> Result<Given, Fault>
     ensures { number_told (given result) ≡ number_told (number_at s.now at) }
 {

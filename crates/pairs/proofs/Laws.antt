@@ -40,7 +40,7 @@ module _ (s : List ℕ) (c : Cursor) where
   count_none h = record { number = h.number; place = h.place }
 
   -- a fault before
-  count_met : {f : Fault} → Met c f → Met (pair_count s c).cur f
+  pub count_met : {f : Fault} → Met c f → Met (pair_count s c).cur f
   unfolding code
   count_met h = count_none (code_met s c _ h 0 most_conflicts)
 

@@ -139,7 +139,7 @@ module _ (points : List ℕ) (n : ℕ) (ps ws : List ℕ) (d : length ps ≡ mos
 -- ---- blocks
 
 -- the lowest section of a block that is held or barred, by the lowest number in the set
-block_lowest : (table : List ℕ) (b : Line) (l set g : ℕ) → set ≡ taken_of table b l → g ≡ lowest_in set → g ≡ lowest most_sections (failing (untaken table l) b)
+pub block_lowest : (table : List ℕ) (b : Line) (l set g : ℕ) → set ≡ taken_of table b l → g ≡ lowest_in set → g ≡ lowest most_sections (failing (untaken table l) b)
 unfolding lowest_in taken_of failing
 block_lowest table b l set g q h =
     h ∙ lowest_same most_sections (holds set) (failing (untaken table l) b) (λ k m. ap (λ s. holds s k) q ∙ holds_where b.blocks (λ i. not (untaken table l i)) (block_detail b) k m)

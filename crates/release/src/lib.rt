@@ -42,8 +42,8 @@ pub struct Settled {
 }
 
 // The k-th path section from the end, 1 the last; the first entry of a path that has fewer.
-fn from_end(a: Route, k: u8) -> u8
-    ensures { result ≡ get_or a.path (a.paths - k) 0 }
+fn from_end(a: &Route, k: u8) -> u8
+    ensures { result ≡ get_or a.now.path (a.now.paths - k) 0 }
 {
     at8(&a.path, a.paths.saturating_sub(k))
 }
@@ -72,8 +72,13 @@ fn watched_block(sections: &[u8; SECTIONS], e: Gives, b: Line, i: u8) -> Watched
 
 // The watched pair of an exit route.
 #[tactic(auto, unfolding(crate::specs::Release::exit_pair))]
-fn exit_pair(ls: &[Line; LINES], sections: &[u8; SECTIONS], a: Route, e: Gives) -> WatchedPair
-    ensures { result ≡ exit_pair ls.now sections.now a e }
+fn exit_pair<'a>(
+    ls: &'a [Line; LINES],
+    sections: &'a [u8; SECTIONS],
+    a: &'a Route,
+    e: Gives,
+) -> WatchedPair
+    ensures { result ≡ exit_pair ls.now sections.now a.now e }
 {
     let b = line_at(ls, a.line);
     WatchedPair {
@@ -84,8 +89,8 @@ fn exit_pair(ls: &[Line; LINES], sections: &[u8; SECTIONS], a: Route, e: Gives) 
 
 // The watched pair of any other route.
 #[tactic(auto, unfolding(crate::specs::Release::path_pair))]
-fn path_pair(sections: &[u8; SECTIONS], a: Route, e: Gives) -> WatchedPair
-    ensures { result ≡ path_pair sections.now a e }
+fn path_pair<'a>(sections: &'a [u8; SECTIONS], a: &'a Route, e: Gives) -> WatchedPair
+    ensures { result ≡ path_pair sections.now a.now e }
 {
     WatchedPair {
         first: watched_section(sections, e, from_end(a, 2)),
@@ -95,8 +100,13 @@ fn path_pair(sections: &[u8; SECTIONS], a: Route, e: Gives) -> WatchedPair
 
 // The watched pair of a route.
 #[tactic(auto, using(laws::proofs::Choice::choices), unfolding(crate::specs::Release::watched_pair))]
-fn watched_pair(ls: &[Line; LINES], sections: &[u8; SECTIONS], a: Route, e: Gives) -> WatchedPair
-    ensures { result ≡ watched_pair ls.now sections.now a e }
+fn watched_pair<'a>(
+    ls: &'a [Line; LINES],
+    sections: &'a [u8; SECTIONS],
+    a: &'a Route,
+    e: Gives,
+) -> WatchedPair
+    ensures { result ≡ watched_pair ls.now sections.now a.now e }
 {
     if a.kind == EXIT_ROUTE {
         return exit_pair(ls, sections, a, e);
@@ -137,8 +147,8 @@ fn steps_after(w: WatchedPair, steps: u8) -> u8
 
 // How many path sections a train vacates.
 #[tactic(auto, using(laws::proofs::Choice::choices), unfolding(crate::specs::Release::to_vacate))]
-fn sections_to_vacate(a: Route) -> u8
-    ensures { result ≡ to_vacate a }
+fn sections_to_vacate(a: &Route) -> u8
+    ensures { result ≡ to_vacate a.now }
 {
     if a.kind == EXIT_ROUTE {
         return a.paths;
@@ -148,16 +158,16 @@ fn sections_to_vacate(a: Route) -> u8
 
 // What the block nearest a route's own end reads.
 #[tactic(auto, unfolding(crate::specs::Release::end_reading))]
-fn end_reads(ls: &[Line; LINES], sections: &[u8; SECTIONS], a: Route) -> u8
-    ensures { result ≡ end_reading ls.now sections.now a }
+fn end_reads<'a>(ls: &'a [Line; LINES], sections: &'a [u8; SECTIONS], a: &'a Route) -> u8
+    ensures { result ≡ end_reading ls.now sections.now a.now }
 {
     let b = line_at(ls, a.line);
     block_reads(sections, b, nearest_block(b, a.end))
 }
 
 // The route is vacated.
-fn is_vacated(ls: &[Line; LINES], sections: &[u8; SECTIONS], a: Route) -> bool
-    ensures { result ≡ vacated ls.now sections.now a }
+fn is_vacated<'a>(ls: &'a [Line; LINES], sections: &'a [u8; SECTIONS], a: &'a Route) -> bool
+    ensures { result ≡ vacated ls.now sections.now a.now }
 {
     let n = sections_to_vacate(a);
     let end = end_reads(ls, sections, a);
@@ -175,15 +185,15 @@ fn seconds_after(e: Gives, phase: u8, seconds: u8) -> u8
 }
 
 // The route is released in this event, the steps done being now `steps`.
-fn is_released(
-    ls: &[Line; LINES],
-    sections: &[u8; SECTIONS],
-    a: Route,
+fn is_released<'a>(
+    ls: &'a [Line; LINES],
+    sections: &'a [u8; SECTIONS],
+    a: &'a Route,
     e: Gives,
     h: Locking,
     steps: u8,
 ) -> bool
-    ensures { result ≡ goes ls.now sections.now a e h steps }
+    ensures { result ≡ goes ls.now sections.now a.now e h steps }
 {
     let waited = (h.phase == CANCELLING) & (e.tick == 1) & (89 <= h.seconds);
     waited || steps == 3 && is_vacated(ls, sections, a)
@@ -191,14 +201,14 @@ fn is_released(
 
 // What becomes of a locked route in an event.
 #[tactic(auto, using(laws::proofs::Choice::choices), unfolding(crate::specs::Release::locking_after))]
-pub fn locking_after(
-    ls: &[Line; LINES],
-    sections: &[u8; SECTIONS],
-    a: Route,
+pub fn locking_after<'a>(
+    ls: &'a [Line; LINES],
+    sections: &'a [u8; SECTIONS],
+    a: &'a Route,
     e: Gives,
     h: Locking,
 ) -> Locking
-    ensures { result ≡ locking_after ls.now sections.now a e h }
+    ensures { result ≡ locking_after ls.now sections.now a.now e h }
 {
     let w = watched_pair(ls, sections, a, e);
     let steps = steps_after(w, h.steps);
@@ -219,8 +229,14 @@ pub fn locking_after(
 
 // What a locked route has after an event: its signal falls, and then the route is let go or goes on.
 #[tactic(auto, unfolding(crate::specs::Release::settled, crate::specs::Release::settled_from))]
-pub fn route_settled(ls: &[Line; LINES], t: Tables, a: Route, e: Gives, h: Locking) -> Settled
-    ensures { result ≡ settled ls.now t.entry.section.now t.entry.point.now t.entry.stage.now t.entry.bar.now a e h }
+pub fn route_settled<'a>(
+    ls: &'a [Line; LINES],
+    t: Tables<'a>,
+    a: &'a Route,
+    e: Gives,
+    h: Locking,
+) -> Settled
+    ensures { result ≡ settled ls.now t.entry.section.now t.entry.point.now t.entry.stage.now t.entry.bar.now a.now e h }
 {
     let fallen = signals::falls_to(ls, t, a, h.phase);
     let was = Locking { phase: fallen, ..h };

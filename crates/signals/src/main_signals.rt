@@ -16,8 +16,8 @@ use track::{Line, Route, line_at, nearest_block, route_at};
 
 // A train may be let into the block that an exit route enters.
 #[tactic(auto, unfolding(crate::specs::Signals::lets_out))]
-fn line_lets_out(ls: &[Line; LINES], t: Tables, a: Route) -> bool
-    ensures { result ≡ lets_out ls.now t.entry.point.now t.entry.stage.now t.entry.bar.now a }
+fn line_lets_out<'a>(ls: &'a [Line; LINES], t: Tables<'a>, a: &'a Route) -> bool
+    ensures { result ≡ lets_out ls.now t.entry.point.now t.entry.stage.now t.entry.bar.now a.now }
 {
     let b = line_at(ls, a.line);
     may_enter(ls, t, a.line, nearest_block(b, a.end))
@@ -25,16 +25,16 @@ fn line_lets_out(ls: &[Line; LINES], t: Tables, a: Route) -> bool
 
 // The same, where the route is an exit route; the other kinds ask no line.
 #[tactic(auto, unfolding(laws::specs::Tests::implies))]
-fn is_let_out(ls: &[Line; LINES], t: Tables, a: Route) -> bool
-    ensures { result ≡ implies (eqb a.kind exit_route) (lets_out ls.now t.entry.point.now t.entry.stage.now t.entry.bar.now a) }
+fn is_let_out<'a>(ls: &'a [Line; LINES], t: Tables<'a>, a: &'a Route) -> bool
+    ensures { result ≡ implies (eqb a.now.kind exit_route) (lets_out ls.now t.entry.point.now t.entry.stage.now t.entry.bar.now a.now) }
 {
     a.kind != EXIT_ROUTE || line_lets_out(ls, t, a)
 }
 
 // What keeps a route's signal at proceed: the tests in order, left at the first that fails.
 #[tactic(auto, unfolding(crate::specs::Signals::clear, laws::specs::Tests::every))]
-pub fn is_clear(ls: &[Line; LINES], t: Tables, a: Route) -> bool
-    ensures { result ≡ clear ls.now t.entry.section.now t.entry.point.now t.entry.stage.now t.entry.bar.now a }
+pub fn is_clear<'a>(ls: &'a [Line; LINES], t: Tables<'a>, a: &'a Route) -> bool
+    ensures { result ≡ clear ls.now t.entry.section.now t.entry.point.now t.entry.stage.now t.entry.bar.now a.now }
 {
     all_free(t.section, a.paths, &a.path)
         && all_free(t.section, a.overlaps, &a.overlap)
@@ -44,8 +44,8 @@ pub fn is_clear(ls: &[Line; LINES], t: Tables, a: Route) -> bool
 
 // The phase that a route's signal falls to, or stays in.
 #[tactic(auto, using(laws::proofs::Choice::choices), unfolding(crate::specs::Signals::fallen))]
-pub fn falls_to(ls: &[Line; LINES], t: Tables, a: Route, was: u8) -> u8
-    ensures { result ≡ fallen ls.now t.entry.section.now t.entry.point.now t.entry.stage.now t.entry.bar.now a was }
+pub fn falls_to<'a>(ls: &'a [Line; LINES], t: Tables<'a>, a: &'a Route, was: u8) -> u8
+    ensures { result ≡ fallen ls.now t.entry.section.now t.entry.point.now t.entry.stage.now t.entry.bar.now a.now was }
 {
     if was != AT_PROCEED {
         return was;

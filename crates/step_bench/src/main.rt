@@ -131,16 +131,16 @@ fn play_named(
     ))
 }
 
-// The layout in the file that an argument names.
+// The layout in the file that an argument names. Its room is no part of the stack of a call in another way.
+#[inline(never)]
 fn layout_named(rt: &HostRuntime, argument: usize) -> Result<Layout, Reported> {
     let mut room = [0u8; 65536];
-    match layout::load(read_named(rt, argument, &mut room)?) {
-        Ok(layout) => Ok(layout),
-        Err(_) => Ok(layout::no_layout()),
-    }
+    let loaded = layout::load(read_named(rt, argument, &mut room)?);
+    Ok(layout::layout_given(loaded))
 }
 
-// The layout with the sections that the file that an argument names tells as fitted.
+// The layout with the sections that the file that an argument names tells as fitted; its room in the same way.
+#[inline(never)]
 fn equipped_named(rt: &HostRuntime, plan: Layout, argument: usize) -> Result<Layout, Reported> {
     let mut room = [0u8; 65536];
     match fitted::fit(&plan, read_named(rt, argument, &mut room)?) {

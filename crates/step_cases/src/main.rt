@@ -166,17 +166,12 @@ fn equip(rt: &HostRuntime, archive: &mut File, plan: Layout) -> Result<Layout, R
 
 // Plays a run on a layout file.
 fn play_on(rt: &HostRuntime, archive: &mut File, file: &[u8]) -> Result<(), Reported> {
-    let loaded = match layout::load(file) {
-        Ok(layout) => {
-            write_answer(rt, 0, 0)?;
-            layout
-        }
-        Err(fault) => {
-            write_answer(rt, fault.number(), fault.detail())?;
-            layout::no_layout()
-        }
-    };
-    let plan = equip(rt, archive, loaded)?;
+    let loaded = layout::load(file);
+    match loaded {
+        Ok(_) => write_answer(rt, 0, 0)?,
+        Err(fault) => write_answer(rt, fault.number(), fault.detail())?,
+    }
+    let plan = equip(rt, archive, layout::layout_given(loaded))?;
     console::print(rt, b"\n")?;
     let mut records = Records {
         plan,

@@ -10,7 +10,7 @@ pub returns-then-at-s : goal.returns-then-at-s
 returns-then-at-s c = load_left _ c.in_ok-layout.ensures c.if-at-s.true
 
 pub first_broken-requires : goal.first_broken-requires
-first_broken-requires c = whole_few _ c.in_ok-layout.ensures.1
+first_broken-requires c = (whole_few _ c.in_ok-layout.ensures.1).0
 
 pub returns-in-Some : goal.returns-in-Some
 returns-in-Some c = load_rule _ c.in_ok-layout.ensures c.if-at-s.false c.in-Some.ensures.0 c.in-Some.ensures.1

@@ -5,7 +5,7 @@ use Rattle.laws.proofs.Arrays.{length_mapped}
 use Rattle.laws.proofs.Each.{redo_start, redo_on, redo_skip}
 use Rattle.track.specs.declared.Route.{Route}
 use Rattle.interlocking.proofs.Walk.{walk_ended}
-use Rattle.interlocking.proofs.Settled.{turn_lent, idle_stays, signal_falls, phase_takes, step_takes, second_takes, idle_kept, falls_on}
+use Rattle.interlocking.proofs.Settled.{route_in, turn_lent, idle_stays, signal_falls, phase_takes, step_takes, second_takes, idle_kept, falls_on}
 use Rattle.interlocking.proofs.answering.walk_routes.Goals as goal
 
 pub loop-r-init : goal.loop-r-init
@@ -24,7 +24,7 @@ loop-r-preserved-then-s-k-eq-IDLE c =
     let there = c.loop-r-test.true in
     let none = c.if-s-k-eq-IDLE.true in (
       i.0,
-      redo_on _ _ _ _ _ _ _ i.1 there (ap (λ (a : Route). a.entry) c.route_at-a.ensures),
+      redo_on _ _ _ _ _ _ _ i.1 there (ap (λ (a : Route). a.entry) (route_in _ _ _ _ (search (rules, length_mapped, c.well_formed)) there i.0)),
       redo_skip _ _ _ _ _ _ i.2 there (idle_kept _ _ _ _ _ _ i.2 none),
       redo_skip _ _ _ _ _ _ i.3 there (idle_stays _ _ _ _ _ there i.0 _ _ none),
       redo_skip _ _ _ _ _ _ i.4 there (idle_stays _ _ _ _ _ there i.0 _ _ none),
@@ -36,7 +36,7 @@ loop-r-preserved c =
     let i = c.loop-r.invariant in
     let there = c.loop-r-test.true in
     let live = c.if-s-k-eq-IDLE.false in
-    let same = c.route_at-a.ensures in
+    let same = route_in _ _ _ _ (search (rules, length_mapped, c.well_formed)) there i.0 in
     let x = turn_lent _ c.args.s _ _ _ _ _ _ c.tables_of-t.ensures c.route_settled-x.ensures in (
       i.0,
       redo_on _ _ _ _ _ _ _ i.1 there (ap (λ (a : Route). a.entry) same),
