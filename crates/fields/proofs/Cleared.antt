@@ -6,9 +6,9 @@ use lib.ListN.{get_or}
 use Rattle.laws.proofs.Arrays.{nothing_at}
 use Rattle.laws.proofs.Stores.{turns_past}
 use Rattle.track.specs.Sizes.{most_listed}
-use Rattle.fields.specs.Cursor.{Cursor}
-use Rattle.fields.specs.Cursor.{Items}
-use Rattle.fields.specs.Cursor.{Points}
+use Rattle.fields.specs.declared.Cursor.{Cursor}
+use Rattle.fields.specs.declared.Items.{Items}
+use Rattle.fields.specs.declared.Points.{Points}
 use Rattle.fields.specs.Fields.{code, reference}
 use Rattle.fields.specs.Lists.{item_turn, items, point_turn, points}
 use Rattle.fields.proofs.Ranges.{items_count, points_count}

@@ -1,20 +1,23 @@
 -- The cases of a reading, each from the facts that choose it; and a fault met, which every further reading keeps.
 use Prim.Native.Nat.{ℕ, zero, suc, ◌+◌, ◌-◌, ◌<◌, ◌≤◌}
 use mathlib.Core.Path.{◌≡◌, refl, sym, ap, subst, ◌∙◌}
+use mathlib.Core.Bool.{Bool, true, false}
 use mathlib.Core.List.{List}
 use native.Mathlib.Omega.{arith}
 use native.Mathlib.Numerals.{unary_clauses}
 use Rattle.std.specs.Prelude.{Result, Ok, Err}
+use lib.Dec.{ltb}
+use Rattle.laws.specs.Choice.{when◌then◌else◌}
 use Rattle.laws.specs.Tables.{iter}
 use Rattle.laws.proofs.Choice.{if_eq, if_ne, if_lt, if_ge}
 use Rattle.numbers.specs.declared.Fault.{Fault}
 use Rattle.numbers.specs.declared.Given.{Given}
 use Rattle.numbers.specs.Given.{number_of, detail_of, given}
-use Rattle.numbers.specs.Number.{Number, Value, number_at, number_told}
+use Rattle.numbers.specs.Number.{Number, Value, Fault as Failed, number_at, number_told}
 use Rattle.numbers.proofs.Readings.{fault_place}
 use Rattle.numbers.proofs.Cases.{number_same}
 use Rattle.numbers.proofs.Same.{not_none, fault_same}
-use Rattle.fields.specs.Cursor.{Cursor}
+use Rattle.fields.specs.declared.Cursor.{Cursor}
 use Rattle.fields.specs.Fields.{failed, judge, field, code, reference, none_or_reference}
 use Rattle.fields.specs.Reading.{Stands, Met, Reads, NumberRead}
 
@@ -74,6 +77,33 @@ module _ (s : List ℕ) (c : Cursor) {at : ℕ} (low limit : ℕ) (outside : Fau
     -- a number in the range
     pub next_in : low ≤ n.value → n.value < limit → NumberRead (Ok n.value) n.next (field s c low limit (number_of outside))
     next_in l m = rw (field_judged, judge_in low limit (number_of outside) at (number_same _ _ e) l m) (record { none = refl; place = refl }, refl)
+
+-- ---- the cursor that a reading ends at
+
+-- where a number was out of the range, or was none, there is no number
+judge_empty : (n : Number) (at low limit fault : ℕ) → ((judge n at low limit fault).fault ≡ 0 → ⊥) → (judge n at low limit fault).value ≡ 0
+unfolding judge failed when◌then◌else◌
+judge_empty (Failed m place) at low limit fault h = refl
+judge_empty (Value v next) at low limit fault h = go (ltb v low) (ltb v limit) h
+  where
+    of : Bool → Bool → Cursor
+    of t u = when t then failed at fault else when u then record { at = next; fault = 0; value = v } else failed at fault
+
+    go : (t u : Bool) → ((of t u).fault ≡ 0 → ⊥) → (of t u).value ≡ 0
+    go true u h = refl
+    go false true h = absurd (h refl)
+    go false false h = refl
+
+-- at the fault that is met, where none was met before
+pub met_end : (s : List ℕ) (c : Cursor) (low limit fault : ℕ) {f : Fault} → c.fault ≡ 0 → Met (field s c low limit fault) f
+    → record { at = detail_of f; fault = number_of f; value = 0 } ≡ field s c low limit fault
+unfolding field
+met_end s c low limit fault {f} e h =
+    let d : Cursor = judge (number_at s c.at) c.at low limit fault in
+    let j : d ≡ field s c low limit fault = if_eq _ _ _ _ _ e refl in
+    let m : Met d f = rw j h in
+    let v : d.value ≡ 0 = judge_empty (number_at s c.at) c.at low limit fault (λ z. not_none f (sym m.number ∙ z)) in
+    rw (← j, ← m.place, ← m.number, ← v) refl
 
 -- ---- a fault that was met stays, whatever its number
 

@@ -15,9 +15,9 @@ use Rattle.numbers.specs.Number.{Value, Fault}
 use Rattle.numbers.specs.Number.{number_at}
 use Rattle.numbers.proofs.Readings.{fault_number}
 use Rattle.track.specs.Sizes.{most_listed}
-use Rattle.fields.specs.Cursor.{Cursor}
-use Rattle.fields.specs.Cursor.{Items}
-use Rattle.fields.specs.Cursor.{Points}
+use Rattle.fields.specs.declared.Cursor.{Cursor}
+use Rattle.fields.specs.declared.Items.{Items}
+use Rattle.fields.specs.declared.Points.{Points}
 use Rattle.fields.specs.Fields.{failed, judge, field, code, reference}
 use Rattle.fields.specs.Lists.{item_turn, items, point_turn, points}
 

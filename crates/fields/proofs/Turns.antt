@@ -9,7 +9,9 @@ use Rattle.std.specs.Prelude.{Ok}
 use Rattle.laws.specs.Tables.{iter}
 use Rattle.track.specs.Sizes.{most_listed}
 use Rattle.numbers.specs.declared.Fault.{Fault}
-use Rattle.fields.specs.Cursor.{Cursor, Items, Points}
+use Rattle.fields.specs.declared.Cursor.{Cursor}
+use Rattle.fields.specs.declared.Items.{Items}
+use Rattle.fields.specs.declared.Points.{Points}
 use Rattle.fields.specs.Fields.{failed, code, reference}
 use Rattle.fields.specs.Lists.{item_turn, items, point_turn, points}
 use Rattle.fields.specs.Reading.{Stands, Met, NumberRead, ItemsRead, PointsRead}

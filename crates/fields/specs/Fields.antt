@@ -4,7 +4,7 @@ use Rattle.laws.specs.Choice.{when◌then◌else◌}
 use Rattle.numbers.specs.Number.{Number}
 use Rattle.numbers.specs.Number.{Value, Fault}
 use Rattle.numbers.specs.Number.{number_at}
-use Rattle.fields.specs.Cursor.{Cursor}
+use Rattle.fields.specs.declared.Cursor.{Cursor}
 
 -- a fault, told of a place
 unfoldable pub failed : ℕ → ℕ → Cursor

@@ -1,4 +1,3 @@
-pub mod Cursor
 pub mod Fields
 pub mod Lists
 pub mod Reading

@@ -2,9 +2,9 @@
 use Rattle.std.specs.Prelude.{ℕ, List, set, replicate}
 use Rattle.laws.specs.Tables.{iter}
 use Rattle.track.specs.Sizes.{most_listed}
-use Rattle.fields.specs.Cursor.{Cursor}
-use Rattle.fields.specs.Cursor.{Items}
-use Rattle.fields.specs.Cursor.{Points}
+use Rattle.fields.specs.declared.Cursor.{Cursor}
+use Rattle.fields.specs.declared.Items.{Items}
+use Rattle.fields.specs.declared.Points.{Points}
 use Rattle.fields.specs.Fields.{code, reference}
 
 -- the i-th number of a list of objects

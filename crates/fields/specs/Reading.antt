@@ -2,9 +2,11 @@
 use Rattle.std.specs.Prelude.{ℕ, ◌≡◌, Result, MatchResult}
 use Rattle.numbers.specs.declared.Fault.{Fault}
 use Rattle.numbers.specs.Given.{number_of, detail_of}
-use Rattle.fields.specs.Cursor.{Cursor, Items, Points}
-use Rattle.fields.specs.declared.Items.{Items as ItemsGiven}
-use Rattle.fields.specs.declared.Points.{Points as PointsGiven}
+use Rattle.fields.specs.declared.Cursor.{Cursor}
+use Rattle.fields.specs.declared.Items.{Items}
+use Rattle.fields.specs.declared.Points.{Points}
+use Rattle.fields.specs.declared.place.Items.{Items as ItemsGiven}
+use Rattle.fields.specs.declared.place.Points.{Points as PointsGiven}
 
 -- a cursor stands at a place, with no fault met
 pub record Stands (c : Cursor) (at : ℕ) : Type 0 where

@@ -6,7 +6,7 @@ use lib.ListN.{get_or}
 use Rattle.laws.proofs.Choice.{if_both}
 use Rattle.laws.proofs.Arrays.{nothing_at}
 use Rattle.laws.proofs.Stores.{turns_past, turns_all}
-use Rattle.fields.specs.Cursor.{Cursor}
+use Rattle.fields.specs.declared.Cursor.{Cursor}
 use Rattle.fields.specs.Fields.{code, reference}
 use Rattle.fields.proofs.Cleared.{items_past, points_past}
 use Rattle.track.specs.declared.Counts.{Counts}
@@ -14,10 +14,10 @@ use Rattle.track.specs.declared.Line.{Line}
 use Rattle.track.specs.declared.Route.{Route}
 use Rattle.track.specs.Sizes.{most_points, most_lines, most_blocks, most_distants, most_train_routes, most_listed, most_overlap}
 use Rattle.track.specs.Objects.{no_line, no_route, line, route}
-use Rattle.file_objects.specs.Records.{Owned}
-use Rattle.file_objects.specs.Records.{Lines}
-use Rattle.file_objects.specs.Records.{Distants}
-use Rattle.file_objects.specs.Records.{Routes}
+use Rattle.file_objects.specs.declared.Owned.{Owned}
+use Rattle.file_objects.specs.declared.Lines.{Lines}
+use Rattle.file_objects.specs.declared.distants.Distants.{Distants}
+use Rattle.file_objects.specs.declared.Routes.{Routes}
 use Rattle.file_objects.specs.Sections.{section_turn, sections, no_sections}
 use Rattle.file_objects.specs.Lines.{a_line, no_lines, line_turn, lines_from, lines}
 use Rattle.file_objects.specs.Distants.{lists_none, no_distants, without_distants, carrier_read, announced_read, distant_turn, distants_from, distants}

@@ -12,12 +12,12 @@ use Rattle.laws.proofs.Choice.{if_both}
 use Rattle.laws.proofs.Tests.{and_both}
 use Rattle.laws.proofs.Loops.{iter_keeps, iter_same}
 use Rattle.laws.proofs.Stores.{turns_each}
-use Rattle.fields.specs.Cursor.{Cursor}
+use Rattle.fields.specs.declared.Cursor.{Cursor}
 use Rattle.fields.specs.Fields.{code, reference, none_or_reference}
 use Rattle.fields.proofs.Ranges.{Known, code_known, code_most, code_in, reference_known, reference_in}
 use Rattle.track.specs.Sizes.{most_distants}
 use Rattle.track.specs.Ranges.{distant_fits}
-use Rattle.file_objects.specs.Records.{Distants}
+use Rattle.file_objects.specs.declared.distants.Distants.{Distants}
 use Rattle.file_objects.specs.Distants.{lists_none, most_distants_of, no_distants, without_distants, carrier_read, announced_read, distant_turn, distants_from, distants}
 
 -- no version has more than there may be

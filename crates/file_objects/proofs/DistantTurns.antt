@@ -10,13 +10,13 @@ use Rattle.laws.specs.Tables.{iter}
 use Rattle.laws.proofs.Choice.{if_both, if_lt, if_ge}
 use Rattle.laws.proofs.Loops.{iter_same}
 use Rattle.numbers.specs.declared.Fault.{Fault}
-use Rattle.fields.specs.Cursor.{Cursor}
+use Rattle.fields.specs.declared.Cursor.{Cursor}
 use Rattle.fields.specs.Fields.{code, reference, none_or_reference}
 use Rattle.fields.specs.Reading.{Stands, Met, NumberRead}
 use Rattle.fields.proofs.Laws.{code_met, reference_met, none_or_reference_met, after_turns}
 use Rattle.fields.proofs.Ranges.{code_most}
 use Rattle.track.specs.Sizes.{most_distants}
-use Rattle.file_objects.specs.Records.{Distants}
+use Rattle.file_objects.specs.declared.distants.Distants.{Distants}
 use Rattle.file_objects.specs.Distants.{lists_none, without_distants, distants_from, distant_turn, distants, no_distants}
 use Rattle.file_objects.specs.Reading.{DistantsRead}
 

@@ -5,7 +5,9 @@ use mathlib.Core.List.{List}
 use Rattle.std.specs.Prelude.{Ok}
 use Rattle.laws.proofs.Choice.{if_both, if_eq, if_ne}
 use Rattle.numbers.specs.declared.Fault.{Fault}
-use Rattle.fields.specs.Cursor.{Cursor, Items, Points}
+use Rattle.fields.specs.declared.Cursor.{Cursor}
+use Rattle.fields.specs.declared.Items.{Items}
+use Rattle.fields.specs.declared.Points.{Points}
 use Rattle.fields.specs.Fields.{code, reference}
 use Rattle.fields.specs.Lists.{items, points}
 use Rattle.fields.specs.Reading.{Stands, Met, NumberRead}
@@ -13,11 +15,11 @@ use Rattle.fields.proofs.Laws.{code_met, reference_met}
 use Rattle.fields.proofs.Turns.{items_met, points_met}
 use Rattle.track.specs.declared.Counts.{Counts}
 use Rattle.track.specs.Sizes.{most_blocks, most_listed, most_overlap}
-use Rattle.file_objects.specs.Records.{End}
+use Rattle.file_objects.specs.declared.End.{End}
 use Rattle.file_objects.specs.Lines.{line_of, a_line}
 use Rattle.file_objects.specs.Routes.{line_and_end, an_end, route_head, a_route}
 use Rattle.file_objects.specs.Reading.{LineRead, EndRead, HeadRead, RouteRead}
-use Rattle.file_objects.specs.declared.Head.{Head as HeadGiven}
+use Rattle.file_objects.specs.declared.place.Head.{Head as HeadGiven}
 
 -- ---- a line
 

@@ -13,8 +13,8 @@ use Rattle.laws.proofs.Tests.{and_both, or_left, or_right, every_one, every_more
 use Rattle.laws.proofs.Loops.{iter_keeps, iter_same}
 use Rattle.laws.proofs.Arrays.{nothing_at}
 use Rattle.laws.proofs.Stores.{turns_each, turns_all}
-use Rattle.fields.specs.Cursor.{Cursor}
-use Rattle.fields.specs.Cursor.{Points}
+use Rattle.fields.specs.declared.Cursor.{Cursor}
+use Rattle.fields.specs.declared.Points.{Points}
 use Rattle.fields.specs.Fields.{code, reference}
 use Rattle.fields.proofs.Ranges.{Known, code_known, code_most, code_in, reference_known, reference_in, items_known, items_count, items_in, PointsIn, points_known, points_in}
 use Rattle.track.specs.declared.Counts.{Counts}
@@ -23,10 +23,10 @@ use Rattle.track.specs.Sizes.{most_points, most_lines, most_blocks, most_train_r
 use Rattle.track.specs.Objects.{no_line, no_route, line, route}
 use Rattle.track.specs.Lists.{between, referring, positions}
 use Rattle.track.specs.Ranges.{points_fit, line_fits, route_fits}
-use Rattle.file_objects.specs.Records.{Owned}
-use Rattle.file_objects.specs.Records.{Lines}
-use Rattle.file_objects.specs.Records.{End}
-use Rattle.file_objects.specs.Records.{Routes}
+use Rattle.file_objects.specs.declared.Owned.{Owned}
+use Rattle.file_objects.specs.declared.Lines.{Lines}
+use Rattle.file_objects.specs.declared.End.{End}
+use Rattle.file_objects.specs.declared.Routes.{Routes}
 use Rattle.file_objects.specs.Sections.{section_turn, sections, no_sections}
 use Rattle.file_objects.specs.Lines.{a_line, no_lines, line_turn, lines_from, lines}
 use Rattle.file_objects.specs.Routes.{an_end, line_and_end, route_head, a_route, no_routes, route_turn, routes_from, routes}

@@ -4,7 +4,7 @@ use mathlib.Core.Path.{◌≡◌}
 use mathlib.Core.List.{List}
 use Rattle.laws.specs.Choice.{when◌then◌else◌}
 use Rattle.laws.specs.Tables.{iter}
-use Rattle.fields.specs.Cursor.{Cursor}
+use Rattle.fields.specs.declared.Cursor.{Cursor}
 use Rattle.fields.specs.Fields.{failed}
 use Rattle.fields.proofs.Laws.{code_stays}
 use Rattle.track.specs.declared.Counts.{Counts}

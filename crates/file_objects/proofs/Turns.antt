@@ -9,7 +9,7 @@ use Rattle.std.specs.Prelude.{Ok}
 use Rattle.laws.specs.Tables.{iter}
 use Rattle.laws.proofs.Loops.{iter_same}
 use Rattle.numbers.specs.declared.Fault.{Fault}
-use Rattle.fields.specs.Cursor.{Cursor}
+use Rattle.fields.specs.declared.Cursor.{Cursor}
 use Rattle.fields.specs.Fields.{code, reference}
 use Rattle.fields.specs.Reading.{Stands, Met, NumberRead}
 use Rattle.fields.proofs.Laws.{code_met, reference_met, after_turns}
@@ -18,7 +18,9 @@ use Rattle.track.specs.declared.Counts.{Counts}
 use Rattle.track.specs.declared.Line.{Line}
 use Rattle.track.specs.declared.Route.{Route}
 use Rattle.track.specs.Sizes.{most_points, most_lines, most_train_routes}
-use Rattle.file_objects.specs.Records.{Owned, Lines, Routes}
+use Rattle.file_objects.specs.declared.Owned.{Owned}
+use Rattle.file_objects.specs.declared.Lines.{Lines}
+use Rattle.file_objects.specs.declared.Routes.{Routes}
 use Rattle.file_objects.specs.Sections.{section_turn, sections, no_sections}
 use Rattle.file_objects.specs.Lines.{a_line, line_turn, lines_from, lines, no_lines}
 use Rattle.file_objects.specs.Routes.{a_route, route_turn, routes_from, routes, no_routes}

@@ -2,10 +2,10 @@
 use Rattle.std.specs.Prelude.{ℕ, Bool, List, ltb, set, replicate}
 use Rattle.laws.specs.Choice.{when◌then◌else◌}
 use Rattle.laws.specs.Tables.{iter}
-use Rattle.fields.specs.Cursor.{Cursor}
+use Rattle.fields.specs.declared.Cursor.{Cursor}
 use Rattle.fields.specs.Fields.{code, reference, none_or_reference}
 use Rattle.track.specs.Sizes.{most_distants}
-use Rattle.file_objects.specs.Records.{Distants}
+use Rattle.file_objects.specs.declared.distants.Distants.{Distants}
 
 -- the first version that lists distants
 abbrev pub distants_version : ℕ

@@ -1,4 +1,3 @@
-pub mod Records
 pub mod Sections
 pub mod Lines
 pub mod Distants

@@ -1,17 +1,17 @@
 -- The lines of the layout file (section 2).
 use Rattle.std.specs.Prelude.{ℕ, List, set, replicate}
 use Rattle.laws.specs.Tables.{iter}
-use Rattle.fields.specs.Cursor.{Cursor}
-use Rattle.fields.specs.Cursor.{Items}
-use Rattle.fields.specs.Cursor.{Points}
+use Rattle.fields.specs.declared.Cursor.{Cursor}
+use Rattle.fields.specs.declared.Items.{Items}
+use Rattle.fields.specs.declared.Points.{Points}
 use Rattle.fields.specs.Fields.{code, reference}
 use Rattle.fields.specs.Lists.{items, points}
 use Rattle.track.specs.declared.Counts.{Counts}
 use Rattle.track.specs.declared.Line.{Line}
 use Rattle.track.specs.Sizes.{most_lines, most_blocks}
 use Rattle.track.specs.Objects.{no_line}
-use Rattle.file_objects.specs.Records.{OneLine}
-use Rattle.file_objects.specs.Records.{Lines}
+use Rattle.file_objects.specs.declared.OneLine.{OneLine}
+use Rattle.file_objects.specs.declared.Lines.{Lines}
 
 -- a line from its parts
 abbrev pub line_of : Items → Cursor → Cursor → Cursor → Cursor → Points → OneLine

@@ -4,13 +4,20 @@ use Rattle.numbers.specs.declared.Fault.{Fault}
 use Rattle.fields.specs.Reading.{Reads}
 use Rattle.track.specs.declared.Line.{Line}
 use Rattle.track.specs.declared.Route.{Route}
-use Rattle.file_objects.specs.Records.{Owned, OneLine, Lines, Distants, End, Head, OneRoute, Routes}
-use Rattle.file_objects.specs.declared.Owned.{Owned as OwnedGiven}
-use Rattle.file_objects.specs.declared.Lines.{Lines as LinesGiven}
-use Rattle.file_objects.specs.declared.distants.Distants.{Distants as DistantsGiven}
-use Rattle.file_objects.specs.declared.End.{End as EndGiven}
-use Rattle.file_objects.specs.declared.Head.{Head as HeadGiven}
-use Rattle.file_objects.specs.declared.Routes.{Routes as RoutesGiven}
+use Rattle.file_objects.specs.declared.Owned.{Owned}
+use Rattle.file_objects.specs.declared.OneLine.{OneLine}
+use Rattle.file_objects.specs.declared.Lines.{Lines}
+use Rattle.file_objects.specs.declared.distants.Distants.{Distants}
+use Rattle.file_objects.specs.declared.End.{End}
+use Rattle.file_objects.specs.declared.Head.{Head}
+use Rattle.file_objects.specs.declared.OneRoute.{OneRoute}
+use Rattle.file_objects.specs.declared.Routes.{Routes}
+use Rattle.file_objects.specs.declared.place.Owned.{Owned as OwnedGiven}
+use Rattle.file_objects.specs.declared.place.Lines.{Lines as LinesGiven}
+use Rattle.file_objects.specs.declared.place.Distants.{Distants as DistantsGiven}
+use Rattle.file_objects.specs.declared.place.End.{End as EndGiven}
+use Rattle.file_objects.specs.declared.place.Head.{Head as HeadGiven}
+use Rattle.file_objects.specs.declared.place.Routes.{Routes as RoutesGiven}
 
 -- the points' own sections
 abbrev pub SectionsRead : Result OwnedGiven Fault → ℕ → Owned → Type 0

@@ -2,9 +2,9 @@
 use Rattle.std.specs.Prelude.{ℕ, List, eqb, set, replicate}
 use Rattle.laws.specs.Choice.{when◌then◌else◌}
 use Rattle.laws.specs.Tables.{iter}
-use Rattle.fields.specs.Cursor.{Cursor}
-use Rattle.fields.specs.Cursor.{Items}
-use Rattle.fields.specs.Cursor.{Points}
+use Rattle.fields.specs.declared.Cursor.{Cursor}
+use Rattle.fields.specs.declared.Items.{Items}
+use Rattle.fields.specs.declared.Points.{Points}
 use Rattle.fields.specs.Fields.{code, reference}
 use Rattle.fields.specs.Lists.{items, points}
 use Rattle.track.specs.declared.Counts.{Counts}
@@ -12,10 +12,10 @@ use Rattle.track.specs.declared.Route.{Route}
 use Rattle.track.specs.Codes.{end_a, inner_route}
 use Rattle.track.specs.Sizes.{most_train_routes, most_listed, most_overlap}
 use Rattle.track.specs.Objects.{no_route}
-use Rattle.file_objects.specs.Records.{End}
-use Rattle.file_objects.specs.Records.{Head}
-use Rattle.file_objects.specs.Records.{OneRoute}
-use Rattle.file_objects.specs.Records.{Routes}
+use Rattle.file_objects.specs.declared.End.{End}
+use Rattle.file_objects.specs.declared.Head.{Head}
+use Rattle.file_objects.specs.declared.OneRoute.{OneRoute}
+use Rattle.file_objects.specs.declared.Routes.{Routes}
 
 -- the line and the end (0 is A, 1 is B)
 unfoldable pub an_end : List ℕ → Cursor → ℕ → End

@@ -2,9 +2,9 @@
 use Rattle.std.specs.Prelude.{ℕ, List, set, replicate}
 use Rattle.laws.specs.Tables.{iter}
 use Rattle.track.specs.Sizes.{most_points}
-use Rattle.fields.specs.Cursor.{Cursor}
+use Rattle.fields.specs.declared.Cursor.{Cursor}
 use Rattle.fields.specs.Fields.{code, reference}
-use Rattle.file_objects.specs.Records.{Owned}
+use Rattle.file_objects.specs.declared.Owned.{Owned}
 
 -- no point has a section
 unfoldable pub no_sections : List ℕ

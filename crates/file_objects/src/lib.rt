@@ -1,20 +1,18 @@
-// The parts of the layout file in their order: the points' own sections, the lines, the distants, the routes (section 2, request L2).
-// The lists of lines and of routes are read alike, and stay two: an array of a type parameter cannot be gone over without the heap.
+// The parts of the layout file in their order: the points' own sections, the lines, the distants, the routes (section 2, request L2), with a cursor that keeps the
+// first fault met: each is handed back as far as it was read. A reading from a place (`place`) gives a part whole, or the fault met.
 #![tactic(auto)]
 
 mod distants;
+pub mod place;
 
 ghost use Rattle.std.specs.Prelude.{◌≡◌};
-ghost use Rattle.fields.specs.Cursor.{Cursor};
-ghost use Rattle.fields.specs.Reading.{Stands};
 ghost use Rattle.file_objects.specs.Sections.{sections, no_sections};
 ghost use Rattle.file_objects.specs.Lines.{a_line, lines, no_lines};
 ghost use Rattle.file_objects.specs.Routes.{line_and_end, route_head, a_route, routes, no_routes};
-ghost use Rattle.file_objects.specs.Reading.{SectionsRead, LineRead, LinesRead, EndRead, HeadRead, RouteRead, RoutesRead};
 
 pub use distants::{Distants, most_distants_of, no_distants, read_distants};
-use fields::{read_code, read_items, read_points, read_reference};
-use numbers::Fault;
+use fields::{Cursor, read_code, read_items, read_points, read_reference};
+pub use place::{next_distants, next_lines, next_routes, next_sections};
 use track::sizes::{
     LINES, MOST_BLOCKS, MOST_LINES, MOST_LISTED, MOST_OVERLAP, MOST_POINTS, MOST_TRAIN_ROUTES,
     POINTS, TRAIN_ROUTES,
@@ -24,13 +22,22 @@ use track::{Counts, Line, Route};
 // The points' own sections.
 #[derive(Clone, Copy)]
 pub struct Owned {
+    pub cur: Cursor,
     pub count: u8,
     pub section: [u8; POINTS],
+}
+
+// A line that was read.
+#[derive(Clone, Copy)]
+pub struct OneLine {
+    pub cur: Cursor,
+    pub line: Line,
 }
 
 // The lines.
 #[derive(Clone, Copy)]
 pub struct Lines {
+    pub cur: Cursor,
     pub count: u8,
     pub line: [Line; LINES],
 }
@@ -38,6 +45,7 @@ pub struct Lines {
 // The line and the end of a route.
 #[derive(Clone, Copy)]
 pub struct End {
+    pub cur: Cursor,
     pub line: u8,
     pub end: u8,
 }
@@ -45,6 +53,7 @@ pub struct End {
 // What a route begins with.
 #[derive(Clone, Copy)]
 pub struct Head {
+    pub cur: Cursor,
     pub entry: u8,
     pub kind: u8,
     pub line: u8,
@@ -52,9 +61,17 @@ pub struct Head {
     pub diverging: u8,
 }
 
+// A route that was read.
+#[derive(Clone, Copy)]
+pub struct OneRoute {
+    pub cur: Cursor,
+    pub route: Route,
+}
+
 // The routes.
 #[derive(Clone, Copy)]
 pub struct Routes {
+    pub cur: Cursor,
     pub count: u8,
     pub route: [Route; TRAIN_ROUTES],
 }
@@ -67,43 +84,53 @@ pub fn no_sections() -> [u8; POINTS]
 }
 
 // Points 0 to 32, for each its own section.
-pub fn read_sections(s: &[u8], at: &mut usize, objects: u8) -> Result<Owned, Fault>
-    ensures { (c : Cursor) → Stands c at.old → SectionsRead result at.new (sections s.now c objects) }
+#[tactic(auto, using(laws::proofs::Loops::iters), unfolding(crate::specs::Sections::sections, crate::specs::Sections::section_turn))]
+pub fn read_sections(s: &[u8], c: Cursor, objects: u8) -> Owned
+    ensures { result ≡ sections s.now c objects }
 {
-    let count = read_code(s, at, 0, MOST_POINTS)?;
-    let mut section = no_sections();
-    for i in 0..count {
-        let own = read_reference(s, at, objects)?;
-        section[i as usize] = own;
+    let cur = read_code(s, c, 0, MOST_POINTS);
+    let mut t = Owned {
+        cur,
+        count: cur.value,
+        section: no_sections(),
+    };
+    for i in 0..cur.value {
+        t.cur = read_reference(s, t.cur, objects);
+        t.section[i as usize] = t.cur.value;
     }
-    Ok(Owned { count, section })
+    t
 }
 
 // One line: blocks, inner sections, entrance signals, points.
-fn read_line(s: &[u8], at: &mut usize, n: Counts) -> Result<Line, Fault>
-    ensures { (c : Cursor) → Stands c at.old → LineRead result at.new (a_line s.now n c) }
+#[tactic(auto, unfolding(crate::specs::Lines::a_line))]
+fn one_line(s: &[u8], n: Counts, c: Cursor) -> OneLine
+    ensures { result ≡ a_line s.now n c }
 {
-    let blocks = read_items(s, at, 1, MOST_BLOCKS, n.sections)?;
-    let innera = read_reference(s, at, n.sections)?;
-    let innerb = read_reference(s, at, n.sections)?;
-    let entrancea = read_reference(s, at, n.signals)?;
-    let entranceb = read_reference(s, at, n.signals)?;
-    let points = read_points(s, at, n.points)?;
+    let blocks = read_items(s, c, 1, MOST_BLOCKS, n.sections);
+    let innera = read_reference(s, blocks.cur, n.sections);
+    let innerb = read_reference(s, innera, n.sections);
+    let entrancea = read_reference(s, innerb, n.signals);
+    let entranceb = read_reference(s, entrancea, n.signals);
+    let points = read_points(s, entranceb, n.points);
     // A literal takes an array of a field by a variable alone.
     let block = blocks.item;
     let point = points.point;
     let position = points.position;
-    Ok(Line {
+    let line = Line {
         blocks: blocks.count,
         block,
-        innera,
-        innerb,
-        entrancea,
-        entranceb,
+        innera: innera.value,
+        innerb: innerb.value,
+        entrancea: entrancea.value,
+        entranceb: entranceb.value,
         points: points.count,
         point,
         position,
-    })
+    };
+    OneLine {
+        cur: points.cur,
+        line,
+    }
 }
 
 // No lines.
@@ -114,60 +141,78 @@ pub fn no_lines() -> [Line; LINES]
 }
 
 // Lines 0 to 8.
-pub fn read_lines(s: &[u8], at: &mut usize, n: Counts) -> Result<Lines, Fault>
-    ensures { (c : Cursor) → Stands c at.old → LinesRead result at.new (lines s.now n c) }
+#[tactic(auto, using(laws::proofs::Loops::iters), unfolding(crate::specs::Lines::lines, crate::specs::Lines::lines_from, crate::specs::Lines::line_turn))]
+pub fn read_lines(s: &[u8], n: Counts, c: Cursor) -> Lines
+    ensures { result ≡ lines s.now n c }
 {
-    let count = read_code(s, at, 0, MOST_LINES)?;
-    let mut line = no_lines();
-    for i in 0..count {
-        let one = read_line(s, at, n)?;
-        line[i as usize] = one;
+    let cur = read_code(s, c, 0, MOST_LINES);
+    let mut t = Lines {
+        cur,
+        count: cur.value,
+        line: no_lines(),
+    };
+    for i in 0..cur.value {
+        let one = one_line(s, n, t.cur);
+        t.cur = one.cur;
+        t.line[i as usize] = one.line;
     }
-    Ok(Lines { count, line })
+    t
 }
 
-// For kinds 1 and 2 the line and the end; an inner route has neither.
-fn line_and_end(s: &[u8], at: &mut usize, kind: u8, lines: u8) -> Result<End, Fault>
-    ensures { (c : Cursor) → Stands c at.old → c.value ≡ kind → EndRead result at.new (line_and_end s.now c lines) }
+// For kinds 1 and 2 the line and the end; an inner route has neither. The kind is the number read last.
+#[tactic(auto, using(laws::proofs::Choice::choices), unfolding(crate::specs::Routes::line_and_end, crate::specs::Routes::an_end))]
+fn line_and_end(s: &[u8], c: Cursor, lines: u8) -> End
+    ensures { result ≡ line_and_end s.now c lines }
 {
-    if kind == 0 {
-        return Ok(End { line: 0, end: 0 });
+    if c.value == 0 {
+        return End {
+            cur: c,
+            line: 0,
+            end: 0,
+        };
     }
-    let line = read_reference(s, at, lines)?;
-    let end = read_code(s, at, 0, 1)?;
-    Ok(End { line, end })
+    let line = read_reference(s, c, lines);
+    let end = read_code(s, line, 0, 1);
+    End {
+        cur: end,
+        line: line.value,
+        end: end.value,
+    }
 }
 
 // What a route begins with: entry signal, kind, line and end, diverging.
-fn route_head(s: &[u8], at: &mut usize, n: Counts) -> Result<Head, Fault>
-    ensures { (c : Cursor) → Stands c at.old → HeadRead result at.new (route_head s.now n c) }
+#[tactic(auto, unfolding(crate::specs::Routes::route_head))]
+fn route_head(s: &[u8], n: Counts, c: Cursor) -> Head
+    ensures { result ≡ route_head s.now n c }
 {
-    let entry = read_reference(s, at, n.signals)?;
-    let kind = read_code(s, at, 0, 2)?;
-    let place = line_and_end(s, at, kind, n.lines)?;
-    let diverging = read_code(s, at, 0, 1)?;
-    Ok(Head {
-        entry,
-        kind,
+    let entry = read_reference(s, c, n.signals);
+    let kind = read_code(s, entry, 0, 2);
+    let place = line_and_end(s, kind, n.lines);
+    let diverging = read_code(s, place.cur, 0, 1);
+    Head {
+        cur: diverging,
+        entry: entry.value,
+        kind: kind.value,
         line: place.line,
         end: place.end,
-        diverging,
-    })
+        diverging: diverging.value,
+    }
 }
 
 // One route: its head, path, overlap, points.
-fn read_route(s: &[u8], at: &mut usize, n: Counts) -> Result<Route, Fault>
-    ensures { (c : Cursor) → Stands c at.old → RouteRead result at.new (a_route s.now n c) }
+#[tactic(auto, unfolding(crate::specs::Routes::a_route))]
+fn one_route(s: &[u8], n: Counts, c: Cursor) -> OneRoute
+    ensures { result ≡ a_route s.now n c }
 {
-    let head = route_head(s, at, n)?;
-    let path = read_items(s, at, 1, MOST_LISTED, n.sections)?;
-    let overlap = read_items(s, at, 0, MOST_OVERLAP, n.sections)?;
-    let points = read_points(s, at, n.points)?;
+    let head = route_head(s, n, c);
+    let path = read_items(s, head.cur, 1, MOST_LISTED, n.sections);
+    let overlap = read_items(s, path.cur, 0, MOST_OVERLAP, n.sections);
+    let points = read_points(s, overlap.cur, n.points);
     let sections = path.item;
     let behind = overlap.item;
     let point = points.point;
     let position = points.position;
-    Ok(Route {
+    let route = Route {
         entry: head.entry,
         kind: head.kind,
         line: head.line,
@@ -180,7 +225,11 @@ fn read_route(s: &[u8], at: &mut usize, n: Counts) -> Result<Route, Fault>
         points: points.count,
         point,
         position,
-    })
+    };
+    OneRoute {
+        cur: points.cur,
+        route,
+    }
 }
 
 // No routes.
@@ -191,14 +240,20 @@ pub fn no_routes() -> [Route; TRAIN_ROUTES]
 }
 
 // Routes 0 to 48.
-pub fn read_routes(s: &[u8], at: &mut usize, n: Counts) -> Result<Routes, Fault>
-    ensures { (c : Cursor) → Stands c at.old → RoutesRead result at.new (routes s.now n c) }
+#[tactic(auto, using(laws::proofs::Loops::iters), unfolding(crate::specs::Routes::routes, crate::specs::Routes::routes_from, crate::specs::Routes::route_turn))]
+pub fn read_routes(s: &[u8], n: Counts, c: Cursor) -> Routes
+    ensures { result ≡ routes s.now n c }
 {
-    let count = read_code(s, at, 0, MOST_TRAIN_ROUTES)?;
-    let mut route = no_routes();
-    for i in 0..count {
-        let one = read_route(s, at, n)?;
-        route[i as usize] = one;
+    let cur = read_code(s, c, 0, MOST_TRAIN_ROUTES);
+    let mut t = Routes {
+        cur,
+        count: cur.value,
+        route: no_routes(),
+    };
+    for i in 0..cur.value {
+        let one = one_route(s, n, t.cur);
+        t.cur = one.cur;
+        t.route[i as usize] = one.route;
     }
-    Ok(Routes { count, route })
+    t
 }

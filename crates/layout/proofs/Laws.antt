@@ -11,7 +11,7 @@ use Rattle.laws.proofs.Choice.{if_eq, if_ne}
 use Rattle.laws.specs.Tests.{all_below}
 use Rattle.laws.proofs.Tests.{every_at, every_stops, every_passes, every_last}
 use Rattle.laws.proofs.Loops.{iter_keeps}
-use Rattle.fields.specs.Cursor.{Cursor}
+use Rattle.fields.specs.declared.Cursor.{Cursor}
 use Rattle.numbers.specs.declared.Fault.{Fault}
 use Rattle.numbers.specs.Given.{number_of, detail_of}
 use Rattle.numbers.proofs.Same.{not_none}
@@ -20,7 +20,7 @@ use Rattle.fields.specs.Fields.{code}
 use Rattle.fields.specs.Reading.{Stands, Met}
 use Rattle.fields.proofs.Laws.{code_met}
 use Rattle.fields.proofs.Ranges.{code_most}
-use Rattle.file_objects.specs.Records.{Owned}
+use Rattle.file_objects.specs.declared.Owned.{Owned}
 use Rattle.file_objects.specs.Sections.{sections}
 use Rattle.file_objects.proofs.Turns.{sections_met, lines_met, routes_met}
 use Rattle.file_objects.proofs.DistantTurns.{listing_met}
@@ -34,15 +34,15 @@ use Rattle.track.specs.declared.Counts.{Counts}
 use Rattle.track.specs.Sizes.{last_version, most_sections, most_signals, most_lines, most_distants, most_train_routes}
 use Rattle.track.specs.SignalNumbers.{signal_count}
 use Rattle.track.proofs.SignalNumbers.{signals_few}
-use Rattle.file_objects.specs.Records.{Lines}
-use Rattle.file_objects.specs.Records.{Distants}
-use Rattle.file_objects.specs.Records.{Routes}
+use Rattle.file_objects.specs.declared.Lines.{Lines}
+use Rattle.file_objects.specs.declared.distants.Distants.{Distants}
+use Rattle.file_objects.specs.declared.Routes.{Routes}
 use Rattle.file_objects.specs.Lines.{lines}
 use Rattle.file_objects.specs.Distants.{most_distants_of, distants}
 use Rattle.file_objects.specs.Routes.{routes, routes_from, route_turn}
 use Rattle.file_objects.proofs.Ranges.{lines_count, lines_blocks}
 use Rattle.file_objects.proofs.DistantRanges.{version_most, distants_few}
-use Rattle.pairs.specs.Records.{Pairs}
+use Rattle.pairs.specs.declared.Pairs.{Pairs}
 use Rattle.pairs.specs.Pairs.{pairs}
 use Rattle.layout.specs.declared.Layout.{Layout}
 use Rattle.layout.specs.Records.{Heading}

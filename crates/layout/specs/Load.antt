@@ -1,20 +1,20 @@
 -- Loading a layout file: the first fault met, or the layout (section 2).
 use Rattle.std.specs.Prelude.{ℕ, List, eqb, length}
 use Rattle.laws.specs.Choice.{when◌then◌else◌}
-use Rattle.fields.specs.Cursor.{Cursor}
+use Rattle.fields.specs.declared.Cursor.{Cursor}
 use Rattle.fields.specs.Fields.{code}
 use Rattle.track.specs.declared.Counts.{Counts}
 use Rattle.track.specs.Sizes.{most_sections, most_signals, last_version}
 use Rattle.track.specs.SignalNumbers.{signal_count}
-use Rattle.file_objects.specs.Records.{Owned}
-use Rattle.file_objects.specs.Records.{Lines}
-use Rattle.file_objects.specs.Records.{Distants}
-use Rattle.file_objects.specs.Records.{Routes}
+use Rattle.file_objects.specs.declared.Owned.{Owned}
+use Rattle.file_objects.specs.declared.Lines.{Lines}
+use Rattle.file_objects.specs.declared.distants.Distants.{Distants}
+use Rattle.file_objects.specs.declared.Routes.{Routes}
 use Rattle.file_objects.specs.Sections.{sections}
 use Rattle.file_objects.specs.Lines.{lines}
 use Rattle.file_objects.specs.Distants.{distants}
 use Rattle.file_objects.specs.Routes.{routes}
-use Rattle.pairs.specs.Records.{Pairs}
+use Rattle.pairs.specs.declared.Pairs.{Pairs}
 use Rattle.pairs.specs.Pairs.{pairs}
 use Rattle.layout.specs.Records.{Loaded}
 use Rattle.layout.specs.Records.{Heading}

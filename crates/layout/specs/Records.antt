@@ -1,6 +1,6 @@
 -- The layout file, as far as it could be read, and the answer to it (section 2).
 use Rattle.std.specs.Prelude.{ℕ, List}
-use Rattle.fields.specs.Cursor.{Cursor}
+use Rattle.fields.specs.declared.Cursor.{Cursor}
 use Rattle.layout.specs.declared.Layout.{Layout}
 
 -- what the file begins with: version, sections, points, signals

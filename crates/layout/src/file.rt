@@ -5,7 +5,7 @@ ghost use Rattle.layout.specs.Load.{heading, whole};
 ghost use Rattle.layout.specs.Reading.{HeadingRead, WholeRead};
 
 use super::{Layout, none_fitted};
-use fields::read_code;
+use fields::next_code;
 use numbers::Fault;
 use track::signals::signal_count;
 use track::sizes::{LAST_VERSION, LINES, MOST_SECTIONS, MOST_SIGNALS, POINTS};
@@ -26,10 +26,10 @@ fn read_heading(s: &[u8], at: &mut usize) -> Result<Heading, Fault>
     requires { at.old ≡ 0 }
     ensures { HeadingRead result at.new (heading s.now) }
 {
-    let version = read_code(s, at, 1, LAST_VERSION)?;
-    let sections = read_code(s, at, 1, MOST_SECTIONS)?;
-    let owned = file_objects::read_sections(s, at, sections)?;
-    let signals = read_code(s, at, 0, MOST_SIGNALS)?;
+    let version = next_code(s, at, 1, LAST_VERSION)?;
+    let sections = next_code(s, at, 1, MOST_SECTIONS)?;
+    let owned = file_objects::next_sections(s, at, sections)?;
+    let signals = next_code(s, at, 0, MOST_SIGNALS)?;
     let pointsection = owned.section;
     Ok(Heading {
         version,
@@ -60,12 +60,12 @@ pub fn read_layout(s: &[u8], at: &mut usize) -> Result<Layout, Fault>
         signals: h.signals,
         lines: 0,
     };
-    let l = file_objects::read_lines(s, at, counts)?;
+    let l = file_objects::next_lines(s, at, counts)?;
     let signals = few_signals(h.signals, l.count, &l.line);
-    let d = file_objects::read_distants(s, at, h.version, signals)?;
+    let d = file_objects::next_distants(s, at, h.version, signals)?;
     counts.lines = l.count;
-    let r = file_objects::read_routes(s, at, counts)?;
-    let p = pairs::read_pairs(s, at, r.count)?;
+    let r = file_objects::next_routes(s, at, counts)?;
+    let p = pairs::next_pairs(s, at, r.count)?;
     // A literal takes an array of a field by a variable alone.
     let pointsection = h.pointsection;
     let line = l.line;

@@ -10,10 +10,10 @@ use Rattle.laws.proofs.Choice.{Is, which, holds, fails}
 use Rattle.numbers.specs.Number.{largest}
 use Rattle.numbers.specs.Form.{Bytes}
 use Rattle.track.specs.Sizes.{most_distants}
-use Rattle.fields.specs.Cursor.{Cursor}
+use Rattle.fields.specs.declared.Cursor.{Cursor}
 use Rattle.fields.specs.Fields.{code, none_or_reference}
 use Rattle.fields.proofs.Ranges.{code_most}
-use Rattle.file_objects.specs.Records.{Distants}
+use Rattle.file_objects.specs.declared.distants.Distants.{Distants}
 use Rattle.file_objects.specs.Distants.{lists_none, no_distants, without_distants, carrier_read, announced_read, distant_turn, distants_from, distants}
 use Rattle.file_objects.proofs.DistantRanges.{from_count}
 use Rattle.layout.specs.declared.Layout.{Layout}

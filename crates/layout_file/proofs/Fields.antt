@@ -12,7 +12,7 @@ use Rattle.numbers.specs.Number.{Value, Fault}
 use Rattle.numbers.specs.Number.{largest, number_at}
 use Rattle.numbers.specs.Form.{encode, Bytes}
 use Rattle.numbers.proofs.Forms.{accepts, exact}
-use Rattle.fields.specs.Cursor.{Cursor}
+use Rattle.fields.specs.declared.Cursor.{Cursor}
 use Rattle.fields.specs.Fields.{failed, judge, field, code, reference}
 use Rattle.fields.proofs.Ranges.{form_bad}
 use Rattle.fields.proofs.Laws.{field_value}

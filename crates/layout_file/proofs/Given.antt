@@ -12,11 +12,11 @@ use Rattle.laws.proofs.Choice.{chosen}
 use Rattle.laws.proofs.Tests.{every_at}
 use Rattle.track.specs.Sizes.{most_sections, most_signals, most_routes, most_conflicts, last_version}
 use Rattle.track.specs.SignalNumbers.{signal_count}
-use Rattle.fields.specs.Cursor.{Cursor}
+use Rattle.fields.specs.declared.Cursor.{Cursor}
 use Rattle.fields.specs.Fields.{code}
-use Rattle.file_objects.specs.Records.{Lines}
-use Rattle.file_objects.specs.Records.{Distants}
-use Rattle.file_objects.specs.Records.{Routes}
+use Rattle.file_objects.specs.declared.Lines.{Lines}
+use Rattle.file_objects.specs.declared.distants.Distants.{Distants}
+use Rattle.file_objects.specs.declared.Routes.{Routes}
 use Rattle.file_objects.specs.Sections.{sections}
 use Rattle.file_objects.specs.Lines.{lines}
 use Rattle.file_objects.specs.Distants.{distants}

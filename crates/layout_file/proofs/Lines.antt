@@ -12,12 +12,12 @@ use Rattle.track.specs.Codes.{end_a, end_b}
 use Rattle.track.specs.Sizes.{most_points, most_lines, most_blocks}
 use Rattle.track.specs.Objects.{no_line, line, inner, entrance}
 use Rattle.track.proofs.OnlySection.{only_in}
-use Rattle.fields.specs.Cursor.{Cursor}
+use Rattle.fields.specs.declared.Cursor.{Cursor}
 use Rattle.fields.specs.Fields.{code, reference}
 use Rattle.fields.specs.Lists.{points}
 use Rattle.fields.proofs.Ranges.{code_most}
-use Rattle.file_objects.specs.Records.{Owned}
-use Rattle.file_objects.specs.Records.{Lines}
+use Rattle.file_objects.specs.declared.Owned.{Owned}
+use Rattle.file_objects.specs.declared.Lines.{Lines}
 use Rattle.file_objects.specs.Sections.{section_turn, sections, no_sections}
 use Rattle.file_objects.specs.Lines.{a_line, no_lines, line_turn, lines_from, lines}
 use Rattle.file_objects.proofs.Ranges.{sections_count, lines_count}

@@ -7,7 +7,7 @@ use lib.ListN.{length, get_or, set, replicate}
 use Rattle.laws.specs.Tables.{join, iter}
 use Rattle.numbers.specs.Number.{largest}
 use Rattle.numbers.specs.Form.{Bytes}
-use Rattle.fields.specs.Cursor.{Cursor}
+use Rattle.fields.specs.declared.Cursor.{Cursor}
 use Rattle.fields.specs.Fields.{code}
 use Rattle.layout_file.specs.Written.{listing}
 use Rattle.layout_file.proofs.Stands.{Stand, stand_then, stand_first, stand_rest, turns_stand}

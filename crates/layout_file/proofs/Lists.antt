@@ -8,9 +8,9 @@ use lib.ListN.{length, get_or, replicate, length-replicate}
 use Rattle.numbers.specs.Form.{Bytes}
 use Rattle.track.specs.Codes.{left, right}
 use Rattle.track.specs.Sizes.{most_sections, most_listed}
-use Rattle.fields.specs.Cursor.{Cursor}
-use Rattle.fields.specs.Cursor.{Items}
-use Rattle.fields.specs.Cursor.{Points}
+use Rattle.fields.specs.declared.Cursor.{Cursor}
+use Rattle.fields.specs.declared.Items.{Items}
+use Rattle.fields.specs.declared.Points.{Points}
 use Rattle.fields.specs.Fields.{code, reference}
 use Rattle.fields.specs.Lists.{item_turn, items, point_turn, points}
 use Rattle.fields.proofs.Ranges.{code_most, items_count, points_count}

@@ -14,20 +14,20 @@ use Rattle.track.specs.declared.Route.{Route}
 use Rattle.track.specs.Codes.{end_a, inner_route}
 use Rattle.track.specs.Sizes.{most_points, most_lines, most_distants, most_train_routes, most_listed, most_pairs}
 use Rattle.track.specs.Objects.{no_line, no_route, line, route}
-use Rattle.fields.specs.Cursor.{Cursor}
-use Rattle.fields.specs.Cursor.{Items}
-use Rattle.fields.specs.Cursor.{Points}
+use Rattle.fields.specs.declared.Cursor.{Cursor}
+use Rattle.fields.specs.declared.Items.{Items}
+use Rattle.fields.specs.declared.Points.{Points}
 use Rattle.fields.specs.Fields.{code, reference}
 use Rattle.fields.specs.Lists.{item_turn, items, point_turn, points}
-use Rattle.file_objects.specs.Records.{Owned}
-use Rattle.file_objects.specs.Records.{Lines}
-use Rattle.file_objects.specs.Records.{Distants}
-use Rattle.file_objects.specs.Records.{Routes}
+use Rattle.file_objects.specs.declared.Owned.{Owned}
+use Rattle.file_objects.specs.declared.Lines.{Lines}
+use Rattle.file_objects.specs.declared.distants.Distants.{Distants}
+use Rattle.file_objects.specs.declared.Routes.{Routes}
 use Rattle.file_objects.specs.Sections.{section_turn, sections, no_sections}
 use Rattle.file_objects.specs.Lines.{a_line, no_lines, line_turn, lines_from, lines}
 use Rattle.file_objects.specs.Distants.{lists_none, no_distants, without_distants, carrier_read, announced_read, distant_turn, distants_from, distants}
 use Rattle.file_objects.specs.Routes.{line_and_end, route_head, a_route, no_routes, route_turn, routes_from, routes}
-use Rattle.pairs.specs.Records.{Pairs}
+use Rattle.pairs.specs.declared.Pairs.{Pairs}
 use Rattle.pairs.specs.Pairs.{no_pairs, a_pair, pair_turn, pairs_from, named, pairs}
 use Rattle.layout.specs.Layout.{line_in, route_in}
 use Rattle.layout.specs.Load.{heading, whole, load}

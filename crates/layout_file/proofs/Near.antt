@@ -16,13 +16,13 @@ use Rattle.numbers.specs.Form.{encode, Bytes}
 use Rattle.numbers.proofs.Readings.{fault_place}
 use Rattle.numbers.proofs.Forms.{exact}
 use Rattle.track.specs.Sizes.{most_points, most_conflicts, most_listed}
-use Rattle.fields.specs.Cursor.{Cursor}
-use Rattle.fields.specs.Cursor.{Items}
-use Rattle.fields.specs.Cursor.{Points}
+use Rattle.fields.specs.declared.Cursor.{Cursor}
+use Rattle.fields.specs.declared.Items.{Items}
+use Rattle.fields.specs.declared.Points.{Points}
 use Rattle.fields.specs.Fields.{failed, judge, field, code, reference}
 use Rattle.fields.specs.Lists.{item_turn, items, point_turn, points}
 use Rattle.fields.proofs.Ranges.{code_most}
-use Rattle.file_objects.specs.Records.{Owned}
+use Rattle.file_objects.specs.declared.Owned.{Owned}
 use Rattle.file_objects.specs.Sections.{no_sections, section_turn, sections}
 use Rattle.layout_file.specs.Lengths.{items_span, points_span}
 use Rattle.layout_file.proofs.Sizes.{size_short, size_two}

@@ -18,11 +18,11 @@ use Rattle.laws.proofs.Loops.{iter_keeps}
 use Rattle.laws.proofs.Joins.{join_same, join_rest}
 use Rattle.numbers.specs.Form.{Bytes}
 use Rattle.track.specs.Sizes.{most_train_routes, most_routes, most_pairs, most_conflicts}
-use Rattle.fields.specs.Cursor.{Cursor}
+use Rattle.fields.specs.declared.Cursor.{Cursor}
 use Rattle.fields.specs.Fields.{failed, code, reference}
 use Rattle.fields.proofs.Ranges.{reference_in}
 use Rattle.pairs.specs.declared.Pair.{Pair}
-use Rattle.pairs.specs.Records.{Pairs}
+use Rattle.pairs.specs.declared.Pairs.{Pairs}
 use Rattle.pairs.specs.Pairs.{place_of, no_pairs, counted, pair_count, comes_after, in_order, pair_of, ordered, a_pair, listed, pair_turn, no_pair, pairs_from, named, pairs}
 use Rattle.layout_file.specs.Written.{pair_numbers}
 use Rattle.layout_file.proofs.Stands.{Stand, stand_none, stand_then}

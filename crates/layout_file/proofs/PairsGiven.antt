@@ -16,10 +16,10 @@ use Rattle.laws.proofs.Choice.{chosen}
 use Rattle.laws.proofs.Tests.{and_both, or_left, or_right}
 use Rattle.laws.proofs.Arrays.{nothing_at}
 use Rattle.track.specs.Sizes.{most_train_routes, most_routes, most_pairs, most_conflicts}
-use Rattle.fields.specs.Cursor.{Cursor}
+use Rattle.fields.specs.declared.Cursor.{Cursor}
 use Rattle.fields.specs.Fields.{code, reference}
 use Rattle.pairs.specs.declared.Pair.{Pair}
-use Rattle.pairs.specs.Records.{Pairs}
+use Rattle.pairs.specs.declared.Pairs.{Pairs}
 use Rattle.pairs.specs.Pairs.{place_of, no_pairs, counted, pair_count, comes_after, in_order, pair_of, ordered, a_pair, listed, pair_turn, no_pair, pairs_from, pairs}
 use Rattle.layout_file.specs.Written.{pair_numbers}
 use Rattle.layout_file.proofs.Stands.{Stand, stand_here, stand_first, stand_rest}

@@ -10,25 +10,25 @@ use Rattle.track.specs.declared.Counts.{Counts}
 use Rattle.track.specs.Codes.{inner_route}
 use Rattle.track.specs.Sizes.{most_sections, most_points, most_signals, most_lines, most_blocks, most_distants, most_train_routes, most_conflicts, most_listed, most_overlap, last_version}
 use Rattle.track.specs.SignalNumbers.{signal_count}
-use Rattle.fields.specs.Cursor.{Cursor}
+use Rattle.fields.specs.declared.Cursor.{Cursor}
 use Rattle.fields.specs.Fields.{failed, code, reference, none_or_reference}
 use Rattle.fields.specs.Lists.{items, points}
 use Rattle.fields.proofs.Ranges.{code_most}
-use Rattle.file_objects.specs.Records.{Owned}
-use Rattle.file_objects.specs.Records.{OneLine}
-use Rattle.file_objects.specs.Records.{Lines}
-use Rattle.file_objects.specs.Records.{Distants}
-use Rattle.file_objects.specs.Records.{End}
-use Rattle.file_objects.specs.Records.{Head}
-use Rattle.file_objects.specs.Records.{OneRoute}
-use Rattle.file_objects.specs.Records.{Routes}
+use Rattle.file_objects.specs.declared.Owned.{Owned}
+use Rattle.file_objects.specs.declared.OneLine.{OneLine}
+use Rattle.file_objects.specs.declared.Lines.{Lines}
+use Rattle.file_objects.specs.declared.distants.Distants.{Distants}
+use Rattle.file_objects.specs.declared.End.{End}
+use Rattle.file_objects.specs.declared.Head.{Head}
+use Rattle.file_objects.specs.declared.OneRoute.{OneRoute}
+use Rattle.file_objects.specs.declared.Routes.{Routes}
 use Rattle.file_objects.specs.Sections.{section_turn, sections}
 use Rattle.file_objects.specs.Lines.{a_line, no_lines, line_turn, lines_from, lines}
 use Rattle.file_objects.specs.Distants.{lists_none, no_distants, without_distants, distant_turn, distants_from, distants}
 use Rattle.file_objects.specs.Routes.{an_end, line_and_end, route_head, a_route, no_routes, route_turn, routes_from, routes}
 use Rattle.pairs.specs.declared.Pair.{Pair}
-use Rattle.pairs.specs.Records.{PairRead}
-use Rattle.pairs.specs.Records.{Pairs}
+use Rattle.pairs.specs.declared.PairRead.{PairRead}
+use Rattle.pairs.specs.declared.Pairs.{Pairs}
 use Rattle.pairs.specs.Pairs.{no_pairs, counted, pair_count, in_order, pair_of, ordered, a_pair, pair_turn, no_pair, pairs_from, named, pairs}
 use Rattle.pairs.proofs.Laws.{named_few}
 use Rattle.layout.specs.Records.{Heading}

@@ -15,10 +15,10 @@ use Rattle.track.specs.declared.Route.{Route}
 use Rattle.track.specs.Codes.{end_a, end_b, inner_route, entrance_route, exit_route}
 use Rattle.track.specs.Sizes.{most_lines, most_train_routes, most_listed, most_overlap}
 use Rattle.track.specs.Objects.{no_route, route}
-use Rattle.fields.specs.Cursor.{Cursor}
+use Rattle.fields.specs.declared.Cursor.{Cursor}
 use Rattle.fields.specs.Fields.{code, reference}
 use Rattle.fields.proofs.Ranges.{code_most}
-use Rattle.file_objects.specs.Records.{Routes}
+use Rattle.file_objects.specs.declared.Routes.{Routes}
 use Rattle.file_objects.specs.Routes.{an_end, line_and_end, route_head, a_route, no_routes, route_turn, routes_from, routes}
 use Rattle.file_objects.proofs.Ranges.{routes_count}
 use Rattle.layout.specs.declared.Layout.{Layout}

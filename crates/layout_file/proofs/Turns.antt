@@ -11,7 +11,7 @@ use Rattle.laws.specs.Tables.{join, iter}
 use Rattle.laws.proofs.Loops.{iter_keeps}
 use Rattle.laws.proofs.Joins.{join_same}
 use Rattle.laws.proofs.Arrays.{nothing_at}
-use Rattle.fields.specs.Cursor.{Cursor}
+use Rattle.fields.specs.declared.Cursor.{Cursor}
 use Rattle.layout_file.proofs.Stands.{Stand, stand_none, stand_then}
 
 -- ---- what was read stands there

@@ -14,15 +14,17 @@ use Rattle.laws.specs.Tables.{iter}
 use Rattle.laws.proofs.Choice.{if_eq, if_ne, if_both}
 use Rattle.numbers.specs.declared.Fault.{Fault}
 use Rattle.numbers.specs.declared.Fault.TheVariants.{OutOfRange}
+use Rattle.numbers.specs.Given.{number_of, detail_of}
 use Rattle.numbers.proofs.Same.{not_none}
 use Rattle.track.specs.Sizes.{most_train_routes, most_routes, most_pairs, most_conflicts}
-use Rattle.fields.specs.Cursor.{Cursor}
+use Rattle.fields.specs.declared.Cursor.{Cursor}
 use Rattle.fields.specs.Fields.{failed, field, code, reference}
 use Rattle.fields.specs.Reading.{Stands, Met, NumberRead}
-use Rattle.fields.proofs.Laws.{code_met, reference_met, after_turns}
+use Rattle.fields.proofs.Laws.{met_end, code_met, reference_met, after_turns}
 use Rattle.fields.proofs.Ranges.{reference_below}
 use Rattle.pairs.specs.declared.Pair.{Pair}
-use Rattle.pairs.specs.Records.{PairRead, Pairs}
+use Rattle.pairs.specs.declared.PairRead.{PairRead}
+use Rattle.pairs.specs.declared.Pairs.{Pairs}
 use Rattle.pairs.specs.Pairs.{place_of, no_pairs, counted, pair_count, in_order, pair_of, ordered, a_pair, listed, pair_turn, no_pair, pairs_from, named, pairs}
 use Rattle.pairs.specs.Reading.{CountRead, PairGiven, PairsRead}
 
@@ -38,6 +40,21 @@ module _ (s : List ℕ) (c : Cursor) where
   pub count_none : {f : Fault} → Met (field s c 0 (most_conflicts + 1) 23) f → Met (pair_count s c).cur f
   unfolding pair_count counted code
   count_none h = record { number = h.number; place = h.place }
+
+  -- the cursor behind it
+  count_told : (d : Cursor) {n at : ℕ} → d.fault ≡ 0 → d.at ≡ at → n ≡ d.value → record { cur = record { at = at; fault = 0; value = 0 }; pairs = n } ≡ counted d
+  unfolding counted
+  count_told d p q e = rw (← q, e) (ap (λ (f : ℕ). record { cur = record { at = d.at; fault = f; value = 0 }; pairs = d.value }) (sym p))
+
+  pub count_behind : {n at : ℕ} → CountRead (Ok n) at (pair_count s c) → record { cur = record { at = at; fault = 0; value = 0 }; pairs = n } ≡ pair_count s c
+  unfolding pair_count counted
+  count_behind h = count_told (code s c 0 most_conflicts) h.0.none h.0.place h.1
+
+  -- the cursor at a fault that is met
+  pub count_at_fault : {f : Fault} → c.fault ≡ 0 → Met (pair_count s c).cur f
+      → record { cur = record { at = detail_of f; fault = number_of f; value = 0 }; pairs = 0 } ≡ pair_count s c
+  unfolding pair_count counted code
+  count_at_fault e h = ap counted (met_end s c 0 (most_conflicts + 1) 23 e (record { number = h.number; place = h.place }))
 
   -- a fault before
   pub count_met : {f : Fault} → Met c f → Met (pair_count s c).cur f

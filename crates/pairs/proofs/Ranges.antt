@@ -14,11 +14,11 @@ use Rattle.laws.proofs.Tests.{and_left}
 use Rattle.laws.proofs.Arrays.{nothing_at}
 use Rattle.laws.proofs.Loops.{iter_keeps}
 use Rattle.track.specs.Sizes.{most_train_routes, most_routes, most_pairs, most_conflicts}
-use Rattle.fields.specs.Cursor.{Cursor}
+use Rattle.fields.specs.declared.Cursor.{Cursor}
 use Rattle.fields.specs.Fields.{failed, reference}
 use Rattle.fields.proofs.Ranges.{Known, code_known, code_in, reference_known, reference_in}
 use Rattle.pairs.specs.declared.Pair.{Pair}
-use Rattle.pairs.specs.Records.{Pairs}
+use Rattle.pairs.specs.declared.Pairs.{Pairs}
 use Rattle.pairs.specs.Pairs.{place_of, no_pairs, counted, pair_count, in_order, pair_of, ordered, a_pair, listed, pair_turn, pairs_from, named, pairs}
 
 -- ---- the number of pairs

@@ -3,7 +3,7 @@ use Prim.Native.Nat.{ℕ}
 use mathlib.Core.Path.{◌≡◌}
 use mathlib.Core.List.{List}
 use Rattle.laws.specs.Tables.{iter}
-use Rattle.fields.specs.Cursor.{Cursor}
+use Rattle.fields.specs.declared.Cursor.{Cursor}
 use Rattle.fields.specs.Fields.{failed}
 use Rattle.fields.proofs.Laws.{code_stays}
 use Rattle.track.specs.Sizes.{most_conflicts}

@@ -4,12 +4,12 @@ use Rattle.laws.specs.Choice.{when◌then◌else◌}
 use Rattle.laws.specs.Tests.{◌and◌, ◌or◌}
 use Rattle.laws.specs.Tables.{iter}
 use Rattle.track.specs.Sizes.{most_train_routes, most_routes, most_pairs, most_conflicts}
-use Rattle.fields.specs.Cursor.{Cursor}
+use Rattle.fields.specs.declared.Cursor.{Cursor}
 use Rattle.fields.specs.Fields.{failed, code, reference}
-use Rattle.pairs.specs.Records.{Count}
+use Rattle.pairs.specs.declared.Count.{Count}
 use Rattle.pairs.specs.declared.Pair.{Pair}
-use Rattle.pairs.specs.Records.{PairRead}
-use Rattle.pairs.specs.Records.{Pairs}
+use Rattle.pairs.specs.declared.PairRead.{PairRead}
+use Rattle.pairs.specs.declared.Pairs.{Pairs}
 
 -- the place of the routes i and j in the table of conflicts
 unfoldable pub place_of : ℕ → ℕ → ℕ

@@ -3,8 +3,10 @@ use Rattle.std.specs.Prelude.{ℕ, ◌≡◌, Result}
 use Rattle.numbers.specs.declared.Fault.{Fault}
 use Rattle.fields.specs.Reading.{Reads}
 use Rattle.pairs.specs.declared.Pair.{Pair}
-use Rattle.pairs.specs.declared.Pairs.{Pairs as TableGiven}
-use Rattle.pairs.specs.Records.{Count, PairRead, Pairs}
+use Rattle.pairs.specs.declared.place.Pairs.{Pairs as TableGiven}
+use Rattle.pairs.specs.declared.Count.{Count}
+use Rattle.pairs.specs.declared.PairRead.{PairRead}
+use Rattle.pairs.specs.declared.Pairs.{Pairs}
 
 -- the number of pairs
 abbrev pub CountRead : Result ℕ Fault → ℕ → Count → Type 0

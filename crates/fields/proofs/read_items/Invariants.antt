@@ -1,8 +1,7 @@
--- So many numbers of the list are read.
-use Rattle.fields.specs.Cursor.{Cursor}
-use Rattle.fields.specs.Reading.{Stands}
-use Rattle.fields.proofs.Turns.{ItemsDone}
+-- So many turns are done.
+use Rattle.laws.proofs.Loops.{Turned}
+use Rattle.fields.specs.Lists.{item_turn}
 use Rattle.fields.proofs.read_items.Given as goal
 
 abbrev pub invariant-loop-i : goal.invariant-loop-i
-invariant-loop-i l = (c : Cursor) → Stands c l.fn.at → ItemsDone l.s c l.low l.high l.objects l.count l.item l.at l.i
+invariant-loop-i l = Turned l.i-end (item_turn l.s l.objects) l.initial.t l.t l.i

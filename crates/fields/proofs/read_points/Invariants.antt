@@ -1,8 +1,7 @@
--- So many points are read, with their positions.
-use Rattle.fields.specs.Cursor.{Cursor}
-use Rattle.fields.specs.Reading.{Stands}
-use Rattle.fields.proofs.Turns.{PointsDone}
+-- So many turns are done.
+use Rattle.laws.proofs.Loops.{Turned}
+use Rattle.fields.specs.Lists.{point_turn}
 use Rattle.fields.proofs.read_points.Given as goal
 
 abbrev pub invariant-loop-i : goal.invariant-loop-i
-invariant-loop-i l = (c : Cursor) → Stands c l.fn.at → PointsDone l.s c l.objects l.count l.point l.position l.at l.i
+invariant-loop-i l = Turned l.i-end (point_turn l.s l.objects) l.initial.t l.t l.i

@@ -1,17 +1,18 @@
--- A fault of the number form, too many, or so many.
-use Rattle.std.proofs.lemmas.Result.{err_from_is_err_and}
-use mathlib.Core.Path.{refl}
-use native.Mathlib.Omega.{arith}
-use Rattle.numbers.specs.declared.Fault.TheVariants.{OutOfRange}
-use Rattle.fields.proofs.Laws.{bad_place, next_bad, next_high, next_in}
-use Rattle.pairs.proofs.Laws.{count_given, count_none}
+-- A fault met before stays; one that is met here ends the reading, with no number; else the number that was read.
+use mathlib.Core.Path.{refl, sym}
+use Rattle.fields.specs.Fields.{failed}
+use Rattle.pairs.proofs.Laws.{count_behind, count_at_fault}
+use Rattle.pairs.proofs.Stays.{count_stays}
 use Rattle.pairs.proofs.pair_count.Goals as goal
 
-pub returns-in_err-count : goal.returns-in_err-count
-returns-in_err-count c = λ k h. let p = err_from_is_err_and c.from_residual.result c.from_residual.ensures.1 in rw (p.1, p.2) (count_none _ k (next_bad _ k 0 _ (OutOfRange c.args.at.now) h c.in_err-count.ensures), bad_place _ _ c.in_err-count.ensures)
+pub returns-then-c-ne0 : goal.returns-then-c-ne0
+unfolding failed
+returns-then-c-ne0 c = count_stays _ _ c.if-c-ne0.true
 
-pub returns-then-count-gt-MOST_CONFLICTS : goal.returns-then-count-gt-MOST_CONFLICTS
-returns-then-count-gt-MOST_CONFLICTS c = λ k h. (count_none _ k (next_high _ k 0 _ (OutOfRange c.args.at.now) h _ c.in_ok-count.ensures refl (omega arith) (omega arith)), refl)
+pub returns-in-Ok : goal.returns-in-Ok
+returns-in-Ok c = count_behind _ _ (c.in-Ok.ensures _ (record { none = c.if-c-ne0.false; place = refl }))
 
-pub returns : goal.returns
-returns c = λ k h. count_given _ k (next_in _ k 0 _ (OutOfRange c.args.at.now) h _ c.in_ok-count.ensures (omega arith) (omega arith))
+pub returns-in-Err : goal.returns-in-Err
+returns-in-Err c =
+    rw (c.detail.ensures, c.number.ensures)
+    (count_at_fault _ _ c.if-c-ne0.false (c.in-Err.ensures _ (record { none = c.if-c-ne0.false; place = refl })).0)

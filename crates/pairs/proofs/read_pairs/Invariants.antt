@@ -1,8 +1,7 @@
--- So many pairs are read.
-use Rattle.fields.specs.Cursor.{Cursor}
-use Rattle.fields.specs.Reading.{Stands}
-use Rattle.pairs.proofs.Laws.{PairsDone}
+-- So many turns are done.
+use Rattle.laws.proofs.Loops.{Turned}
+use Rattle.pairs.specs.Pairs.{pair_turn}
 use Rattle.pairs.proofs.read_pairs.Given as goal
 
 abbrev pub invariant-loop-i : goal.invariant-loop-i
-invariant-loop-i l = (c : Cursor) → Stands c l.fn.at → PairsDone l.s l.routes c l.count l.last l.conflict l.at l.i
+invariant-loop-i l = Turned l.i-end (pair_turn l.s l.few) l.initial.t l.t l.i

@@ -1,8 +1,7 @@
--- So many distants are read, of a version that lists them.
-use Rattle.fields.specs.Cursor.{Cursor}
-use Rattle.fields.specs.Reading.{Stands}
-use Rattle.file_objects.proofs.DistantTurns.{DistantsDone}
+-- So many turns are done.
+use Rattle.laws.proofs.Loops.{Turned}
+use Rattle.file_objects.specs.Distants.{distant_turn}
 use Rattle.file_objects.proofs.distants.read_distants.Given as goal
 
 abbrev pub invariant-loop-i : goal.invariant-loop-i
-invariant-loop-i l = (c : Cursor) → Stands c l.fn.at → DistantsDone l.s l.signals c l.count l.carrier l.announced l.at l.i
+invariant-loop-i l = Turned l.i-end (distant_turn l.s l.signals) l.initial.t l.t l.i

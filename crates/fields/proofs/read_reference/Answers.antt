@@ -1,7 +1,0 @@
--- The next number, with fault 24.
-use Rattle.fields.specs.Fields.{reference}
-use Rattle.fields.proofs.read_reference.Goals as goal
-
-pub returns : goal.returns
-unfolding reference
-returns c = λ k h. rw c.wide.ensures at c.next.ensures k h

@@ -1,0 +1,24 @@
+-- So many routes are read; a fault ends them.
+use native.Mathlib.Omega.{arith}
+use Rattle.std.proofs.lemmas.Result.{err_from_is_err_and}
+use Rattle.fields.proofs.Laws.{begun}
+use Rattle.file_objects.proofs.Turns.{routes_begin, routes_few, routes_next, routes_none, routes_cut, routes_end}
+use Rattle.file_objects.proofs.place.next_routes.Goals as goal
+
+pub returns-in_err-count : goal.returns-in_err-count
+returns-in_err-count c = λ k h. let p = err_from_is_err_and c.from_residual.result c.from_residual.ensures.1 in rw (p.1, p.2) (let m = c.in_err-count.ensures k h in (routes_none _ _ k m.0, m.1))
+
+pub loop-i-init : goal.loop-i-init
+loop-i-init c = λ k h. rw c.no_routes-route.ensures (routes_begin _ _ k (c.in_ok-count.ensures k h))
+
+pub returns-in_err-one : goal.returns-in_err-one
+returns-in_err-one c = λ k h. let p = err_from_is_err_and c.from_residual-in_err-one.result c.from_residual-in_err-one.ensures.1 in rw (p.1, p.2) (let d = c.loop-i.invariant k h in let m = c.in_err-one.ensures _ d.stands in (routes_cut _ _ k _ d (omega arith) m.0, m.1))
+
+pub bounds-route-i : goal.bounds-route-i
+bounds-route-i c = omega (arith, routes_few _ _ _ (c.loop-i.invariant _ (begun _)))
+
+pub loop-i-preserved : goal.loop-i-preserved
+loop-i-preserved c = λ k h. let d = c.loop-i.invariant k h in routes_next _ _ k _ d (c.in_ok-one.ensures _ d.stands)
+
+pub returns : goal.returns
+returns c = λ k h. routes_end _ _ k _ (c.loop-i.invariant k h) (omega arith) (omega arith)
