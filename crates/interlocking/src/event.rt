@@ -11,8 +11,8 @@ use super::trial::{Done, Lent, gives_nothing, tables_of};
 use super::{Core, heads, orders};
 use axles::Axles;
 use reasons::events::{is_fitted, is_outside, no_such_block};
-use reasons::{Reason, refused_if};
-use refusals::numbers_refusal;
+use reasons::{Reason, reason_if};
+use refusals::numbers_reason;
 use tables::{Gives, reading_for};
 use track::codes::{
     A_TO_B, B_TO_A, BAR, CANCEL_ROUTE, LEFT, READ_POINT, READ_SECTION, RELEASE_LINE, REPORT_LAMP,
@@ -30,11 +30,11 @@ impl Core {
         ensures { tried_by self result ≡ tried a.entry.sound self section (section_row a.entry.layout.now (headless self a.entry.lamps.now) section code) }
     {
         let missing = a.layout.sections as u32 <= section;
-        let misfit = refused_if(
+        let misfit = reason_if(
             is_fitted(&a.layout.fitted, section),
             Reason::HasHeads(section),
         );
-        numbers_refusal(a.sound, missing, section, misfit, false)?;
+        numbers_reason(a.sound, missing, section, misfit, false)?;
         let g = section as u8;
         let reading = reading_for(code);
         Ok(Done {
@@ -53,7 +53,7 @@ impl Core {
         ensures { tried_by self result ≡ tried a.entry.sound self point (point_row a.entry.layout.now (headless self a.entry.lamps.now) point code) }
     {
         let missing = a.layout.points as u32 <= point;
-        numbers_refusal(a.sound, missing, point, Ok(()), false)?;
+        numbers_reason(a.sound, missing, point, Ok(()), false)?;
         Ok(Done {
             next: orders::read_point(self, point as u8, reading_for(code)),
             gives: gives_nothing(),
@@ -67,7 +67,7 @@ impl Core {
     {
         let missing = a.layout.points as u32 <= point;
         let wrong = is_outside(LEFT as u32, RIGHT as u32, position);
-        numbers_refusal(a.sound, missing, point, Ok(()), wrong)?;
+        numbers_reason(a.sound, missing, point, Ok(()), wrong)?;
         let p = point as u8;
         refusals::throw_refusal(a.layout, tables_of(&self, a.lamps), p)?;
         Ok(Done {
@@ -82,7 +82,7 @@ impl Core {
         ensures { tried_by self result ≡ tried a.entry.sound self route (set_row a.entry.layout.now (headless self a.entry.lamps.now) route unused) }
     {
         let missing = a.layout.routes as u32 <= route;
-        numbers_refusal(a.sound, missing, route, Ok(()), unused != 0)?;
+        numbers_reason(a.sound, missing, route, Ok(()), unused != 0)?;
         let r = route as u8;
         refusals::set_refusal(a.layout, tables_of(&self, a.lamps), r)?;
         let first = orders::secure_first(self, route_at(&a.layout.route, r));
@@ -98,7 +98,7 @@ impl Core {
         ensures { tried_by self result ≡ tried a.entry.sound self route (cancel_row a.entry.layout.now (headless self a.entry.lamps.now) route unused) }
     {
         let missing = a.layout.routes as u32 <= route;
-        numbers_refusal(a.sound, missing, route, Ok(()), unused != 0)?;
+        numbers_reason(a.sound, missing, route, Ok(()), unused != 0)?;
         let r = route as u8;
         refusals::cancel_refusal(tables_of(&self, a.lamps), r)?;
         Ok(Done {
@@ -114,7 +114,7 @@ impl Core {
     {
         let missing = a.layout.lines as u32 <= line;
         let wrong = is_outside(A_TO_B as u32, B_TO_A as u32, direction);
-        numbers_refusal(a.sound, missing, line, Ok(()), wrong)?;
+        numbers_reason(a.sound, missing, line, Ok(()), wrong)?;
         let l = line as u8;
         let w = direction as u8;
         refusals::secure_refusal(a.layout, tables_of(&self, a.lamps), l, w)?;
@@ -132,7 +132,7 @@ impl Core {
     {
         let missing = a.layout.lines as u32 <= line;
         let wrong = is_outside(1, 3, ground);
-        numbers_refusal(a.sound, missing, line, Ok(()), wrong)?;
+        numbers_reason(a.sound, missing, line, Ok(()), wrong)?;
         let l = line as u8;
         refusals::manual_refusal(a.layout, tables_of(&self, a.lamps), l)?;
         Ok(Done {
@@ -148,7 +148,7 @@ impl Core {
     {
         let missing = a.layout.lines as u32 <= line;
         let wrong = no_such_block(a.layout, line, block);
-        numbers_refusal(a.sound, missing, line, Ok(()), wrong)?;
+        numbers_reason(a.sound, missing, line, Ok(()), wrong)?;
         Ok(Done {
             next: orders::set_bar(self, line as u8, block, bar),
             gives: gives_nothing(),
@@ -161,7 +161,7 @@ impl Core {
         ensures { tried_by self result ≡ tried a.entry.sound self first (second_row (headless self a.entry.lamps.now) first second) }
     {
         let wrong = !((first == 0) & (second == 0));
-        numbers_refusal(a.sound, false, first, Ok(()), wrong)?;
+        numbers_reason(a.sound, false, first, Ok(()), wrong)?;
         Ok(Done {
             next: self,
             gives: Gives {
@@ -179,7 +179,7 @@ impl Core {
     {
         let count = signal_count(a.layout.signals, a.layout.lines, &a.layout.line);
         let missing = count <= signal as u64;
-        numbers_refusal(a.sound, missing, signal, Ok(()), false)?;
+        numbers_reason(a.sound, missing, signal, Ok(()), false)?;
         Ok(Done {
             next: self,
             gives: gives_nothing(),
@@ -210,7 +210,7 @@ impl Core {
     fn unknown(self, a: Lent, first: u32) -> Result<Done, Reason>
         ensures { tried_by self result ≡ tried a.entry.sound self first (no_row (headless self a.entry.lamps.now)) }
     {
-        numbers_refusal(a.sound, false, first, Ok(()), false)?;
+        numbers_reason(a.sound, false, first, Ok(()), false)?;
         Err(Reason::UnknownKind)
     }
 }

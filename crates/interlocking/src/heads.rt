@@ -11,8 +11,8 @@ use super::trial::{Done, Lent};
 use super::{Core, orders};
 use axles::Axles;
 use reasons::events::is_fitted;
-use reasons::{Reason, refused_if};
-use refusals::numbers_refusal;
+use reasons::{Reason, reason_if};
+use refusals::numbers_reason;
 use tables::Gives;
 use track::codes::{AXLES_IN, AXLES_OUT, RESET_AXLES};
 use track::sizes::SECTIONS;
@@ -40,8 +40,8 @@ fn said_of(
     requires { a.sound ≡ true → a.layout.now.lines ≤ most_lines }
     ensures { tried_by s result ≡ tried a.entry.sound s first (head_row a.entry.layout.now (headless s a.entry.lamps.now) y g missing wrong (told besides)) }
 {
-    let misfit = refused_if(!is_fitted(&a.layout.fitted, g), Reason::NoHeads(g));
-    numbers_refusal(a.sound, missing, first, misfit, wrong)?;
+    let misfit = reason_if(!is_fitted(&a.layout.fitted, g), Reason::NoHeads(g));
+    numbers_reason(a.sound, missing, first, misfit, wrong)?;
     besides?;
     let section = fitted_number(&a.layout.fitted, g);
     let reading = axles::reading(y);
@@ -82,7 +82,7 @@ fn silence(x: Axles, kind: u32, g: u32) -> Result<(), Reason>
     ensures { told result ≡ silence x kind g }
 {
     if kind == RESET_AXLES {
-        return refused_if(!axles::are_speaking(x), Reason::HeadSilent(g));
+        return reason_if(!axles::are_speaking(x), Reason::HeadSilent(g));
     }
     Ok(())
 }

@@ -4,7 +4,10 @@ use Rattle.reasons.proofs.Told.{told_once}
 use Rattle.reasons.proofs.arrival_dark.Reads as arrival_dark
 use Rattle.reasons.proofs.answers.Reason.number.Reads as number
 use Rattle.reasons.proofs.answers.Reason.detail.Reads as detail
-use Rattle.reasons.proofs.answers.refused_if.Reads as refused_if
+use Rattle.reasons.proofs.answers.reason_if.Reads as reason_if
+use Rattle.reasons.proofs.refusal.no_refusal.Reads as no_refusal
+use Rattle.reasons.proofs.refusal.refuse.Reads as refuse
+use Rattle.reasons.proofs.refusal.refused_if.Reads as refused_if
 use Rattle.reasons.proofs.conflicting.Reads as conflicting
 use Rattle.reasons.proofs.by_route.Reads as by_route
 use Rattle.reasons.proofs.by_line.Reads as by_line
@@ -42,9 +45,21 @@ number_determined κs a r q s = only
 pub detail_determined : Determines detail.Post
 detail_determined κs a r q s = only
 
+-- a reason where a test holds
+pub reason_if_determined : Determines reason_if.Post
+reason_if_determined κs a r q s = told_once r q
+
+-- no refusal
+pub no_refusal_determined : Determines no_refusal.Post
+no_refusal_determined κs a r q s = only
+
+-- a refusal by its number and detail
+pub refuse_determined : Determines refuse.Post
+refuse_determined κs a r q s = only
+
 -- a refusal where a test holds
 pub refused_if_determined : Determines refused_if.Post
-refused_if_determined κs a r q s = told_once r q
+refused_if_determined κs a r q s = only
 
 -- 5: a conflicting route is locked
 pub conflicting_determined : Determines conflicting.Post

@@ -2,11 +2,11 @@
 use Rattle.std.specs.Prelude.{ℕ, Bool, List, [], ◌∷◌, eqb, ltb}
 use Rattle.laws.specs.Choice.{when◌then◌else◌}
 use Rattle.laws.specs.Tests.{lowest}
+use Rattle.reasons.specs.declared.refusal.Refusal.{Refusal as Declared}
 
--- a number and a detail
-pub record Refusal : Type 0 where
-  pub number : ℕ
-  pub detail : ℕ
+-- a number and a detail: the record that the code declares
+abbrev pub Refusal : Type 0
+Refusal = Declared
 
 -- a refusal by its number and detail; no refusal
 unfoldable pub refused : ℕ → ℕ → Refusal

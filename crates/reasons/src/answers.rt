@@ -84,7 +84,7 @@ impl Reason {
 
 // Refused for the reason where the test holds.
 #[tactic(auto, using(crate::proofs::Decided::decided), unfolding(crate::specs::Refusal::refused_if))]
-pub fn refused_if(test: bool, reason: Reason) -> Result<(), Reason>
+pub fn reason_if(test: bool, reason: Reason) -> Result<(), Reason>
     ensures { told result ≡ refused_if test (number_of reason) (detail_of reason) }
 {
     if test {

@@ -4,6 +4,7 @@
 
 mod answers;
 pub mod events;
+mod refusal;
 pub mod searches;
 
 ghost use Rattle.std.specs.Prelude.{◌≡◌, not, eqb, ltb};
@@ -22,10 +23,11 @@ ghost use Rattle.reasons.specs.Refusal.{refused_if};
 ghost use Rattle.reasons.specs.Told.{told};
 ghost use Rattle.reasons.specs.Reasons.{not_free, not_placed, conflicting, by_route, by_line, exit_locked, block_barred, block_held, arrival_dark};
 
-pub use answers::{Reason, refused_if};
+pub use answers::{Reason, reason_if};
 use lamps::reports_none;
 use layout::Layout;
 use passage::arrival_end;
+pub use refusal::{Refusal, no_refusal, refuse, refused_if};
 use searches::section_of;
 use tables::in_the_way::{unfree_blocks, unfree_of, with_unfree};
 use tables::{direction_of, is_locked, is_open, is_unbarred, phase_of, section_reads};
@@ -178,14 +180,14 @@ pub fn line_not_free<'a>(
 pub fn already_locked(phases: &[u8; ROUTES], r: u8) -> Result<(), Reason>
     ensures { told result ≡ refused_if (locked phases.now r) 4 r }
 {
-    refused_if(is_locked(phases, r), Reason::RouteLocked(r))
+    reason_if(is_locked(phases, r), Reason::RouteLocked(r))
 }
 
 // 13: the route is not locked.
 pub fn not_locked(phases: &[u8; ROUTES], r: u8) -> Result<(), Reason>
     ensures { told result ≡ refused_if (not (locked phases.now r)) 13 r }
 {
-    refused_if(!is_locked(phases, r), Reason::RouteNotLocked(r))
+    reason_if(!is_locked(phases, r), Reason::RouteNotLocked(r))
 }
 
 // 14: the route is cancelling already.
@@ -193,7 +195,7 @@ pub fn already_cancelling(phases: &[u8; ROUTES], r: u8) -> Result<(), Reason>
     ensures { told result ≡ refused_if (eqb (phase phases.now r) cancelling) 14 r }
 {
     let phase = phase_of(phases, r);
-    refused_if(phase == CANCELLING, Reason::RouteCancelling(r))
+    reason_if(phase == CANCELLING, Reason::RouteCancelling(r))
 }
 
 // 9: the line is not secured that way.
@@ -201,7 +203,7 @@ pub fn not_secured(directions: &[u8; LINES], l: u8, end: u8) -> Result<(), Reaso
     ensures { told result ≡ refused_if (not (eqb (direction directions.now l) (leaving end))) 9 l }
 {
     let direction = direction_of(directions, l);
-    refused_if(direction != direction_from(end), Reason::LineNotSecured(l))
+    reason_if(direction != direction_from(end), Reason::LineNotSecured(l))
 }
 
 // 12: the line is already secured; the detail is its direction.
@@ -209,7 +211,7 @@ pub fn already_secured(directions: &[u8; LINES], l: u8) -> Result<(), Reason>
     ensures { told result ≡ refused_if (not (eqb (direction directions.now l) neutral)) 12 (direction directions.now l) }
 {
     let direction = direction_of(directions, l);
-    refused_if(direction != NEUTRAL, Reason::LineSecured(direction))
+    reason_if(direction != NEUTRAL, Reason::LineSecured(direction))
 }
 
 // 11: the block that an exit route enters is barred.
@@ -223,7 +225,7 @@ pub fn entered_barred<'a>(
     let b = line_at(ls, a.line);
     let i = nearest_block(b, a.end);
     let free = is_unbarred(bars, a.line, i);
-    refused_if(!free, Reason::BlockBarred(detail_section(b, i)))
+    reason_if(!free, Reason::BlockBarred(detail_section(b, i)))
 }
 
 // 10: the block that an exit route enters is held.
@@ -237,7 +239,7 @@ pub fn entered_held<'a>(
     let b = line_at(ls, a.line);
     let i = nearest_block(b, a.end);
     let open = is_open(stages, a.line, i);
-    refused_if(!open, Reason::BlockHeld(detail_section(b, i)))
+    reason_if(!open, Reason::BlockHeld(detail_section(b, i)))
 }
 
 // 31: the lamp of the entrance signal at the arrival end of line l in direction w reports none.
@@ -250,5 +252,5 @@ pub fn arrival_dark<'a>(
     ensures { told result ≡ arrival_dark (line ls.now l) lamps.now w }
 {
     let x = entrance_at(line_at(ls, l), arrival_end(w));
-    refused_if(reports_none(lamps, x), Reason::SignalDark(x))
+    reason_if(reports_none(lamps, x), Reason::SignalDark(x))
 }

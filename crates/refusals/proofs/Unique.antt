@@ -1,7 +1,8 @@
 -- No second result meets the contract of a public function. Each `Post` is the contract itself, as the function is proved to meet it.
-use Rattle.laws.proofs.Only.{Determines}
+use Rattle.laws.proofs.Only.{Determines, only}
 use Rattle.reasons.proofs.Told.{told_once}
 use Rattle.refusals.proofs.numbers_refusal.Reads as numbers_refusal
+use Rattle.refusals.proofs.numbers_reason.Reads as numbers_reason
 use Rattle.refusals.proofs.throw_refusal.Reads as throw_refusal
 use Rattle.refusals.proofs.set_refusal.Reads as set_refusal
 use Rattle.refusals.proofs.cancel_refusal.Reads as cancel_refusal
@@ -10,7 +11,11 @@ use Rattle.refusals.proofs.manual_refusal.Reads as manual_refusal
 
 -- what is refused of any event by its numbers
 pub numbers_refusal_determined : Determines numbers_refusal.Post
-numbers_refusal_determined κs a r q s = told_once r q
+numbers_refusal_determined κs a r q s = only
+
+-- the same by a reason
+pub numbers_reason_determined : Determines numbers_reason.Post
+numbers_reason_determined κs a r q s = told_once r q
 
 -- of a throw
 pub throw_refusal_determined : Determines throw_refusal.Post

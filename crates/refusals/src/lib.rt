@@ -11,14 +11,37 @@ ghost use Rattle.refusals.specs.Events.{numbers_refusal};
 ghost use Rattle.refusals.specs.Orders.{throw_refusal, way_refusal, exit_refusal, route_refusal, set_refusal, cancel_refusal, secure_refusal, manual_refusal};
 
 use layout::Layout;
-use reasons::{Reason, refused_if};
+use reasons::{Reason, Refusal, reason_if, refuse, refused_if};
 use tables::{Tables, departs};
 use track::codes::EXIT_ROUTE;
 use track::{Route, direction_from, route_at};
 
-// What is refused of any event by its numbers.
-#[tactic(auto, using(reasons::proofs::Laws::firsts), unfolding(crate::specs::Events::numbers_refusal))]
+// What is refused of any event by its numbers; the misfit is a refusal of any number.
+#[tactic(auto, using(reasons::proofs::Laws::firsts, reasons::proofs::Decided::decided), unfolding(crate::specs::Events::numbers_refusal, reasons::specs::Refusal::refused_if))]
 pub fn numbers_refusal(
+    sound: bool,
+    missing: bool,
+    first: u32,
+    misfit: Refusal,
+    wrong: bool,
+) -> Refusal
+    ensures { result ≡ numbers_refusal sound missing first misfit wrong }
+{
+    if !sound {
+        return refuse(Reason::Unsound.number(), 0);
+    }
+    if missing {
+        return refuse(Reason::NoSuchObject(first).number(), first);
+    }
+    if misfit.number != 0 {
+        return misfit;
+    }
+    refused_if(wrong, Reason::WrongNumber.number(), 0)
+}
+
+// The same by a reason: the misfit is one that the paper has.
+#[tactic(auto, using(reasons::proofs::Laws::firsts), unfolding(crate::specs::Events::numbers_refusal))]
+pub fn numbers_reason(
     sound: bool,
     missing: bool,
     first: u32,
@@ -27,10 +50,10 @@ pub fn numbers_refusal(
 ) -> Result<(), Reason>
     ensures { told result ≡ numbers_refusal sound missing first (told misfit) wrong }
 {
-    refused_if(!sound, Reason::Unsound)?;
-    refused_if(missing, Reason::NoSuchObject(first))?;
+    reason_if(!sound, Reason::Unsound)?;
+    reason_if(missing, Reason::NoSuchObject(first))?;
     misfit?;
-    refused_if(wrong, Reason::WrongNumber)
+    reason_if(wrong, Reason::WrongNumber)
 }
 
 // What is refused of a throw.

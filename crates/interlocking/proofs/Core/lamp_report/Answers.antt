@@ -11,4 +11,4 @@ use Rattle.interlocking.proofs.Core.lamp_report.Goals as goal
 -- done
 pub returns : goal.returns
 unfolding lamp_row own_lamp with_lamps core_of
-returns c = moves_on _ _ _ _ _ (lamp_row c.args.a.layout.now (headless c.args.self c.args.a.lamps.now) c.args.signal c.args.code) _ c.in_ok-numbers_refusal.ensures (ap (λ n. leb n c.args.signal) c.signal_count-count.ensures) refl refl refl _ _ refl c.gives_nothing.ensures
+returns c = moves_on _ _ _ _ _ (lamp_row c.args.a.layout.now (headless c.args.self c.args.a.lamps.now) c.args.signal c.args.code) _ c.in_ok-numbers_reason.ensures (ap (λ n. leb n c.args.signal) c.signal_count-count.ensures) refl refl refl _ _ refl c.gives_nothing.ensures

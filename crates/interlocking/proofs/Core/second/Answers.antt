@@ -9,4 +9,4 @@ use Rattle.interlocking.proofs.Core.second.Goals as goal
 -- done
 pub returns : goal.returns
 unfolding second_row a_second core_of ◌and◌
-returns c = moves_on _ _ _ _ _ (second_row (headless c.args.self c.args.a.lamps.now) c.args.first c.args.second) _ c.in_ok-numbers_refusal.ensures refl refl refl refl _ _ refl refl
+returns c = moves_on _ _ _ _ _ (second_row (headless c.args.self c.args.a.lamps.now) c.args.first c.args.second) _ c.in_ok-numbers_reason.ensures refl refl refl refl _ _ refl refl

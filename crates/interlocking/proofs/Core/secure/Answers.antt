@@ -11,13 +11,13 @@ use Rattle.interlocking.proofs.Core.secure.Goals as goal
 
 -- the number fits a byte
 pub overflow_cast-l : goal.overflow_cast-l
-overflow_cast-l c = let o = object_below _ _ _ _ _ c.in_ok-numbers_refusal.ensures _ refl in omega arith
+overflow_cast-l c = let o = object_below _ _ _ _ _ c.in_ok-numbers_reason.ensures _ refl in omega arith
 
 -- the second number fits a byte
 pub overflow_cast-w : goal.overflow_cast-w
-overflow_cast-w c = let o = second_fits _ _ _ _ _ c.in_ok-numbers_refusal.ensures _ c.is_outside-wrong.ensures in omega arith
+overflow_cast-w c = let o = second_fits _ _ _ _ _ c.in_ok-numbers_reason.ensures _ c.is_outside-wrong.ensures in omega arith
 
 -- done
 pub returns : goal.returns
 unfolding secure_row own_secure with_lines core_of
-returns c = moves_on _ _ _ _ _ (secure_row c.args.a.layout.now (headless c.args.self c.args.a.lamps.now) c.args.line c.args.direction) _ c.in_ok-numbers_refusal.ensures refl refl c.is_outside-wrong.ensures (c.in_ok-secure_refusal.ensures ∙ ap (λ t. secure_refusal c.args.a.layout.now t c.args.line c.args.direction) c.tables_of.ensures) _ _ c.secure.ensures c.gives_nothing.ensures
+returns c = moves_on _ _ _ _ _ (secure_row c.args.a.layout.now (headless c.args.self c.args.a.lamps.now) c.args.line c.args.direction) _ c.in_ok-numbers_reason.ensures refl refl c.is_outside-wrong.ensures (c.in_ok-secure_refusal.ensures ∙ ap (λ t. secure_refusal c.args.a.layout.now t c.args.line c.args.direction) c.tables_of.ensures) _ _ c.secure.ensures c.gives_nothing.ensures
