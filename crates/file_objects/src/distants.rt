@@ -18,6 +18,7 @@ pub struct Distants {
 }
 
 // The most distants of a version: version 1 has none.
+#[tactic(auto, using(laws::proofs::Choice::choices), unfolding(crate::specs::Distants::most_distants_of))]
 pub fn most_distants_of(version: u8) -> u8
     ensures { result ≡ most_distants_of version }
 {

@@ -1,5 +1,4 @@
 // The conflicts read from a place: they are given whole, or the fault met.
-ghost use Rattle.std.specs.Prelude.{◌≡◌};
 ghost use Rattle.fields.specs.declared.Cursor.{Cursor};
 ghost use Rattle.fields.specs.Reading.{Stands};
 ghost use Rattle.pairs.specs.Pairs.{a_pair, pairs};

@@ -1,5 +1,5 @@
 -- A fault met before stays; one that is met here ends the reading, with no number; else the number that was read.
-use mathlib.Core.Path.{refl, sym}
+use mathlib.Core.Path.{refl}
 use Rattle.fields.specs.Fields.{failed}
 use Rattle.pairs.proofs.Laws.{count_behind, count_at_fault}
 use Rattle.pairs.proofs.Stays.{count_stays}
