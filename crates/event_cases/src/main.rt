@@ -62,7 +62,8 @@ fn refuse(rt: &HostRuntime, number: u8, detail: usize) -> Result<(), Reported> {
     print_first(rt, &out, end)
 }
 
-// The layout of a file, and the line of one that is refused.
+// The layout of a file, and the line of one that is refused. What it needs is no part of a run's stack, here and below.
+#[inline(never)]
 fn layout_of(rt: &HostRuntime, file: &[u8]) -> Result<Layout, Reported> {
     let loaded = layout::load(file);
     if let Err(fault) = loaded {
@@ -79,6 +80,7 @@ fn refuse_fitted(rt: &HostRuntime, number: u8, detail: usize) -> Result<(), Repo
 }
 
 // The layout with the fitted sections of a file.
+#[inline(never)]
 fn equipped(rt: &HostRuntime, layout: Layout, file: &[u8]) -> Result<Layout, Reported> {
     match fitted::fit(&layout, file) {
         Ok(fitted) => Ok(fitted),
@@ -109,17 +111,23 @@ fn play_all(rt: &HostRuntime, archive: &[u8]) -> Result<(), Reported> {
     Ok(())
 }
 
-// Every event file of the archive that the first argument names.
-fn play_named(rt: &HostRuntime) -> Result<(), Reported> {
+// The archive that the first argument names is read into the room lent; nothing is, where none is named.
+#[inline(never)]
+fn read_archive<'a>(rt: &HostRuntime, room: &'a mut [u8]) -> Result<&'a [u8], Reported> {
     let mut word = [0u8; 4096];
     let Some(path) = console::argument(rt, 1, &mut word) else {
         console::tell(rt, b"usage: event_cases ARCHIVE\n");
-        return Ok(());
+        return Ok(&room[..0]);
     };
     let mut archive = console::open(rt, path)?;
+    let size = console::fill(rt, &mut archive, path, room)?;
+    Ok(&room[..size.min(room.len())])
+}
+
+// Every event file of the archive.
+fn play_named(rt: &HostRuntime) -> Result<(), Reported> {
     let mut room = [0u8; 65536];
-    let size = console::fill(rt, &mut archive, path, &mut room)?;
-    play_all(rt, &room[..size])
+    play_all(rt, read_archive(rt, &mut room)?)
 }
 
 // The exit status tells nothing: where something failed, standard error has said so.

@@ -13,6 +13,7 @@ mod listing;
 use console::Reported;
 use event_file::FileKind;
 use files::{Held, Source};
+use layout::Layout;
 use listing::Listing;
 
 // What the arguments ask for: the events of a file on the layout of another, with the panels or without, and the file of fitted sections, if one is named.
@@ -83,7 +84,33 @@ fn list(
     listing::walk_all(rt, events, listing, held, buf, out)
 }
 
-// The layout file is loaded, equipped with the sections of the file of fitted sections, if there is one, and the events are run on it.
+// The layout is equipped with the sections of the file of fitted sections, if there is one, and the events are run on it. Its room is no part of the stack of a
+// call whose layout is refused.
+#[inline(never)]
+fn run_on(
+    rt: &HostRuntime,
+    layout: &Layout,
+    panel: bool,
+    heads: &mut Option<Source>,
+    events: &mut Source,
+    held: Held,
+    buf: &mut [u8],
+) -> Result<(), Reported> {
+    let mut out = [0u8; 65536];
+    let mut listing = Listing {
+        layout: *layout,
+        panel,
+    };
+    if let Some(source) = heads {
+        match heads::tell_all(rt, source, layout.sections, &mut out)? {
+            Ok(told) => listing.layout = fitted::equip(layout, told),
+            Err(broken) => return print_fault(rt, source.path, broken, &mut out),
+        }
+    }
+    list(rt, events, listing, held, buf, &mut out)
+}
+
+// The file of fitted sections is opened, if one is named, the layout file is loaded, and the events are run on its layout.
 fn run(
     rt: &HostRuntime,
     request: Request,
@@ -96,24 +123,13 @@ fn run(
         Some(path) => Some(Source::open(rt, path)?),
         None => None,
     };
-    let mut out = [0u8; 65536];
-    let layout = match layout::load(file) {
-        Ok(layout) => layout,
+    match layout::load(file) {
+        Ok(layout) => run_on(rt, &layout, request.panel, &mut heads, events, held, buf),
         Err(fault) => {
-            return print_loaded(rt, request.layout, fault.number(), fault.detail(), &mut out);
-        }
-    };
-    let mut listing = Listing {
-        layout,
-        panel: request.panel,
-    };
-    if let Some(source) = &mut heads {
-        match heads::tell_all(rt, source, layout.sections, &mut out)? {
-            Ok(told) => listing.layout = fitted::equip(&layout, told),
-            Err(broken) => return print_fault(rt, source.path, broken, &mut out),
+            let mut out = [0u8; 4096];
+            print_loaded(rt, request.layout, fault.number(), fault.detail(), &mut out)
         }
     }
-    list(rt, events, listing, held, buf, &mut out)
 }
 
 // The layout file is read. Its first 65,536 bytes answer for a longer one.
@@ -161,6 +177,7 @@ fn argument_is(rt: &HostRuntime, i: usize, word: &[u8]) -> bool {
 }
 
 // The event file, the word `panel`, and the word `fitted` with its file, by the arguments after the layout.
+#[inline(never)]
 fn with_events(rt: &HostRuntime, layout: &[u8]) -> Result<(), Reported> {
     let mut events = [0u8; 4096];
     let mut fitted = [0u8; 4096];

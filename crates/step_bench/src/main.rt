@@ -96,7 +96,9 @@ fn play(plan: &Layout, asking: bool, events: &[u8], turns: u64, given: Played) -
     Played { state, sum }
 }
 
-// Reads the file that an argument names into the room lent, and answers what it has of it: nothing, where it cannot be opened.
+// Reads the file that an argument names into the room lent, and answers what it has of it: nothing, where it cannot be opened. What it needs is no part of the
+// stack of what follows, here and below.
+#[inline(never)]
 fn read_named<'a>(
     rt: &HostRuntime,
     argument: usize,
@@ -131,12 +133,17 @@ fn play_named(
     ))
 }
 
+// The layout of a file.
+#[inline(never)]
+fn layout_of(file: &[u8]) -> Layout {
+    layout::layout_given(layout::load(file))
+}
+
 // The layout in the file that an argument names. Its room is no part of the stack of a call in another way.
 #[inline(never)]
 fn layout_named(rt: &HostRuntime, argument: usize) -> Result<Layout, Reported> {
     let mut room = [0u8; 65536];
-    let loaded = layout::load(read_named(rt, argument, &mut room)?);
-    Ok(layout::layout_given(loaded))
+    Ok(layout_of(read_named(rt, argument, &mut room)?))
 }
 
 // The layout with the sections that the file that an argument names tells as fitted; its room in the same way.
@@ -208,7 +215,18 @@ fn play_arguments(rt: &HostRuntime, plan: &Layout, state: State) -> Result<(), R
     console::print(rt, b"\n")
 }
 
-// The layout first: events on one that is not sound are not timed.
+// Events on a layout that is not sound are not timed.
+#[inline(never)]
+fn play_on(rt: &HostRuntime, plan: &Layout) -> Result<(), Reported> {
+    let state = State::cold();
+    if !(plan.sound() & state.in_range()) {
+        console::tell(rt, b"the layout is not sound\n");
+        return Ok(());
+    }
+    play_arguments(rt, plan, state)
+}
+
+// The layout first, then what is played on it.
 fn start(rt: &HostRuntime) -> Result<(), Reported> {
     if console::argument_count(rt) != 7 {
         console::tell(
@@ -218,12 +236,7 @@ fn start(rt: &HostRuntime) -> Result<(), Reported> {
         return Ok(());
     }
     let plan = equipped_named(rt, layout_named(rt, 1)?, 2)?;
-    let state = State::cold();
-    if !(plan.sound() & state.in_range()) {
-        console::tell(rt, b"the layout is not sound\n");
-        return Ok(());
-    }
-    play_arguments(rt, &plan, state)
+    play_on(rt, &plan)
 }
 
 // The exit status tells nothing: where something failed, standard error has said so.
