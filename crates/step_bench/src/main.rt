@@ -148,11 +148,11 @@ fn layout_named(rt: &HostRuntime, argument: usize) -> Result<Layout, Reported> {
 
 // The layout with the sections that the file that an argument names tells as fitted; its room in the same way.
 #[inline(never)]
-fn equipped_named(rt: &HostRuntime, plan: Layout, argument: usize) -> Result<Layout, Reported> {
+fn equipped_named(rt: &HostRuntime, plan: &Layout, argument: usize) -> Result<Layout, Reported> {
     let mut room = [0u8; 65536];
-    match fitted::fit(&plan, read_named(rt, argument, &mut room)?) {
+    match fitted::fit(plan, read_named(rt, argument, &mut room)?) {
         Ok(equipped) => Ok(equipped),
-        Err(_) => Ok(plan),
+        Err(_) => Ok(*plan),
     }
 }
 
@@ -215,15 +215,16 @@ fn play_arguments(rt: &HostRuntime, plan: &Layout, state: State) -> Result<(), R
     console::print(rt, b"\n")
 }
 
-// Events on a layout that is not sound are not timed.
+// The layout is equipped with the sections that the second argument's file tells. Events on one that is not sound are not timed.
 #[inline(never)]
-fn play_on(rt: &HostRuntime, plan: &Layout) -> Result<(), Reported> {
+fn play_on(rt: &HostRuntime, bare: &Layout) -> Result<(), Reported> {
+    let plan = equipped_named(rt, bare, 2)?;
     let state = State::cold();
     if !(plan.sound() & state.in_range()) {
         console::tell(rt, b"the layout is not sound\n");
         return Ok(());
     }
-    play_arguments(rt, plan, state)
+    play_arguments(rt, &plan, state)
 }
 
 // The layout first, then what is played on it.
@@ -235,8 +236,8 @@ fn start(rt: &HostRuntime) -> Result<(), Reported> {
         );
         return Ok(());
     }
-    let plan = equipped_named(rt, layout_named(rt, 1)?, 2)?;
-    play_on(rt, &plan)
+    let bare = layout_named(rt, 1)?;
+    play_on(rt, &bare)
 }
 
 // The exit status tells nothing: where something failed, standard error has said so.
